@@ -1,13 +1,23 @@
 -- Bytes: classes of ASCII, one scalar value of UTF-8, and the bytes that a sheet may have.
 -- Document 01, "The grammar", Bytes; RFC 3629 §4.
-use Prim.Native.Nat.{ℕ, zero, suc, _+_, _-_, _*_}
+use Prim.Native.Nat.{ℕ, zero, suc, _+_, _-_, _*_, _/_, _%_}
 use mathlib.Core.Bool.{Bool, true, false, not, _&&_, _||_}
 use mathlib.Core.List.{List, [], _∷_}
-use lib.ListN.{length}
-use lib.Dec.{leb, eqb}
+use lib.ListN.{length, take, drop}
+use lib.Dec.{leb, ltb, eqb}
+use Prim.Native.Char.{Char, code}
+use Prim.Native.String.{String, [] as ε, _∷_ as _▹_}
 use Rattle.paper.specs.Found.{Found, found, fault, andThen, pick}
 
--- ---- classes of ASCII
+-- ---- characters of ASCII and their classes
+
+-- the byte of a character, and the bytes of a text
+abbrev pub byte : Char → ℕ
+byte c = code c
+
+abbrev pub bytes : String → List ℕ
+bytes ε = []
+bytes (c ▹ s) = code c ∷ bytes s
 
 abbrev pub within : ℕ → ℕ → ℕ → Bool
 within low high b = leb low b && leb b high
@@ -47,7 +57,39 @@ space = 0x20
 unfoldable pub isBlank : ℕ → Bool
 isBlank b = eqb b space || eqb b tab
 
+-- LF, and CR, which stands only before LF
+unfoldable pub isLineEnd : ℕ → Bool
+isLineEnd b = eqb b lf || eqb b cr
+
+-- white space: spaces, tabs and line ends
+unfoldable pub isWhite : ℕ → Bool
+isWhite b = isBlank b || isLineEnd b
+
 -- ---- lists of bytes
+
+-- every element, and the first one, is of the class; a byte is one of these
+unfoldable pub all : {A : Type 0} → (A → Bool) → List A → Bool
+all class [] = true
+all class (a ∷ l) = class a && all class l
+
+unfoldable pub startsIn : (ℕ → Bool) → List ℕ → Bool
+startsIn class [] = false
+startsIn class (b ∷ l) = class b
+
+unfoldable pub elem : ℕ → List ℕ → Bool
+elem b [] = false
+elem b (c ∷ l) = eqb b c || elem b l
+
+-- how many bytes in front are of the class; these, and what is left behind them
+unfoldable pub lengthIn : (ℕ → Bool) → List ℕ → ℕ
+lengthIn class [] = 0
+lengthIn class (b ∷ l) = elim (class b) [ true ↦ suc (lengthIn class l) | false ↦ 0 ]
+
+abbrev pub front : (ℕ → Bool) → List ℕ → List ℕ
+front class s = take (lengthIn class s) s
+
+abbrev pub behind : (ℕ → Bool) → List ℕ → List ℕ
+behind class s = drop (lengthIn class s) s
 
 -- the same bytes
 unfoldable pub same : List ℕ → List ℕ → Bool
@@ -98,6 +140,18 @@ scalar (b ∷ l) =
           andThen (follower 0x80 0xBF q) (λ e p. found ((((b - 0xF0) * 64 + c) * 64 + d) * 64 + e) p)))
       | none ↦ fault 3 (b ∷ l)
     ]
+
+-- a scalar value: no surrogate, and not above the last
+unfoldable pub isScalar : ℕ → Bool
+isScalar v = leb v 0xD7FF || within 0xE000 0x10FFFF v
+
+-- its encoding, RFC 3629 §3
+unfoldable pub encode : ℕ → List ℕ
+encode v =
+    pick (leb v 0x7F) (v ∷ [])
+    (pick (leb v 0x7FF) ((0xC0 + v / 64) ∷ (0x80 + v % 64) ∷ [])
+    (pick (leb v 0xFFFF) ((0xE0 + v / 4096) ∷ (0x80 + v / 64 % 64) ∷ (0x80 + v % 64) ∷ [])
+    ((0xF0 + v / 262144) ∷ (0x80 + v / 4096 % 64) ∷ (0x80 + v / 64 % 64) ∷ (0x80 + v % 64) ∷ [])))
 
 -- ---- the bytes of a whole sheet
 

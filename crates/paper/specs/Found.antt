@@ -1,8 +1,8 @@
 -- What reading from the front of a list finds: something and what is left, or the fault met first.
 -- Document 01, "Order". A fault has its refusal number, and what is left from its place on.
-use Prim.Native.Nat.{ℕ, _-_}
+use Prim.Native.Nat.{ℕ, zero, suc, _-_}
 use mathlib.Core.Bool.{Bool, true, false}
-use mathlib.Core.List.{List}
+use mathlib.Core.List.{List, [], _∷_}
 use lib.ListN.{length}
 
 pub data Found (A : Type 0) : Type 0 where
@@ -13,6 +13,29 @@ pub data Found (A : Type 0) : Type 0 where
 abbrev pub andThen : {A B : Type 0} → Found A → (A → List ℕ → Found B) → Found B
 andThen (found a left) next = next a left
 andThen (fault n left) next = fault n left
+
+-- one turn of a run: one thing more and what is left, the end of the run, or a fault
+pub data Turn (A : Type 0) : Type 0 where
+  more : A → List ℕ → Turn A
+  over : List ℕ → Turn A
+  stop : ℕ → List ℕ → Turn A
+
+abbrev pub turnOf : {A : Type 0} → Found A → Turn A
+turnOf (found a left) = more a left
+turnOf (fault n left) = stop n left
+
+-- a run of things, where each takes its size off the room. A turn takes a byte at least, so that fuel above the length is never used up
+unfoldable pub many : {A : Type 0} → (A → ℕ) → (ℕ → List ℕ → Turn A) → ℕ → ℕ → List ℕ → Found (List A)
+many size turn zero room s = fault 9 s
+many size turn (suc fuel) room s =
+    elim (turn room s) [
+      | more a left ↦ andThen (many size turn fuel (room - size a) left) (λ things end. found (a ∷ things) end)
+      | over left ↦ found [] left
+      | stop n left ↦ fault n left
+    ]
+
+abbrev pub manyOf : {A : Type 0} → (A → ℕ) → (ℕ → List ℕ → Turn A) → ℕ → List ℕ → Found (List A)
+manyOf size turn room s = many size turn (suc (length s)) room s
 
 -- where what is left begins in the whole
 abbrev pub placeIn : List ℕ → List ℕ → ℕ

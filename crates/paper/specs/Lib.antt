@@ -4,3 +4,12 @@ pub mod Found
 pub mod Bytes
 pub mod Names
 pub mod Modes
+pub mod Values
+pub mod Tree
+pub mod Grammar
+pub mod Limits
+pub mod Entries
+pub mod ReadingValues
+pub mod Reading
+pub mod Canonical
+pub mod View

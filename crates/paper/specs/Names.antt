@@ -1,32 +1,25 @@
 -- Names: the run of letters and digits that stands somewhere, and the rule for Concepts and traits.
 -- Document 01, "The grammar", Names, and "Sizes".
-use Prim.Native.Nat.{ℕ, suc, _+_}
+use Prim.Native.Nat.{ℕ, _+_}
 use mathlib.Core.Bool.{Bool, true, false, _&&_}
 use mathlib.Core.List.{List, [], _∷_}
-use lib.ListN.{length, take, drop}
+use lib.ListN.{length}
 use lib.Dec.{leb, ltb}
-use Rattle.paper.specs.Bytes.{isUpper, isLower, isNameByte, same}
+use Rattle.paper.specs.Bytes.{isUpper, isLower, isNameByte, startsIn, lengthIn, front, behind, same}
 
 -- names are at most so many bytes
 abbrev pub nameLimit : ℕ
 nameLimit = 32
 
--- how long the run of letters and digits in front is
-unfoldable pub runLength : List ℕ → ℕ
-runLength [] = 0
-runLength (b ∷ l) = elim (isNameByte b) [ true ↦ suc (runLength l) | false ↦ 0 ]
+-- the run of letters and digits in front: how long it is, the run, and what is left behind it
+abbrev pub runLength : List ℕ → ℕ
+runLength s = lengthIn isNameByte s
 
--- that run, and what is left behind it
 abbrev pub run : List ℕ → List ℕ
-run s = take (runLength s) s
+run s = front isNameByte s
 
 abbrev pub pastRun : List ℕ → List ℕ
-pastRun s = drop (runLength s) s
-
--- the first byte is of the class
-unfoldable pub startsIn : (ℕ → Bool) → List ℕ → Bool
-startsIn class [] = false
-startsIn class (b ∷ l) = class b
+pastRun s = behind isNameByte s
 
 -- all letters and digits, and no three upper case letters in a row, where so many stand directly before
 unfoldable pub fewCapitals : ℕ → List ℕ → Bool
@@ -41,15 +34,15 @@ fewCapitals before (b ∷ l) =
 unfoldable pub nameRule : (ℕ → Bool) → List ℕ → Bool
 nameRule class w = startsIn class w && fewCapitals 0 w
 
-abbrev pub shortName : List ℕ → Bool
-shortName w = leb (length w) nameLimit
+-- the rule and the limit: starts in the class, and is at most so long
+unfoldable pub isName : (ℕ → Bool) → ℕ → List ℕ → Bool
+isName class limit w = nameRule class w && leb (length w) limit
 
--- the rule and the limit
-unfoldable pub isConceptName : List ℕ → Bool
-isConceptName w = nameRule isUpper w && shortName w
+abbrev pub isConceptName : List ℕ → Bool
+isConceptName = isName isUpper nameLimit
 
-unfoldable pub isTraitName : List ℕ → Bool
-isTraitName w = nameRule isLower w && shortName w
+abbrev pub isTraitName : List ℕ → Bool
+isTraitName = isName isLower nameLimit
 
 -- the name is one of these
 unfoldable pub among : List (List ℕ) → List ℕ → Bool

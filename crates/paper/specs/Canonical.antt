@@ -1,0 +1,201 @@
+-- The meaning of a tree, with no offset and no layout, and the canonical form, which is the printed meaning.
+-- Document 01, "Canonical form"; 000 §10.5.
+use Prim.Native.Nat.{ℕ, suc, _+_, _-_, _/_, _%_}
+use mathlib.Core.Bool.{Bool, true, false, not, _&&_, _||_}
+use mathlib.Core.List.{List, [], _∷_, _++_, map}
+use lib.ListN.{length}
+use lib.Dec.{leb, ltb, eqb}
+use Rattle.paper.specs.Found.{pick}
+use Rattle.paper.specs.Bytes.{byte, bytes, isUpper, lf, cr, tab, space}
+use Rattle.paper.specs.Values.{piecesMean, collapse, Leaf, string, character, backtick, word, Value, leaf, emptyList, list, More, close, comma}
+use Rattle.paper.specs.Tree.{Trait, Marker, Annotation, Line, blank, text, Concept, selfClosed, children, content, Body, done, blankLine, element, Sheet, Ending, block, self}
+use Rattle.paper.specs.Grammar.{tabsOnto, closingOnto, endsInSlash}
+
+-- ---- meanings
+
+mutual
+  -- the bytes of a string or of a character, the form and spelling of a word, or the items of a list
+  pub data ValueSense : Type 0 where
+    quoted letter : List ℕ → ValueSense
+    spelt : ℕ → List ℕ → ValueSense
+    listed : ItemsSense → ValueSense
+
+  pub data ItemsSense : Type 0 where
+    none : ItemsSense
+    item : ValueSense → ItemsSense → ItemsSense
+
+pub record TraitSense : Type 0 where
+  pub name : List ℕ
+  pub value : ValueSense
+
+pub record MarkerSense : Type 0 where
+  pub name : List ℕ
+  pub traits : List TraitSense
+
+mutual
+  -- a Concept that is self-closed, one that holds elements, and one that holds lines of Content
+  pub data ConceptSense : Type 0 where
+    bare : MarkerSense → ConceptSense
+    around : MarkerSense → BodySense → ConceptSense
+    saying : MarkerSense → List (List ℕ) → ConceptSense
+
+  -- annotations and their Concept, and the elements behind them
+  pub data BodySense : Type 0 where
+    empty : BodySense
+    with : List (List ℕ) → ConceptSense → BodySense → BodySense
+
+pub record SheetSense : Type 0 where
+  pub annotations : List (List ℕ)
+  pub root : ConceptSense
+
+-- UUIDs are lower case; the other words' spellings stay
+unfoldable pub lower : ℕ → ℕ
+lower b = pick (isUpper b) (b + 32) b
+
+unfoldable pub leafSense : Leaf → ValueSense
+leafSense (string ps) = quoted (piecesMean ps)
+leafSense (character ps) = letter (piecesMean ps)
+leafSense (backtick ps) = quoted (collapse (piecesMean ps))
+leafSense (word form w) = spelt form (pick (eqb form 10) (map lower w) w)
+
+unfoldable mutual
+  pub valueSense : Value → ValueSense
+  valueSense (leaf v) = leafSense v
+  valueSense emptyList = listed none
+  valueSense (list v more) = listed (item (valueSense v) (moreSense more))
+
+  pub moreSense : More → ItemsSense
+  moreSense close = none
+  moreSense (comma white v more) = item (valueSense v) (moreSense more)
+
+abbrev pub markerSense : Marker → MarkerSense
+markerSense k = record { name = k .name; traits = map (λ t. record { name = t .name; value = valueSense (t .value) }) (k .traits) }
+
+-- the text of a line of Content; a blank line has none
+abbrev pub lineSense : Line → List ℕ
+lineSense (blank b) = []
+lineSense (text t end) = t
+
+abbrev pub annotationSense : Annotation → List ℕ
+annotationSense a = collapse (a .text)
+
+unfoldable mutual
+  pub conceptSense : Concept → ConceptSense
+  conceptSense (selfClosed k) = bare (markerSense k)
+  conceptSense (children k rest body back) = around (markerSense k) (bodySense body)
+  conceptSense (content k rest lines) = saying (markerSense k) (map lineSense lines)
+
+  pub bodySense : Body → BodySense
+  bodySense done = empty
+  bodySense (blankLine b body) = bodySense body
+  bodySense (element notes tabs c rest body) = with (map annotationSense notes) (conceptSense c) (bodySense body)
+
+unfoldable pub meaning : Sheet → SheetSense
+meaning t = record { annotations = map annotationSense (t .annotations); root = conceptSense (t .root) }
+
+-- ---- printing, in front of what follows
+
+abbrev pub hexLetter : ℕ → ℕ
+hexLetter n = pick (ltb n 10) (byte "0" + n) (byte "a" + n - 10)
+
+-- one or two hex digits
+unfoldable pub hexOnto : ℕ → List ℕ → List ℕ
+hexOnto b next = pick (ltb b 16) (hexLetter b ∷ next) (hexLetter (b / 16) ∷ hexLetter (b % 16) ∷ next)
+
+-- a byte between two of this quote
+unfoldable pub byteOnto : ℕ → ℕ → List ℕ → List ℕ
+byteOnto quote b next =
+    pick (eqb b quote || eqb b (byte "\\")) (byte "\\" ∷ b ∷ next)
+    (pick (eqb b lf) (byte "\\" ∷ byte "n" ∷ next)
+    (pick (eqb b cr) (byte "\\" ∷ byte "r" ∷ next)
+    (pick (eqb b tab) (byte "\\" ∷ byte "t" ∷ next)
+    (pick (ltb b 32 || eqb b 127) (byte "\\" ∷ byte "u" ∷ byte "{" ∷ hexOnto b (byte "}" ∷ next)) (b ∷ next)))))
+
+unfoldable pub bytesOnto : ℕ → List ℕ → List ℕ → List ℕ
+bytesOnto quote [] next = next
+bytesOnto quote (b ∷ l) next = byteOnto quote b (bytesOnto quote l next)
+
+-- list items: comma and one space
+unfoldable mutual
+  pub printValue : ValueSense → List ℕ → List ℕ
+  printValue (quoted l) next = byte "\"" ∷ bytesOnto (byte "\"") l (byte "\"" ∷ next)
+  printValue (letter l) next = byte "'" ∷ bytesOnto (byte "'") l (byte "'" ∷ next)
+  printValue (spelt form w) next = w ++ next
+  printValue (listed items) next = byte "[" ∷ printItems items (byte "]" ∷ next)
+
+  pub printItems : ItemsSense → List ℕ → List ℕ
+  printItems none next = next
+  printItems (item v items) next = printValue v (printBehind items next)
+
+  pub printBehind : ItemsSense → List ℕ → List ℕ
+  printBehind none next = next
+  printBehind (item v items) next = byte "," ∷ space ∷ printValue v (printBehind items next)
+
+abbrev pub printTrait : TraitSense → List ℕ → List ℕ
+printTrait t next = t .name ++ (byte "=" ∷ printValue (t .value) next)
+
+-- traits after single spaces; traits on lines of their own, at so many tabs
+unfoldable pub printBeside : List TraitSense → List ℕ → List ℕ
+printBeside [] next = next
+printBeside (t ∷ ts) next = space ∷ printTrait t (printBeside ts next)
+
+unfoldable pub printBelow : ℕ → List TraitSense → List ℕ → List ℕ
+printBelow tabs [] next = next
+printBelow tabs (t ∷ ts) next = lf ∷ tabsOnto tabs (printTrait t (printBelow tabs ts next))
+
+-- the last of the traits ends in "/"
+unfoldable pub lastInSlash : List TraitSense → Bool
+lastInSlash [] = false
+lastInSlash (t ∷ []) = endsInSlash (printValue (t .value) [])
+lastInSlash (t ∷ u ∷ ts) = lastInSlash (u ∷ ts)
+
+abbrev pub endingOnto : Ending → List ℕ → List ℕ
+endingOnto block next = byte ">" ∷ next
+endingOnto self next = byte "/" ∷ byte ">" ∷ next
+
+-- a space stands before "/>", and is kept before ">" where that would follow directly on a value that ends in "/"
+abbrev pub spaced : Ending → List TraitSense → Bool
+spaced block ts = lastInSlash ts
+spaced self ts = true
+
+-- a marker at this depth: up to two traits beside the name, three or more below it
+unfoldable pub printMarker : ℕ → MarkerSense → Ending → List ℕ → List ℕ
+printMarker depth k e next =
+    byte "<" ∷ (k .name ++ elim (leb (length (k .traits)) 2) [
+      | true ↦ printBeside (k .traits) (elim (spaced e (k .traits)) [ true ↦ space ∷ endingOnto e next | false ↦ endingOnto e next ])
+      | false ↦ printBelow (suc depth) (k .traits) (lf ∷ tabsOnto depth (endingOnto e next))
+    ])
+
+unfoldable pub printNotes : ℕ → List (List ℕ) → List ℕ → List ℕ
+printNotes depth [] next = next
+printNotes depth (t ∷ ts) next = tabsOnto depth (byte "[" ∷ (t ++ (byte "]" ∷ lf ∷ printNotes depth ts next)))
+
+-- empty text is an empty line
+unfoldable pub printLine : ℕ → List ℕ → List ℕ → List ℕ
+printLine depth [] next = lf ∷ next
+printLine depth (b ∷ l) next = tabsOnto depth ((b ∷ l) ++ (lf ∷ next))
+
+unfoldable pub printLines : ℕ → List (List ℕ) → List ℕ → List ℕ
+printLines depth [] next = next
+printLines depth (l ∷ ls) next = printLine depth l (printLines depth ls next)
+
+-- a Concept at this depth, from its "<" past its last ">"; and the elements of a body, an empty line between them
+unfoldable mutual
+  pub printConcept : ℕ → ConceptSense → List ℕ → List ℕ
+  printConcept depth (bare k) next = printMarker depth k self next
+  printConcept depth (around k inner) next = printMarker depth k block (lf ∷ printBody (suc depth) inner (tabsOnto depth (closingOnto (k .name) next)))
+  printConcept depth (saying k ls) next = printMarker depth k block (lf ∷ printLines (suc depth) ls (tabsOnto depth (closingOnto (k .name) next)))
+
+  pub printBody : ℕ → BodySense → List ℕ → List ℕ
+  printBody depth empty next = next
+  printBody depth (with notes c inner) next = printNotes depth notes (tabsOnto depth (printConcept depth c (lf ∷ printMore depth inner next)))
+
+  pub printMore : ℕ → BodySense → List ℕ → List ℕ
+  printMore depth empty next = next
+  printMore depth (with notes c inner) next = lf ∷ printNotes depth notes (tabsOnto depth (printConcept depth c (lf ∷ printMore depth inner next)))
+
+unfoldable pub print : SheetSense → List ℕ
+print d = printNotes 0 (d .annotations) (printConcept 0 (d .root) (lf ∷ []))
+
+abbrev pub canonical : Sheet → List ℕ
+canonical t = print (meaning t)

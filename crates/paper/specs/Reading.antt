@@ -1,0 +1,282 @@
+-- Reading a sheet: for every table, sheet and number of cells lent, the answer and every cell at exit.
+-- Document 01, "Refusal numbers" and "Order"; the fault met first from left to right.
+use Prim.Native.Nat.{ℕ, zero, suc, _+_, _-_, _/_, min}
+use mathlib.Core.Bool.{Bool, true, false, not, _&&_, _||_}
+use mathlib.Core.List.{List, [], _∷_, _++_, map}
+use lib.ListN.{length, take, drop, getD, replicate}
+use lib.Dec.{leb, ltb, eqb}
+use Rattle.paper.specs.declared.Mode.{Mode}
+use Rattle.paper.specs.declared.Mode.the-variants.{Children, Content, Absent}
+use Rattle.paper.specs.Answer.{Told, accepted, refused}
+use Rattle.paper.specs.Found.{Found, found, fault, andThen, Turn, more, over, stop, turnOf, manyOf, placeIn, pick}
+use Rattle.paper.specs.Bytes.{byte, bytes, isUpper, isLower, isBlank, isWhite, isLineEnd, lengthIn, front, behind, elem, same, startsIn, startsWith, sheetBytes, lf, cr, tab, space}
+use Rattle.paper.specs.Names.{nameLimit, run, pastRun, isName}
+use Rattle.paper.specs.Modes.{Modes, modeTable, modeOf}
+use Rattle.paper.specs.Values.{Value, is, upTo, onward}
+use Rattle.paper.specs.Tree.{LineEnd, LF, CRLF, Blank, Trait, Marker, Annotation, Line, blank, text, Concept, selfClosed, children, content, Body, done, blankLine, element, Sheet, Ending, block, self}
+use Rattle.paper.specs.Grammar.{tabsOnto, closingOnto}
+use Rattle.paper.specs.Limits.{sheetLimit, entryLimit, conceptLimit, listLimit}
+use Rattle.paper.specs.Entries.{Entry, entryCells, itemSize, itemEntries, traitSize, traitsSize, conceptSize, entries, filled}
+use Rattle.paper.specs.ReadingValues.{wholeValue}
+
+-- what a sheet is read by: the modes of its table, and how long names and how deep lists may be
+pub record Bounds : Type 0 where
+  pub modes : Modes
+  pub names : ℕ
+  pub lists : ℕ
+
+-- ---- lines
+
+-- a line end with these blanks in front of it; a byte that is none is at fault
+unfoldable pub lineEnd : List ℕ → List ℕ → Found Blank
+lineEnd blanks [] = fault 9 []
+lineEnd blanks (b ∷ l) =
+    elim (eqb b lf) [
+      | true ↦ found (record { blanks = blanks; end = LF }) l
+      | false ↦ elim (startsWith (cr ∷ lf ∷ []) (b ∷ l)) [ true ↦ found (record { blanks = blanks; end = CRLF }) (drop 1 l) | false ↦ fault 7 (b ∷ l) ]
+    ]
+
+-- the blank rest of a line
+abbrev pub lineRest : List ℕ → Found Blank
+lineRest s = lineEnd (front isBlank s) (behind isBlank s)
+
+-- a whole line of blanks stands in front
+abbrev pub isBlankLine : List ℕ → Bool
+isBlankLine s = startsIn isLineEnd (behind isBlank s)
+
+unfoldable pub blankTurn : ℕ → List ℕ → Turn Blank
+blankTurn room s = elim (isBlankLine s) [ true ↦ turnOf (lineRest s) | false ↦ over s ]
+
+abbrev pub blankLines : List ℕ → Found (List Blank)
+blankLines s = manyOf (λ b. 0) blankTurn 0 s
+
+abbrev pub isTab : ℕ → Bool
+isTab = is tab
+
+-- a line on which a marker or an annotation is due, where a blank line may stand too: a space could only have begun a blank line
+unfoldable pub noSpace : List ℕ → List ℕ → Found (List ℕ)
+noSpace s [] = fault 9 []
+noSpace s (b ∷ l) = elim (startsIn (is space) (behind isTab s)) [ true ↦ fault 7 (b ∷ l) | false ↦ found s s ]
+
+abbrev pub tabsOnly : List ℕ → Found (List ℕ)
+tabsOnly s = noSpace s (behind isBlank s)
+
+-- ---- names
+
+-- the run of letters and digits, judged at its end: cut, empty, against the rule
+unfoldable pub nameOf : (List ℕ → Bool) → List ℕ → List ℕ → Found (List ℕ)
+nameOf rule s [] = fault 9 []
+nameOf rule s (b ∷ l) = elim (leb 1 (length (run s))) [ false ↦ fault 7 s | true ↦ elim (rule (run s)) [ false ↦ fault 4 s | true ↦ found (run s) (b ∷ l) ] ]
+
+abbrev pub name : (List ℕ → Bool) → List ℕ → Found (List ℕ)
+name rule s = nameOf rule s (pastRun s)
+
+-- the byte is due
+unfoldable pub due : ℕ → List ℕ → Found ℕ
+due c [] = fault 9 []
+due c (b ∷ l) = elim (eqb b c) [ true ↦ found b l | false ↦ fault 7 (b ∷ l) ]
+
+-- an entry is made; `at` is the list from its place on
+unfoldable pub makes : {A : Type 0} → ℕ → List ℕ → A → List ℕ → Found A
+makes room at a left = elim room [ zero ↦ fault 11 at | suc others ↦ found a left ]
+
+-- ---- annotations
+
+-- the text up to the first unescaped "]"
+unfoldable mutual
+  pub textOf : List ℕ → Found (List ℕ)
+  textOf [] = fault 9 []
+  textOf (b ∷ l) =
+      elim (eqb b (byte "]")) [
+        | true ↦ found [] l
+        | false ↦ elim (eqb b (byte "\\")) [
+          | true ↦ escapeOf (b ∷ l) l
+          | false ↦ elim (isLineEnd b) [ true ↦ fault 7 (b ∷ l) | false ↦ andThen (textOf l) (λ t left. found (b ∷ t) left) ]
+        ]
+      ]
+
+  pub escapeOf : List ℕ → List ℕ → Found (List ℕ)
+  escapeOf back [] = fault 9 []
+  escapeOf back (b ∷ l) = elim (elem b (bytes "]\\")) [ true ↦ andThen (textOf l) (λ t left. found (byte "\\" ∷ b ∷ t) left) | false ↦ fault 7 back ]
+
+-- an annotation whose "[" stood before s
+unfoldable pub annotation : ℕ → ℕ → List ℕ → Found Annotation
+annotation room tabs s =
+    andThen (textOf s) (λ t left. andThen (makes room s t left) (λ t left. andThen (lineRest left) (λ rest end. found (record { tabs = tabs; text = t; rest = rest }) end)))
+
+unfoldable pub annotationTurn : ℕ → List ℕ → Turn Annotation
+annotationTurn room s =
+    elim (startsWith (bytes "[") (behind isTab s)) [ true ↦ turnOf (annotation room (lengthIn isTab s) (drop 1 (behind isTab s))) | false ↦ over s ]
+
+abbrev pub annotations : ℕ → List ℕ → Found (List Annotation)
+annotations room s = manyOf (λ a. 1) annotationTurn room s
+
+-- ---- markers
+
+-- the entries of a trait: its own at its name, its items' each at its value
+unfoldable pub enters : ℕ → List ℕ → List ℕ → Trait → List ℕ → Found Trait
+enters room named valued t left =
+    elim (leb (traitSize t) room) [
+      | true ↦ found t left
+      | false ↦ elim room [ zero ↦ fault 11 named | suc items ↦ fault 11 (drop (getD (map (λ e. e .start) (itemEntries 0 0 0 (t .value))) items 0) valued) ]
+    ]
+
+unfoldable pub trait : Bounds → ℕ → List ℕ → List ℕ → Found Trait
+trait by room white s =
+    andThen (name (isName isLower (by .names)) s) (λ w left. andThen (due (byte "=") left) (λ b valued. andThen (wholeValue (by .lists) valued) (λ v left.
+    enters room s valued (record { white = white; name = w; value = v }) left)))
+
+-- behind the name or a value: another trait after white space, or the end of the marker
+unfoldable pub traitDue : Bounds → ℕ → List ℕ → List ℕ → List ℕ → Turn Trait
+traitDue by room s white [] = stop 9 []
+traitDue by room s white (b ∷ l) =
+    elim (elem b (bytes ">/")) [ true ↦ over s | false ↦ elim (leb 1 (length white)) [ true ↦ turnOf (trait by room white (b ∷ l)) | false ↦ stop 7 (b ∷ l) ] ]
+
+unfoldable pub traitTurn : Bounds → ℕ → List ℕ → Turn Trait
+traitTurn by room s = traitDue by room s (front isWhite s) (behind isWhite s)
+
+-- how a marker ends
+unfoldable pub ending : List ℕ → Found Ending
+ending [] = fault 9 []
+ending (b ∷ l) = elim (eqb b (byte ">")) [ true ↦ found block l | false ↦ andThen (due (byte "/") (b ∷ l)) (λ c left. andThen (due (byte ">") left) (λ d end. found self end)) ]
+
+pub record Opened : Type 0 where
+  pub marker : Marker
+  pub ends : Ending
+
+-- traits, white space and the ending of a marker of this name
+unfoldable pub opened : Bounds → ℕ → List ℕ → List ℕ → Found Opened
+opened by room w s =
+    andThen (manyOf traitSize (traitTurn by) room s) (λ ts left. andThen (ending (behind isWhite left)) (λ e end.
+    found (record { marker = record { name = w; traits = ts; white = front isWhite left }; ends = e }) end))
+
+-- a Concept's name is judged in this order: the rule, the nesting, the table, the room
+unfoldable pub admitted : Bounds → ℕ → ℕ → List ℕ → List ℕ → List ℕ → List ℕ → Found Mode
+admitted by deeper room at s w left =
+    elim deeper [
+      | zero ↦ fault 10 at
+      | suc fewer ↦ elim (modeOf (by .modes) w) [ Children ↦ makes room s Children left | Content ↦ makes room s Content left | Absent ↦ fault 5 s ]
+    ]
+
+-- a closing marker behind its tabs: a closing name is only compared
+unfoldable pub closing : List ℕ → List ℕ → Found ℕ
+closing w s =
+    andThen (due (byte "<") s) (λ b left. andThen (due (byte "/") left) (λ c named. andThen (name (λ v. true) named) (λ v left.
+    elim (same w v) [ true ↦ due (byte ">") left | false ↦ fault 8 named ])))
+
+-- ---- Content
+
+-- the input or the line is over
+unfoldable pub atLineEnd : List ℕ → Bool
+atLineEnd [] = true
+atLineEnd (b ∷ l) = isLineEnd b
+
+-- a closing line: exactly these tabs, the closing marker and blanks
+abbrev pub closingMark : ℕ → List ℕ → List ℕ
+closingMark tabs w = tabsOnto tabs (closingOnto w [])
+
+unfoldable pub closesLine : ℕ → List ℕ → List ℕ → Bool
+closesLine tabs w s = startsWith (closingMark tabs w) s && atLineEnd (behind isBlank (drop (length (closingMark tabs w)) s))
+
+-- a line of text, the rest of which stands behind its tabs
+unfoldable pub textLine : List ℕ → Found Line
+textLine s = andThen (lineEnd [] (onward isLineEnd s)) (λ b left. found (text (upTo isLineEnd s) (b .end)) left)
+
+-- a line that is not blank and does not close; `marked` is the list from its first byte on that is neither space nor tab
+unfoldable pub otherLine : ℕ → List ℕ → List ℕ → Turn Line
+otherLine tabs s [] = stop 9 []
+otherLine tabs s (b ∷ l) = elim (startsWith (tabsOnto (suc tabs) []) s) [ true ↦ turnOf (textLine (drop (suc tabs) s)) | false ↦ stop 7 (b ∷ l) ]
+
+unfoldable pub lineTurn : ℕ → List ℕ → ℕ → List ℕ → Turn Line
+lineTurn tabs w room s =
+    elim (closesLine tabs w s) [
+      | true ↦ over s
+      | false ↦ elim (isBlankLine s) [ true ↦ turnOf (andThen (lineRest s) (λ b left. found (blank b) left)) | false ↦ otherLine tabs s (behind isBlank s) ]
+    ]
+
+-- the Content of a block whose marker has these tabs, its one entry made first, and its closing marker
+unfoldable pub contentOf : ℕ → ℕ → Marker → List ℕ → Found Concept
+contentOf tabs room k s =
+    andThen (lineRest s) (λ rest start. andThen (makes room start rest start) (λ rest start.
+    andThen (manyOf (λ l. 0) (lineTurn tabs (k .name)) 0 start) (λ lines left.
+    found (content k rest lines) (drop (length (closingMark tabs (k .name))) left))))
+
+-- ---- Concepts
+
+-- a Concept whose "<" is due, on a line of so many tabs, where so many may still be opened; and the body of one.
+-- The fuel is above the length
+unfoldable mutual
+  pub concept : Bounds → ℕ → ℕ → ℕ → ℕ → List ℕ → Found Concept
+  concept by zero deeper room tabs s = fault 9 s
+  concept by (suc fuel) deeper room tabs s =
+      andThen (due (byte "<") s) (λ b named. andThen (name (isName isUpper (by .names)) named) (λ w left.
+      andThen (admitted by deeper room s named w left) (λ mode left. andThen (opened by (room - 1) w left) (λ o left.
+      elim (o .ends) [
+        | self ↦ found (selfClosed (o .marker)) left
+        | block ↦ elim mode [
+          | Children ↦ childrenOf by fuel (deeper - 1) (room - 1 - traitsSize (o .marker .traits)) (o .marker) left
+          | Content ↦ contentOf tabs (room - 1 - traitsSize (o .marker .traits)) (o .marker) left
+          | Absent ↦ fault 5 named
+        ]
+      ]))))
+
+  pub childrenOf : Bounds → ℕ → ℕ → ℕ → Marker → List ℕ → Found Concept
+  childrenOf by zero deeper room k s = fault 9 s
+  childrenOf by (suc fuel) deeper room k s =
+      andThen (lineRest s) (λ rest start. andThen (body by fuel deeper room start) (λ inner left.
+      andThen (closing (k .name) (behind isTab left)) (λ b end. found (children k rest inner (lengthIn isTab left)) end)))
+
+  pub body : Bounds → ℕ → ℕ → ℕ → List ℕ → Found Body
+  body by zero deeper room s = fault 9 s
+  body by (suc fuel) deeper room s =
+      elim (isBlankLine s) [
+        | true ↦ andThen (lineRest s) (λ b left. andThen (body by fuel deeper room left) (λ inner end. found (blankLine b inner) end))
+        | false ↦ andThen (tabsOnly s) (λ line left.
+            elim (startsWith (bytes "</") (behind isTab line)) [
+              | true ↦ found done line
+              | false ↦ andThen (annotations room line) (λ notes line.
+                  andThen (concept by fuel deeper (room - length notes) (lengthIn isTab line) (behind isTab line)) (λ c left.
+                  andThen (lineRest left) (λ rest left. andThen (body by fuel deeper (room - length notes - conceptSize c) left) (λ inner end.
+                  found (element notes (lengthIn isTab line) c rest inner) end))))
+            ])
+      ]
+
+-- ---- a whole sheet
+
+-- behind the root only blank lines stand, the last of which the end of input may cut
+unfoldable pub lastBlanks : List ℕ → List ℕ → Found (List ℕ)
+lastBlanks blanks [] = found blanks []
+lastBlanks blanks (b ∷ l) = fault 7 (b ∷ l)
+
+unfoldable pub sheetTree : Bounds → ℕ → ℕ → List ℕ → Found Sheet
+sheetTree by deeper room s =
+    andThen (blankLines s) (λ before left. andThen (tabsOnly left) (λ line left. andThen (annotations room line) (λ notes line.
+    andThen (concept by (suc (length line)) deeper (room - length notes) (lengthIn isTab line) (behind isTab line)) (λ c left.
+    andThen (blankLines left) (λ after left. andThen (lastBlanks (front isBlank left) (behind isBlank left)) (λ last end.
+    found (record { before = before; annotations = notes; tabs = lengthIn isTab line; root = c; after = after; last = last }) end))))))
+
+-- the room of so many cells, in entries
+abbrev pub roomOf : ℕ → ℕ
+roomOf lent = min (lent / entryCells) entryLimit
+
+-- the faults of a sheet under a valid table, in the paper's order: 2, 3, then 4 to 11
+unfoldable pub sheetOf : Modes → ℕ → List ℕ → Found Sheet
+sheetOf m room s = elim (ltb sheetLimit (length s)) [ true ↦ fault 2 (drop sheetLimit s) | false ↦ andThen (sheetBytes s) (λ vs left. sheetTree (record { modes = m; names = nameLimit; lists = listLimit }) conceptLimit room s) ]
+
+-- the answer, and every lent cell at exit: a refusal leaves all of them zero
+pub record Reading : Type 0 where
+  pub answer : Told
+  pub cells : List ℕ
+
+abbrev pub refusal : ℕ → ℕ → ℕ → Reading
+refusal lent n at = record { answer = refused n at; cells = replicate lent 0 }
+
+unfoldable pub reading : List ℕ → List ℕ → ℕ → Reading
+reading table s lent =
+    elim (modeTable table) [
+      | fault n left ↦ refusal lent n (placeIn table left)
+      | found m left ↦ elim (sheetOf m (roomOf lent) s) [
+        | fault n left ↦ refusal lent n (placeIn s left)
+        | found t left ↦ record { answer = accepted (length s) (length (entries t)); cells = filled lent (entries t) }
+      ]
+    ]

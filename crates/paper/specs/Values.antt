@@ -1,0 +1,270 @@
+-- Values: their trees, their spelling, the rules that a spelling keeps, and what it means.
+-- Document 01, "The grammar", Values; 001 §8 to §16 and §19.
+use Prim.Native.Nat.{ℕ, zero, suc, _+_, _-_, _*_, _%_, max}
+use Prim.Native.Char.{Char, code}
+use Prim.Native.String.{String, [] as ε, _∷_ as _▹_}
+use mathlib.Core.Bool.{Bool, true, false, not, _&&_, _||_}
+use mathlib.Core.List.{List, [], _∷_, _++_}
+use lib.ListN.{length, drop}
+use lib.Dec.{leb, eqb}
+use Rattle.paper.specs.Found.{Found, found, fault, pick}
+use Rattle.paper.specs.Bytes.{byte, bytes, within, isUpper, isLower, isDigit, isLetter, isNameByte, isHex, isWhite, isLineEnd, all, elem, same, startsIn, front, behind, scalar, isScalar, encode, lf, cr, tab, space}
+
+-- ---- strings, characters and backticks
+
+-- a piece of one: a byte that stands for itself, a backslash and a byte, \uXXXX, or \u{..}
+pub data Piece : Type 0 where
+  direct : ℕ → Piece
+  escaped : ℕ → Piece
+  four : List ℕ → Piece
+  braces : List ℕ → Piece
+
+-- its bytes, in front of what follows
+unfoldable pub pieceOnto : Piece → List ℕ → List ℕ
+pieceOnto (direct b) next = b ∷ next
+pieceOnto (escaped b) next = byte "\\" ∷ b ∷ next
+pieceOnto (four digits) next = byte "\\" ∷ byte "u" ∷ (digits ++ next)
+pieceOnto (braces digits) next = byte "\\" ∷ byte "u" ∷ byte "{" ∷ (digits ++ (byte "}" ∷ next))
+
+unfoldable pub piecesOnto : List Piece → List ℕ → List ℕ
+piecesOnto [] next = next
+piecesOnto (p ∷ ps) next = pieceOnto p (piecesOnto ps next)
+
+-- the number that hex digits spell
+unfoldable pub hexDigit : ℕ → ℕ
+hexDigit b = pick (isDigit b) (b - byte "0") (pick (isUpper b) (b - byte "A" + 10) (b - byte "a" + 10))
+
+unfoldable pub hexValue : ℕ → List ℕ → ℕ
+hexValue so [] = so
+hexValue so (b ∷ l) = hexValue (so * 16 + hexDigit b) l
+
+-- hex digits that spell a scalar value
+unfoldable pub spellsScalar : List ℕ → Bool
+spellsScalar digits = all isHex digits && isScalar (hexValue 0 digits)
+
+-- what a piece between two of this quote may be
+unfoldable pub pieceRule : ℕ → Piece → Bool
+pieceRule quote (direct b) = not (eqb b quote || eqb b (byte "\\") || isLineEnd b)
+pieceRule quote (escaped b) = eqb b quote || elem b (bytes "\\nrt")
+pieceRule quote (four digits) = eqb (length digits) 4 && spellsScalar digits
+pieceRule quote (braces digits) = within 1 6 (length digits) && spellsScalar digits
+
+-- the bytes that a piece stands for
+unfoldable pub letterMeans : ℕ → ℕ
+letterMeans b = pick (eqb b (byte "n")) lf (pick (eqb b (byte "r")) cr (pick (eqb b (byte "t")) tab b))
+
+unfoldable pub pieceMeans : Piece → List ℕ
+pieceMeans (direct b) = b ∷ []
+pieceMeans (escaped b) = letterMeans b ∷ []
+pieceMeans (four digits) = encode (hexValue 0 digits)
+pieceMeans (braces digits) = encode (hexValue 0 digits)
+
+unfoldable pub piecesMean : List Piece → List ℕ
+piecesMean [] = []
+piecesMean (p ∷ ps) = pieceMeans p ++ piecesMean ps
+
+-- one scalar value, spelt directly or as one escape
+unfoldable pub oneScalar : List Piece → Bool
+oneScalar [] = false
+oneScalar (direct b ∷ ps) = elim (scalar (piecesOnto (direct b ∷ ps) [])) [ found v left ↦ eqb (length left) 0 | fault n left ↦ false ]
+oneScalar (escaped b ∷ ps) = eqb (length ps) 0
+oneScalar (four digits ∷ ps) = eqb (length ps) 0
+oneScalar (braces digits ∷ ps) = eqb (length ps) 0
+
+-- between backticks \` is the only escape, and any other backslash is itself; `after` is whether one stands directly before
+unfoldable pub backtickRule : Bool → List Piece → Bool
+backtickRule after [] = not after
+backtickRule after (direct b ∷ ps) = not (eqb b (byte "`")) && backtickRule (eqb b (byte "\\")) ps
+backtickRule after (escaped b ∷ ps) = eqb b (byte "`") && backtickRule false ps
+backtickRule after (four digits ∷ ps) = false
+backtickRule after (braces digits ∷ ps) = false
+
+-- white space runs become one space, and the ends are trimmed
+unfoldable mutual
+  pub collapse : List ℕ → List ℕ
+  collapse [] = []
+  collapse (b ∷ l) = elim (isWhite b) [ true ↦ collapse l | false ↦ b ∷ collapseOn l ]
+
+  pub collapseOn : List ℕ → List ℕ
+  collapseOn [] = []
+  collapseOn (b ∷ l) = elim (isWhite b) [ true ↦ collapseGap l | false ↦ b ∷ collapseOn l ]
+
+  pub collapseGap : List ℕ → List ℕ
+  collapseGap [] = []
+  collapseGap (b ∷ l) = elim (isWhite b) [ true ↦ collapseGap l | false ↦ space ∷ b ∷ collapseOn l ]
+
+-- ---- words
+
+-- what stands in front of the first byte of a class, from it on, and behind it
+abbrev pub upTo : (ℕ → Bool) → List ℕ → List ℕ
+upTo class w = front (λ b. not (class b)) w
+
+abbrev pub onward : (ℕ → Bool) → List ℕ → List ℕ
+onward class w = behind (λ b. not (class b)) w
+
+abbrev pub past : (ℕ → Bool) → List ℕ → List ℕ
+past class w = drop 1 (onward class w)
+
+abbrev pub is : ℕ → ℕ → Bool
+is a b = eqb b a
+
+-- a sign and a run of letters and digits, as "$Pascal" and "~camel"
+unfoldable pub isToken : ℕ → (ℕ → Bool) → List ℕ → Bool
+isToken sign first [] = false
+isToken sign first (b ∷ w) = eqb b sign && startsIn first w && all isNameByte w
+
+-- hex digits in groups of these lengths, with "-" between
+unfoldable pub hexGroups : List ℕ → List ℕ → Bool
+hexGroups [] w = false
+hexGroups (n ∷ []) w = eqb (length w) n && all isHex w
+hexGroups (n ∷ k ∷ ns) w = eqb (length (upTo (is (byte "-")) w)) n && all isHex (upTo (is (byte "-")) w) && hexGroups (k ∷ ns) (past (is (byte "-")) w)
+
+abbrev pub isUuid : List ℕ → Bool
+isUuid = hexGroups (8 ∷ 4 ∷ 4 ∷ 4 ∷ 12 ∷ [])
+
+-- digits, and digits with no leading zero
+unfoldable pub areDigits : List ℕ → Bool
+areDigits w = startsIn isDigit w && all isDigit w
+
+unfoldable pub isCount : List ℕ → Bool
+isCount w = areDigits w && (eqb (length w) 1 || not (startsIn (is (byte "0")) w))
+
+unfoldable pub unsigned : List ℕ → List ℕ
+unsigned [] = []
+unsigned (b ∷ w) = elim (elem b (bytes "+-")) [ true ↦ w | false ↦ b ∷ w ]
+
+abbrev pub isInteger : List ℕ → Bool
+isInteger w = isCount (unsigned w)
+
+unfoldable pub isDecimal : List ℕ → Bool
+isDecimal w = isInteger (upTo (is (byte ".")) w) && areDigits (past (is (byte ".")) w)
+
+abbrev pub isExponent : ℕ → Bool
+isExponent b = elem b (bytes "eE")
+
+unfoldable pub isScientific : List ℕ → Bool
+isScientific w = (isInteger (upTo isExponent w) || isDecimal (upTo isExponent w)) && isInteger (past isExponent w)
+
+unfoldable pub isFraction : List ℕ → Bool
+isFraction w = isInteger (upTo (is (byte "/")) w) && isCount (past (is (byte "/")) w)
+
+-- 001 §14, with the ranges of RFC 3987's ucschar
+unfoldable pub isIriScalar : ℕ → Bool
+isIriScalar v =
+    isNameByte v || elem v (bytes "-._~:/?#[]@!$&'()*+,;=%") || within 0xA0 0xD7FF v || within 0xF900 0xFDCF v || within 0xFDF0 0xFFEF v
+    || (within 0x10000 0xDFFFF v && leb (v % 0x10000) 0xFFFD) || within 0xE1000 0xEFFFD v
+
+-- the fuel is at least the list's length
+unfoldable pub isIriBody : ℕ → List ℕ → Bool
+isIriBody zero s = true
+isIriBody (suc fuel) [] = true
+isIriBody (suc fuel) (b ∷ l) = elim (scalar (b ∷ l)) [ found v left ↦ elim (isIriScalar v) [ true ↦ isIriBody fuel left | false ↦ false ] | fault n left ↦ false ]
+
+unfoldable pub isScheme : List ℕ → Bool
+isScheme w = startsIn isLetter w && all (λ b. isNameByte b || elem b (bytes "+-.")) w
+
+unfoldable pub isIri : List ℕ → Bool
+isIri w = isScheme (upTo (is (byte ":")) w) && startsIn (is (byte ":")) (onward (is (byte ":")) w) && isIriBody (length w) (past (is (byte ":")) w)
+
+-- the form of a word, 0 where no kind fits
+unfoldable pub wordForm : List ℕ → ℕ
+wordForm w =
+    pick (same w (bytes "true") || same w (bytes "false")) 3
+    (pick (isInteger w) 4
+    (pick (isDecimal w) 5
+    (pick (isScientific w) 6
+    (pick (isFraction w) 7
+    (pick (isToken (byte "$") isUpper w) 8
+    (pick (isToken (byte "~") isLower w) 9
+    (pick (isUuid w) 10
+    (pick (isIri w) 11 0))))))))
+
+-- a byte at which a word ends; `also` are those of the bracket around it
+unfoldable pub isEnder : List ℕ → ℕ → Bool
+isEnder also b = isWhite b || eqb b (byte ">") || elem b also
+
+-- a word ends before what is left: also before "/" directly followed by ">"
+unfoldable pub endsWord : List ℕ → List ℕ → Bool
+endsWord also [] = true
+endsWord also (b ∷ l) = isEnder also b || (eqb b (byte "/") && startsIn (is (byte ">")) l)
+
+-- the bytes that end a word in a list
+abbrev pub listEnders : List ℕ
+listEnders = bytes ",]"
+
+-- ---- all values
+
+pub data Leaf : Type 0 where
+  string character backtick : List Piece → Leaf
+  word : ℕ → List ℕ → Leaf
+
+mutual
+  pub data Value : Type 0 where
+    leaf : Leaf → Value
+    emptyList : Value
+    list : Value → More → Value
+
+  -- behind an item: the closing bracket, or a comma, white space and the next
+  pub data More : Type 0 where
+    close : More
+    comma : List ℕ → Value → More → More
+
+-- the spelling, in front of what follows
+unfoldable pub leafOnto : Leaf → List ℕ → List ℕ
+leafOnto (string ps) next = byte "\"" ∷ piecesOnto ps (byte "\"" ∷ next)
+leafOnto (character ps) next = byte "'" ∷ piecesOnto ps (byte "'" ∷ next)
+leafOnto (backtick ps) next = byte "`" ∷ piecesOnto ps (byte "`" ∷ next)
+leafOnto (word form w) next = w ++ next
+
+unfoldable mutual
+  pub valueOnto : Value → List ℕ → List ℕ
+  valueOnto (leaf v) next = leafOnto v next
+  valueOnto emptyList next = byte "[" ∷ byte "]" ∷ next
+  valueOnto (list v more) next = byte "[" ∷ valueOnto v (moreOnto more next)
+
+  pub moreOnto : More → List ℕ → List ℕ
+  moreOnto close next = byte "]" ∷ next
+  moreOnto (comma white v more) next = byte "," ∷ (white ++ valueOnto v (moreOnto more next))
+
+abbrev pub spelling : Value → List ℕ
+spelling v = valueOnto v []
+
+-- the rules; `also` are the bytes that end a word here
+unfoldable pub leafRule : List ℕ → Leaf → Bool
+leafRule also (string ps) = all (pieceRule (byte "\"")) ps
+leafRule also (character ps) = all (pieceRule (byte "'")) ps && oneScalar ps
+leafRule also (backtick ps) = backtickRule false ps
+leafRule also (word form w) = eqb (wordForm w) form && leb 1 form && all (λ b. not (isEnder also b)) w
+
+unfoldable mutual
+  pub valueRule : List ℕ → Value → Bool
+  valueRule also (leaf v) = leafRule also v
+  valueRule also emptyList = true
+  valueRule also (list v more) = valueRule listEnders v && moreRule more
+
+  pub moreRule : More → Bool
+  moreRule close = true
+  moreRule (comma white v more) = all isWhite white && valueRule listEnders v && moreRule more
+
+-- the forms of "Entries"
+abbrev pub leafForm : Leaf → ℕ
+leafForm (string ps) = 1
+leafForm (character ps) = 2
+leafForm (backtick ps) = 1
+leafForm (word form w) = form
+
+abbrev pub valueForm : Value → ℕ
+valueForm (leaf v) = leafForm v
+valueForm emptyList = 12
+valueForm (list v more) = 12
+
+-- how many lists stand in one another
+unfoldable mutual
+  pub listDepth : Value → ℕ
+  listDepth (leaf v) = 0
+  listDepth emptyList = 1
+  listDepth (list v more) = suc (max (listDepth v) (moreDepth more))
+
+  pub moreDepth : More → ℕ
+  moreDepth close = 0
+  moreDepth (comma white v more) = max (listDepth v) (moreDepth more)
