@@ -2,9 +2,9 @@
 -- Document 01, "The grammar", Bytes; RFC 3629 §4.
 use Prim.Native.Nat.{ℕ, zero, suc, _+_, _-_, _*_, _/_, _%_}
 use mathlib.Core.Bool.{Bool, true, false, not, _&&_, _||_}
-use mathlib.Core.List.{List, [], _∷_}
+use mathlib.Core.List.{List, [], _∷_, _++_}
 use lib.ListN.{length, take, drop}
-use lib.Dec.{leb, ltb, eqb}
+use lib.Dec.{leb, eqb}
 use Prim.Native.Char.{Char, code}
 use Prim.Native.String.{String, [] as ε, _∷_ as _▹_}
 use Rattle.paper.specs.Found.{Found, found, fault, andThen, pick}
@@ -141,17 +141,23 @@ scalar (b ∷ l) =
       | none ↦ fault 3 (b ∷ l)
     ]
 
--- a scalar value: no surrogate, and not above the last
+-- ---- scalar values and their bytes (RFC 3629 §3)
+
+-- the values up to 0x10FFFF, without the surrogates
 unfoldable pub isScalar : ℕ → Bool
 isScalar v = leb v 0xD7FF || within 0xE000 0x10FFFF v
 
--- its encoding, RFC 3629 §3
+-- the bytes of a scalar value: six bits in each byte that follows, the highest ones in the first
 unfoldable pub encode : ℕ → List ℕ
 encode v =
     pick (leb v 0x7F) (v ∷ [])
     (pick (leb v 0x7FF) ((0xC0 + v / 64) ∷ (0x80 + v % 64) ∷ [])
-    (pick (leb v 0xFFFF) ((0xE0 + v / 4096) ∷ (0x80 + v / 64 % 64) ∷ (0x80 + v % 64) ∷ [])
-    ((0xF0 + v / 262144) ∷ (0x80 + v / 4096 % 64) ∷ (0x80 + v / 64 % 64) ∷ (0x80 + v % 64) ∷ [])))
+    (pick (leb v 0xFFFF) ((0xE0 + v / 64 / 64) ∷ (0x80 + v / 64 % 64) ∷ (0x80 + v % 64) ∷ [])
+    ((0xF0 + v / 64 / 64 / 64) ∷ (0x80 + v / 64 / 64 % 64) ∷ (0x80 + v / 64 % 64) ∷ (0x80 + v % 64) ∷ [])))
+
+unfoldable pub encodeAll : List ℕ → List ℕ
+encodeAll [] = []
+encodeAll (v ∷ vs) = encode v ++ encodeAll vs
 
 -- ---- the bytes of a whole sheet
 

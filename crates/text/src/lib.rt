@@ -1,0 +1,3 @@
+// Bytes and scalar values: what every reader of a sheet stands on.
+// Document 01, "The grammar", Bytes.
+pub mod parts;
