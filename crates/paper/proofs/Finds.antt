@@ -1,8 +1,35 @@
--- What holds of all that a reading finds. Assumes nothing.
-use Prim.Native.Nat.{ℕ}
-use mathlib.Core.Path.{_≡_}
-use mathlib.Core.List.{List}
-use Rattle.paper.specs.Found.{Found, found, fault, andThen}
+-- What holds of all that a reading finds, and of the faults that it meets. Assumes nothing.
+use Prim.Native.Nat.{ℕ, suc, _≤_, _<_}
+use mathlib.Core.Path.{_≡_, refl, ap}
+use mathlib.Core.List.{List, [], _∷_, _++_}
+use native.Mathlib.Omega.{arith}
+use lib.ListN.{length, drop}
+use Rattle.paper.specs.Found.{Found, found, fault, andThen, Turn, more, over, stop, turnOf}
+
+-- ---- what is left is a tail of the list
+
+pub data Tail : List ℕ → List ℕ → Type 0 where
+  whole : {s : List ℕ} → Tail s s
+  past : {b : ℕ} {s left : List ℕ} → Tail s left → Tail (b ∷ s) left
+
+pub tail-length : {s left : List ℕ} → Tail s left → length left ≤ length s
+tail-length whole = omega arith
+tail-length (past t) = omega (arith, tail-length t)
+
+pub tail-then : {s mid left : List ℕ} → Tail s mid → Tail mid left → Tail s left
+tail-then whole u = u
+tail-then (past t) u = past (tail-then t u)
+
+pub tail-append : (w left : List ℕ) → Tail (w ++ left) left
+tail-append [] left = whole
+tail-append (b ∷ w) left = past (tail-append w left)
+
+pub tail-drop : (n : ℕ) (s : List ℕ) → Tail s (drop n s)
+tail-drop ℕ.zero s = whole
+tail-drop (ℕ.suc n) [] = whole
+tail-drop (ℕ.suc n) (b ∷ s) = past (tail-drop n s)
+
+-- ---- what a reading finds, or its fault
 
 -- whatever is found has the property; of a fault nothing is said
 abbrev pub Finds : {A : Type 0} → (A → List ℕ → Type 0) → Found A → Type 0
@@ -12,3 +39,36 @@ Finds P (fault n left) = Unit {0}
 pub finds-then : {A B : Type 0} (P : A → List ℕ → Type 0) (Q : B → List ℕ → Type 0) (next : A → List ℕ → Found B) (x : Found A) → Finds P x → ((a : A) (left : List ℕ) → P a left → Finds Q (next a left)) → Finds Q (andThen x next)
 finds-then P Q next (found a left) h f = f a left h
 finds-then P Q next (fault n left) h f = tt
+
+-- a fault of a list: one of the numbers from 4 to 11, at a place of the list
+pub record Fault (s : List ℕ) (n : ℕ) (left : List ℕ) : Type 0 where
+  pub least : 4 ≤ n
+  pub most : n ≤ 11
+  pub tail : Tail s left
+
+pub fault-in : {s mid left : List ℕ} {n : ℕ} → Tail s mid → Fault mid n left → Fault s n left
+fault-in t f = record { least = f .least; most = f .most; tail = tail-then t (f .tail) }
+
+-- whatever is found has the property, and leaves a tail of the list; a fault is one of the list
+abbrev pub Reads : {A : Type 0} → List ℕ → (A → List ℕ → Type 0) → Found A → Type 0
+Reads s P (found a left) = Tail s left × P a left
+Reads s P (fault n left) = Fault s n left
+
+pub reads-in : {s mid : List ℕ} → Tail s mid → {B : Type 0} (Q : B → List ℕ → Type 0) (x : Found B) → Reads mid Q x → Reads s Q x
+reads-in t Q (found b left) g = (tail-then t (g .0), g .1)
+reads-in t Q (fault n left) g = fault-in t g
+
+pub reads-then : {A B : Type 0} (s : List ℕ) (P : A → List ℕ → Type 0) (Q : B → List ℕ → Type 0) (next : A → List ℕ → Found B) (x : Found A) → Reads s P x → ((a : A) (left : List ℕ) → P a left → Reads left Q (next a left)) → Reads s Q (andThen x next)
+reads-then s P Q next (found a left) h f = reads-in (h .0) Q (next a left) (f a left (h .1))
+reads-then s P Q next (fault n left) h f = h
+
+-- ---- the same of a turn
+
+abbrev pub Turns : {A : Type 0} → List ℕ → (A → List ℕ → Type 0) → (List ℕ → Type 0) → Turn A → Type 0
+Turns s P E (more a left) = Tail s left × P a left
+Turns s P E (over left) = Tail s left × E left
+Turns s P E (stop n left) = Fault s n left
+
+pub turns-of : {A : Type 0} (s : List ℕ) (P : A → List ℕ → Type 0) (E : List ℕ → Type 0) (x : Found A) → Reads s P x → Turns s P E (turnOf x)
+turns-of s P E (found a left) h = h
+turns-of s P E (fault n left) h = h

@@ -1,5 +1,7 @@
 -- Laws of the paper's definitions; no line of them speaks of code.
 pub mod Tests
 pub mod Finds
+pub mod Lists
+pub mod Runs
 pub mod Scalars
 pub mod Starred

@@ -81,5 +81,5 @@ cases =
     ∷ []
 
 pub starred : map seen cases ≡ map due cases
-unfolding table cases formOf seen many Bytes.isUpper Bytes.isLower Bytes.isDigit Bytes.isLetter Bytes.isNameByte Bytes.isHex Bytes.isBlank Bytes.isLineEnd Bytes.isWhite Bytes.all Bytes.startsIn Bytes.elem Bytes.lengthIn Bytes.same Bytes.startsWith Bytes.rowOf Bytes.follower Bytes.scalar Bytes.isScalar Bytes.encode Bytes.mayStand Bytes.scalars Bytes.sheetBytes Names.fewCapitals Names.nameRule Names.isName Names.among Modes.tableNames Modes.section Modes.wholly Modes.modeTable Modes.readTable Modes.modeOf Values.pieceOnto Values.piecesOnto Values.hexDigit Values.hexValue Values.spellsScalar Values.pieceRule Values.letterMeans Values.pieceMeans Values.piecesMean Values.oneScalar Values.backtickRule Values.collapse Values.isToken Values.hexGroups Values.areDigits Values.isCount Values.unsigned Values.isDecimal Values.isScientific Values.isFraction Values.isIriScalar Values.isIriBody Values.isScheme Values.isIri Values.wordForm Values.isEnder Values.endsWord Values.leafOnto Values.valueOnto Values.leafRule Values.valueRule Values.listDepth Grammar.blanksOnto Grammar.annotationsOnto Grammar.traitsOnto Grammar.linesOnto Grammar.conceptOnto Grammar.sheetOnto Grammar.annotationText Grammar.annotationRule Grammar.traitRule Grammar.markerRule Grammar.endsInSlash Grammar.slashLast Grammar.opensBlock Grammar.inMode Grammar.conceptRule Grammar.sheetRule Entries.allCells Entries.itemsOf Entries.itemSize Entries.itemEntries Entries.traitsSize Entries.traitEntries Entries.annotationEntries Entries.conceptSize Entries.bodyCount Entries.insideEntries Entries.sheetSize Entries.entries Entries.filled ReadingValues.judged ReadingValues.fourDigits ReadingValues.bracedDigits ReadingValues.escape ReadingValues.insideOf ReadingValues.pieceTurn ReadingValues.closeCharacter ReadingValues.characterOf ReadingValues.backtickTurn ReadingValues.wordLength ReadingValues.wordOf ReadingValues.firstOf ReadingValues.leafOf ReadingValues.value ReadingValues.wholeValue Reading.lineEnd Reading.blankTurn Reading.noSpace Reading.nameOf Reading.due Reading.makes Reading.textOf Reading.annotation Reading.annotationTurn Reading.enters Reading.trait Reading.traitDue Reading.traitTurn Reading.ending Reading.opened Reading.admitted Reading.closing Reading.atLineEnd Reading.closesLine Reading.textLine Reading.otherLine Reading.lineTurn Reading.contentOf Reading.concept Reading.lastBlanks Reading.sheetTree Reading.sheetOf Reading.reading Canonical.lower Canonical.leafSense Canonical.valueSense Canonical.conceptSense Canonical.meaning Canonical.hexOnto Canonical.byteOnto Canonical.bytesOnto Canonical.printValue Canonical.printBeside Canonical.printBelow Canonical.lastInSlash Canonical.printMarker Canonical.printNotes Canonical.printLine Canonical.printLines Canonical.printConcept Canonical.print
+unfolding table cases formOf seen many Bytes.isUpper Bytes.isLower Bytes.isDigit Bytes.isLetter Bytes.isNameByte Bytes.isHex Bytes.isBlank Bytes.isLineEnd Bytes.isWhite Bytes.all Bytes.startsIn Bytes.elem Bytes.lengthIn Bytes.same Bytes.startsWith Bytes.rowOf Bytes.follower Bytes.scalar Bytes.isScalar Bytes.encode Bytes.encodeAll Bytes.mayStand Bytes.scalars Bytes.sheetBytes Names.fewCapitals Names.nameRule Names.isName Names.among Modes.tableNames Modes.section Modes.wholly Modes.modeTable Modes.readTable Modes.modeOf Values.pieceOnto Values.piecesOnto Values.hexDigit Values.hexValue Values.spellsScalar Values.pieceRule Values.letterMeans Values.pieceMeans Values.piecesMean Values.oneScalar Values.backtickRule Values.collapse Values.isToken Values.hexGroups Values.areDigits Values.isCount Values.unsigned Values.isDecimal Values.isScientific Values.isFraction Values.isIriScalar Values.isIriBody Values.isScheme Values.isIri Values.wordForm Values.isEnder Values.endsWord Values.leafOnto Values.valueOnto Values.leafRule Values.valueRule Values.endsInSlash Values.listDepth Grammar.blanksOnto Grammar.annotationsOnto Grammar.traitsOnto Grammar.linesOnto Grammar.conceptOnto Grammar.sheetOnto Grammar.annotationText Grammar.annotationRule Grammar.traitRule Grammar.markerRule Grammar.slashLast Grammar.opensBlock Grammar.inMode Grammar.conceptRule Grammar.sheetRule Entries.allCells Entries.itemsOf Entries.itemSize Entries.itemEntries Entries.traitsSize Entries.traitEntries Entries.annotationEntries Entries.conceptSize Entries.bodyCount Entries.insideEntries Entries.sheetSize Entries.entries Entries.filled ReadingValues.judged ReadingValues.fourDigits ReadingValues.bracedDigits ReadingValues.escape ReadingValues.insideOf ReadingValues.pieceTurn ReadingValues.closeCharacter ReadingValues.characterOf ReadingValues.backtickTurn ReadingValues.wordLength ReadingValues.wordOf ReadingValues.firstOf ReadingValues.leafOf ReadingValues.value ReadingValues.wholeValue Reading.lineEnd Reading.blankTurn Reading.noSpace Reading.nameOf Reading.due Reading.makes Reading.textOf Reading.annotation Reading.annotationTurn Reading.enters Reading.trait Reading.traitDue Reading.traitTurn Reading.ending Reading.opened Reading.admitted Reading.closing Reading.atLineEnd Reading.closesLine Reading.textLine Reading.otherLine Reading.lineTurn Reading.contentOf Reading.concept Reading.lastBlanks Reading.sheetTree Reading.sheetOf Reading.reading Canonical.lower Canonical.leafSense Canonical.valueSense Canonical.conceptSense Canonical.meaning Canonical.hexOnto Canonical.byteOnto Canonical.bytesOnto Canonical.printValue Canonical.printBeside Canonical.printBelow Canonical.lastInSlash Canonical.printMarker Canonical.printNotes Canonical.printLine Canonical.printLines Canonical.printConcept Canonical.print
 starred = refl

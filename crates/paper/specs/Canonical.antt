@@ -7,9 +7,9 @@ use lib.ListN.{length}
 use lib.Dec.{leb, ltb, eqb}
 use Rattle.paper.specs.Found.{pick}
 use Rattle.paper.specs.Bytes.{byte, bytes, isUpper, lf, cr, tab, space}
-use Rattle.paper.specs.Values.{piecesMean, collapse, Leaf, string, character, backtick, word, Value, leaf, emptyList, list, More, close, comma}
+use Rattle.paper.specs.Values.{piecesMean, collapse, endsInSlash, Leaf, string, character, backtick, word, Value, leaf, emptyList, list, More, close, comma}
 use Rattle.paper.specs.Tree.{Trait, Marker, Annotation, Line, blank, text, Concept, selfClosed, children, content, Body, done, blankLine, element, Sheet, Ending, block, self}
-use Rattle.paper.specs.Grammar.{tabsOnto, closingOnto, endsInSlash}
+use Rattle.paper.specs.Grammar.{tabsOnto, closingOnto}
 
 -- ---- meanings
 
@@ -144,9 +144,15 @@ printBelow tabs [] next = next
 printBelow tabs (t ∷ ts) next = lf ∷ tabsOnto tabs (printTrait t (printBelow tabs ts next))
 
 -- the last of the traits ends in "/"
+abbrev pub senseInSlash : ValueSense → Bool
+senseInSlash (quoted l) = false
+senseInSlash (letter l) = false
+senseInSlash (spelt form w) = endsInSlash w
+senseInSlash (listed items) = false
+
 unfoldable pub lastInSlash : List TraitSense → Bool
 lastInSlash [] = false
-lastInSlash (t ∷ []) = endsInSlash (printValue (t .value) [])
+lastInSlash (t ∷ []) = senseInSlash (t .value)
 lastInSlash (t ∷ u ∷ ts) = lastInSlash (u ∷ ts)
 
 abbrev pub endingOnto : Ending → List ℕ → List ℕ

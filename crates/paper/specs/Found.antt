@@ -24,15 +24,16 @@ abbrev pub turnOf : {A : Type 0} → Found A → Turn A
 turnOf (found a left) = more a left
 turnOf (fault n left) = stop n left
 
+-- what a turn finds in front of what the rest of the run does
+abbrev pub goOn : {A : Type 0} → (A → List ℕ → Found (List A)) → Turn A → Found (List A)
+goOn rest (more a left) = andThen (rest a left) (λ things end. found (a ∷ things) end)
+goOn rest (over left) = found [] left
+goOn rest (stop n left) = fault n left
+
 -- a run of things, where each takes its size off the room. A turn takes a byte at least, so that fuel above the length is never used up
 unfoldable pub many : {A : Type 0} → (A → ℕ) → (ℕ → List ℕ → Turn A) → ℕ → ℕ → List ℕ → Found (List A)
 many size turn zero room s = fault 9 s
-many size turn (suc fuel) room s =
-    elim (turn room s) [
-      | more a left ↦ andThen (many size turn fuel (room - size a) left) (λ things end. found (a ∷ things) end)
-      | over left ↦ found [] left
-      | stop n left ↦ fault n left
-    ]
+many size turn (suc fuel) room s = goOn (λ a left. many size turn fuel (room - size a) left) (turn room s)
 
 abbrev pub manyOf : {A : Type 0} → (A → ℕ) → (ℕ → List ℕ → Turn A) → ℕ → List ℕ → Found (List A)
 manyOf size turn room s = many size turn (suc (length s)) room s

@@ -12,7 +12,7 @@ use Rattle.paper.specs.Found.{found}
 use Rattle.paper.specs.Bytes.{byte, bytes, isUpper, isLower, isBlank, isWhite, isLineEnd, all, elem, sheetBytes, lf, cr, tab}
 use Rattle.paper.specs.Names.{nameRule}
 use Rattle.paper.specs.Modes.{Modes, modeOf}
-use Rattle.paper.specs.Values.{Value, valueOnto, valueRule, spelling}
+use Rattle.paper.specs.Values.{Value, valueOnto, valueRule, valueInSlash}
 use Rattle.paper.specs.Tree.{LineEnd, LF, CRLF, Blank, Trait, Marker, Annotation, Line, blank, text, Concept, selfClosed, children, content, Body, done, blankLine, element, Sheet}
 
 -- ---- the bytes of a tree, in front of what follows
@@ -100,16 +100,10 @@ traitRule t = leb 1 (length (t .white)) && all isWhite (t .white) && nameRule is
 unfoldable pub markerRule : Marker → Bool
 markerRule k = nameRule isUpper (k .name) && all traitRule (k .traits) && all isWhite (k .white)
 
--- the last byte of a list is "/"
-unfoldable pub endsInSlash : List ℕ → Bool
-endsInSlash [] = false
-endsInSlash (b ∷ []) = eqb b (byte "/")
-endsInSlash (b ∷ c ∷ l) = endsInSlash (c ∷ l)
-
 -- a value that ends in "/" stands directly before what follows the traits
 unfoldable pub slashLast : List Trait → Bool
 slashLast [] = false
-slashLast (t ∷ []) = endsInSlash (spelling (t .value))
+slashLast (t ∷ []) = valueInSlash (t .value)
 slashLast (t ∷ u ∷ ts) = slashLast (u ∷ ts)
 
 -- ">" does not follow directly on a value that ends in "/": "/" directly followed by ">" is no part of a word

@@ -258,6 +258,24 @@ valueForm (leaf v) = leafForm v
 valueForm emptyList = 12
 valueForm (list v more) = 12
 
+-- the last byte of a list is "/"
+unfoldable pub endsInSlash : List ℕ → Bool
+endsInSlash [] = false
+endsInSlash (b ∷ []) = eqb b (byte "/")
+endsInSlash (b ∷ c ∷ l) = endsInSlash (c ∷ l)
+
+-- a value that ends in "/": only a word can, since the others end in a quote or a bracket
+abbrev pub leafInSlash : Leaf → Bool
+leafInSlash (string ps) = false
+leafInSlash (character ps) = false
+leafInSlash (backtick ps) = false
+leafInSlash (word form w) = endsInSlash w
+
+abbrev pub valueInSlash : Value → Bool
+valueInSlash (leaf v) = leafInSlash v
+valueInSlash emptyList = false
+valueInSlash (list v more) = false
+
 -- how many lists stand in one another
 unfoldable mutual
   pub listDepth : Value → ℕ

@@ -1,0 +1,100 @@
+-- Lists of bytes: classes of all their bytes, the bytes of a class in front, fixed bytes in front, equal lists. Assumes nothing.
+use Prim.Native.Nat.{ℕ, zero, suc, _+_, _≤_, _<_}
+use mathlib.Core.Path.{_≡_, refl, sym, ap, _∙_}
+use mathlib.Core.Bool.{Bool, true, false, not, _&&_, _||_}
+use mathlib.Core.List.{List, [], _∷_, _++_, append-assoc}
+use native.Mathlib.Omega.{arith}
+use lib.ListN.{length, take, drop, replicate, take-append-drop}
+use lib.Seq.{take-append-seam, drop-append-seam}
+use lib.Dec.{eqb}
+use borrow.Author.Tests.{eqb-true, eq-eqb}
+use Rattle.paper.specs.Bytes.{all, startsIn, elem, lengthIn, front, behind, same, startsWith}
+use Rattle.paper.proofs.Tests.{split, true-false}
+
+-- ---- two tests
+
+pub both : (a b : Bool) → a && b ≡ true → (a ≡ true) × (b ≡ true)
+both true b e = (refl, e)
+both false b e = true-false (sym e)
+
+pub and : {a b : Bool} → a ≡ true → b ≡ true → a && b ≡ true
+and {a} {b} e f = rw (e, f)
+
+pub is-not : {a : Bool} → a ≡ false → not a ≡ true
+is-not e = rw e
+
+-- ---- every byte of a class
+
+pub all-head : {A : Type 0} (class : A → Bool) (a : A) (l : List A) → all class (a ∷ l) ≡ true → (class a ≡ true) × (all class l ≡ true)
+unfolding all
+all-head class a l e = both (class a) (all class l) e
+
+pub all-cons : {A : Type 0} (class : A → Bool) (a : A) (l : List A) → class a ≡ true → all class l ≡ true → all class (a ∷ l) ≡ true
+unfolding all
+all-cons class a l e f = rw (e, f)
+
+-- ---- the bytes of a class in front
+
+pub front-all : (class : ℕ → Bool) (s : List ℕ) → all class (front class s) ≡ true
+unfolding lengthIn all
+front-all class [] = refl
+front-all class (b ∷ l) = split (class b) (λ e. rw (e, lengthIn) (rw (e, front-all class l))) (λ e. rw (e, lengthIn))
+
+pub front-behind : (class : ℕ → Bool) (s : List ℕ) → front class s ++ behind class s ≡ s
+front-behind class s = take-append-drop (lengthIn class s) s
+
+pub behind-stops : (class : ℕ → Bool) (s : List ℕ) → startsIn class (behind class s) ≡ false
+unfolding lengthIn startsIn
+behind-stops class [] = refl
+behind-stops class (b ∷ l) = split (class b) (λ e. rw (e, lengthIn) (behind-stops class l)) (λ e. rw (e, lengthIn) e)
+
+pub front-length : (class : ℕ → Bool) (w next : List ℕ) → all class w ≡ true → startsIn class next ≡ false → lengthIn class (w ++ next) ≡ length w
+unfolding lengthIn all startsIn
+front-length class [] [] a e = refl
+front-length class [] (b ∷ l) a e = rw (e, lengthIn)
+front-length class (c ∷ w) next a e = let h = both (class c) (all class w) a in rw (h .0, lengthIn) (ap suc (front-length class w next (h .1) e))
+
+pub front-of : (class : ℕ → Bool) (w next : List ℕ) → all class w ≡ true → startsIn class next ≡ false → front class (w ++ next) ≡ w
+front-of class w next a e = rw (front-length class w next a e) (take-append-seam w next)
+
+pub behind-of : (class : ℕ → Bool) (w next : List ℕ) → all class w ≡ true → startsIn class next ≡ false → behind class (w ++ next) ≡ next
+behind-of class w next a e = rw (front-length class w next a e) (drop-append-seam w next)
+
+-- a run of one byte
+pub all-same : (b n : ℕ) → all (λ c. eqb c b) (replicate n b) ≡ true
+unfolding all
+all-same b zero = refl
+all-same b (suc n) = rw (eq-eqb b b refl, all-same b n)
+
+pub same-byte : (b : ℕ) (w : List ℕ) → all (λ c. eqb c b) w ≡ true → w ≡ replicate (length w) b
+same-byte b [] e = refl
+same-byte b (c ∷ w) e =
+    let h = all-head (λ d. eqb d b) c w e in
+    rw (eqb-true c b (h .0)) (ap (λ (l : List ℕ). b ∷ l) (same-byte b w (h .1)))
+
+-- ---- fixed bytes in front
+
+pub starts-is : (p s : List ℕ) → startsWith p s ≡ true → s ≡ p ++ drop (length p) s
+unfolding startsWith
+starts-is [] s e = refl
+starts-is (b ∷ p) [] e = true-false (sym e)
+starts-is (b ∷ p) (c ∷ s) e = split (eqb c b) (λ h. rw (eqb-true c b h) (ap (λ (l : List ℕ). b ∷ l) (starts-is p s (rw (h, startsWith) at e)))) (λ h. true-false (sym (rw (h, startsWith) at e)))
+
+pub starts-of : (p next : List ℕ) → startsWith p (p ++ next) ≡ true
+unfolding startsWith
+starts-of [] next = refl
+starts-of (b ∷ p) next = rw (eq-eqb b b refl, startsWith) (starts-of p next)
+
+-- ---- equal lists
+
+pub same-is : (v w : List ℕ) → same v w ≡ true → v ≡ w
+unfolding same
+same-is [] [] e = refl
+same-is [] (b ∷ w) e = true-false (sym e)
+same-is (a ∷ v) [] e = true-false (sym e)
+same-is (a ∷ v) (b ∷ w) e = split (eqb a b) (λ h. rw (eqb-true a b h) (ap (λ (l : List ℕ). b ∷ l) (same-is v w (rw (h, same) at e)))) (λ h. true-false (sym (rw (h, same) at e)))
+
+pub same-of : (w : List ℕ) → same w w ≡ true
+unfolding same
+same-of [] = refl
+same-of (b ∷ w) = rw (eq-eqb b b refl, same) (same-of w)
