@@ -4,4 +4,7 @@ pub mod Finds
 pub mod Lists
 pub mod Runs
 pub mod Scalars
+pub mod Lines
+pub mod Annotations
+pub mod Content
 pub mod Starred

@@ -54,6 +54,11 @@ front-length class [] [] a e = refl
 front-length class [] (b ∷ l) a e = rw (e, lengthIn)
 front-length class (c ∷ w) next a e = let h = both (class c) (all class w) a in rw (h .0, lengthIn) (ap suc (front-length class w next (h .1) e))
 
+pub length-in : (class : ℕ → Bool) (s : List ℕ) → lengthIn class s ≤ length s
+unfolding lengthIn
+length-in class [] = omega arith
+length-in class (b ∷ l) = split (class b) (λ e. rw (e, lengthIn) (omega (arith, length-in class l))) (λ e. rw (e, lengthIn) (omega arith))
+
 pub front-of : (class : ℕ → Bool) (w next : List ℕ) → all class w ≡ true → startsIn class next ≡ false → front class (w ++ next) ≡ w
 front-of class w next a e = rw (front-length class w next a e) (take-append-seam w next)
 
