@@ -58,6 +58,10 @@ pub reads-in : {s mid : List ℕ} → Tail s mid → {B : Type 0} (Q : B → Lis
 reads-in t Q (found b left) g = (tail-then t (g .0), g .1)
 reads-in t Q (fault n left) g = fault-in t g
 
+pub reads-as : {A : Type 0} (s : List ℕ) (P Q : A → List ℕ → Type 0) (x : Found A) → Reads s P x → ((a : A) (left : List ℕ) → P a left → Q a left) → Reads s Q x
+reads-as s P Q (found a left) h f = (h .0, f a left (h .1))
+reads-as s P Q (fault n left) h f = h
+
 -- one reading after another, where a fault of the second may be at a place that the first passed
 pub reads-on : {A B : Type 0} (s : List ℕ) (P : A → List ℕ → Type 0) (Q : B → List ℕ → Type 0) (next : A → List ℕ → Found B) (x : Found A) → Reads s P x → ((a : A) (left : List ℕ) → Tail s left → P a left → Reads s Q (next a left)) → Reads s Q (andThen x next)
 reads-on s P Q next (found a left) h f = f a left (h .0) (h .1)

@@ -7,4 +7,13 @@ pub mod Scalars
 pub mod Lines
 pub mod Annotations
 pub mod Content
+pub mod ReadValues
+pub mod Markers
+pub mod Widths
+pub mod Concepts
+pub mod Sheets
+pub mod Sizes
+pub mod Before
+pub mod Exactly
+pub mod OnlyOne
 pub mod Starred

@@ -52,15 +52,18 @@ rest-reads s = go (lineRest s) (line-end-reads (front isBlank s) (behind isBlank
     end-shorter : (e : LineEnd) (left : List ℕ) → length left < length (lineEndOnto e left)
     end-shorter LF left = omega arith
     end-shorter CRLF left = omega arith
+
     go : (x : Found Blank) → Reads (behind isBlank s) (λ b left. (b .blanks ≡ front isBlank s) × (behind isBlank s ≡ lineEndOnto (b .end) left)) x → Reads s (λ b left. ReadBlank s b left) x
     go (fault n left) h = record { least = h .least; most = h .most; tail = tail-then (tail-drop (lengthIn isBlank s) s) (h .tail) }
     go (found b left) h =
-        let c : s ≡ blankOnto b left = sym (front-behind isBlank s) ∙ rw (h .1 .0, ← h .1 .1) in
-        (tail-then (tail-drop (lengthIn isBlank s) s) (h .0), record {
-          covers = c;
-          rule = rw (h .1 .0) (front-all isBlank s);
-          shorter = omega (arith, ap length c, length-append (b .blanks) (lineEndOnto (b .end) left), end-shorter (b .end) left)
-        })
+        let c : s ≡ blankOnto b left = sym (front-behind isBlank s) ∙ rw (h .1 .0, ← h .1 .1) in (
+          tail-then (tail-drop (lengthIn isBlank s) s) (h .0),
+          record {
+            covers = c;
+            rule = rw (h .1 .0) (front-all isBlank s);
+            shorter = omega (arith, ap length c, length-append (b .blanks) (lineEndOnto (b .end) left), end-shorter (b .end) left);
+          },
+        )
 
 -- a line end is no blank
 pub ends-blank : (e : LineEnd) (next : List ℕ) → startsIn isBlank (lineEndOnto e next) ≡ false
@@ -97,7 +100,7 @@ blank-says : Says Blank
 blank-says = record {
   of-turn = λ room s b left. ReadBlank s b left;
   of-end = λ room s left. (s ≡ left) × (isBlankLine s ≡ false);
-  of-run = λ room s bs left. ReadBlanks s bs left
+  of-run = λ room s bs left. ReadBlanks s bs left;
 }
 
 blank-turns : (room : ℕ) (s : List ℕ) → Turns s (λ b left. ReadBlank s b left) (λ left. (s ≡ left) × (isBlankLine s ≡ false)) (blankTurn room s)
@@ -135,23 +138,23 @@ tabs-length n next e = front-length isTab (replicate n tab) next (all-same tab n
 pub tabs-behind : (n : ℕ) (next : List ℕ) → startsIn isTab next ≡ false → behind isTab (tabsOnto n next) ≡ next
 tabs-behind n next e = behind-of isTab (replicate n tab) next (all-same tab n) e
 
-no-space : (s : List ℕ) (b : ℕ) (l : List ℕ) → Tail s (b ∷ l) → Reads s (λ line left. (line ≡ s) × (left ≡ s)) (noSpace s (b ∷ l))
+no-space : (s : List ℕ) (b : ℕ) (l : List ℕ) → Tail s (b ∷ l) → Reads s (λ tabs mark. mark ≡ behind isTab s) (noSpace s (b ∷ l))
 unfolding noSpace
 no-space s b l t =
     split (startsIn (is space) (behind isTab s))
     (λ e. rw (e, noSpace) (record { least = omega arith; most = omega arith; tail = t }))
-    (λ e. rw (e, noSpace) (whole, (refl, refl)))
+    (λ e. rw (e, noSpace) (tail-drop (lengthIn isTab s) s, refl))
 
 pub all-tabs : (n : ℕ) → all isBlank (replicate n tab) ≡ true
 unfolding all isBlank
 all-tabs zero = refl
 all-tabs (suc n) = all-tabs n
 
-pub only-reads : (s : List ℕ) → Reads s (λ line left. (line ≡ s) × (left ≡ s)) (tabsOnly s)
+pub only-reads : (s : List ℕ) → Reads s (λ tabs mark. mark ≡ behind isTab s) (tabsOnly s)
 unfolding noSpace
 only-reads s = go (behind isBlank s) (tail-drop (lengthIn isBlank s) s)
   where
-    go : (r : List ℕ) → Tail s r → Reads s (λ line left. (line ≡ s) × (left ≡ s)) (noSpace s r)
+    go : (r : List ℕ) → Tail s r → Reads s (λ tabs mark. mark ≡ behind isTab s) (noSpace s r)
     go [] t = fault-end s
     go (b ∷ l) t = no-space s b l t
 
@@ -169,9 +172,11 @@ module _ (n b : ℕ) (l : List ℕ) (e : isBlank b ≡ false) where
   unfolding startsIn
   marked-line f = rw no-blanks f
 
-  pub only-complete : tabsOnly (tabsOnto n (b ∷ l)) ≡ found (tabsOnto n (b ∷ l)) (tabsOnto n (b ∷ l))
+  pub only-complete : tabsOnly (tabsOnto n (b ∷ l)) ≡ found n (b ∷ l)
   unfolding noSpace startsIn isBlank
-  only-complete = rw (no-blanks, noSpace, tabs-behind n (b ∷ l) no-tab) (split (eqb b space) (λ h. true-false (sym (rw h) ∙ e)) (λ h. rw h))
+  only-complete =
+      let t = tabs-behind n (b ∷ l) no-tab in
+      rw (no-blanks, noSpace, t) (split (eqb b space) (λ h. true-false (sym (rw h) ∙ e)) (λ h. rw (h, t, tabs-length n (b ∷ l) no-tab)))
 
 -- ---- names
 
@@ -215,6 +220,15 @@ unfolding nameOf startsIn
 name-complete rule w b next a l r e =
     let f = front-of isNameByte w (b ∷ next) a e in
     rw (behind-of isNameByte w (b ∷ next) a e, nameOf, f, le-leb 1 (length w) l, f, r, f)
+
+-- the same, where what follows is only known not to go on with the name
+pub name-found : (rule : List ℕ → Bool) (w next : List ℕ) → all isNameByte w ≡ true → 0 < length w → rule w ≡ true → 0 < length next → startsIn isNameByte next ≡ false → name rule (w ++ next) ≡ found w next
+unfolding startsIn
+name-found rule w next a l r k e = go next k e
+  where
+    go : (next : List ℕ) → 0 < length next → startsIn isNameByte next ≡ false → name rule (w ++ next) ≡ found w next
+    go [] k e = absurd (omega arith)
+    go (b ∷ next) k e = name-complete rule w b next a l r e
 
 -- ---- a byte that is due, and an entry that is made
 

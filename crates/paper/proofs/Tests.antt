@@ -1,6 +1,6 @@
 -- Tests by their two cases, and ranges as two orders. Assumes nothing.
 use Prim.Native.Nat.{ℕ, _≤_, _<_}
-use mathlib.Core.Path.{_≡_, refl}
+use mathlib.Core.Path.{_≡_, refl, sym}
 use mathlib.Core.Bool.{Bool, true, false}
 use native.Mathlib.Omega.{arith}
 use lib.Dec.{leb}
@@ -15,6 +15,15 @@ split false on off = off refl
 -- a test is not both
 pub true-false : {X : Type 0} → true ≡ false → X
 true-false e = let z : _≡_ {A = ℕ} 0 1 = cc in absurd (omega arith)
+
+-- a choice by a test that holds, and by one that does not
+pub when-true : {A : Type 0} (test : Bool) (a b : A) → test ≡ true → elim test [ true ↦ a | false ↦ b ] ≡ a
+when-true true a b e = refl
+when-true false a b e = true-false (sym e)
+
+pub when-false : {A : Type 0} (test : Bool) (a b : A) → test ≡ false → elim test [ true ↦ a | false ↦ b ] ≡ b
+when-false true a b e = true-false e
+when-false false a b e = refl
 
 -- ---- orders and ranges
 

@@ -9,7 +9,7 @@ use Rattle.paper.specs.Found.{pick}
 use Rattle.paper.specs.Bytes.{byte, bytes, isUpper, lf, cr, tab, space}
 use Rattle.paper.specs.Values.{piecesMean, collapse, endsInSlash, Leaf, string, character, backtick, word, Value, leaf, emptyList, list, More, close, comma}
 use Rattle.paper.specs.Tree.{Trait, Marker, Annotation, Line, blank, text, Concept, selfClosed, children, content, Body, done, blankLine, element, Sheet, Ending, block, self}
-use Rattle.paper.specs.Grammar.{tabsOnto, closingOnto}
+use Rattle.paper.specs.Grammar.{tabsOnto, endingOnto, closingOnto}
 
 -- ---- meanings
 
@@ -154,10 +154,6 @@ unfoldable pub lastInSlash : List TraitSense → Bool
 lastInSlash [] = false
 lastInSlash (t ∷ []) = senseInSlash (t .value)
 lastInSlash (t ∷ u ∷ ts) = lastInSlash (u ∷ ts)
-
-abbrev pub endingOnto : Ending → List ℕ → List ℕ
-endingOnto block next = byte ">" ∷ next
-endingOnto self next = byte "/" ∷ byte ">" ∷ next
 
 -- a space stands before "/>", and is kept before ">" where that would follow directly on a value that ends in "/"
 abbrev pub spaced : Ending → List TraitSense → Bool

@@ -13,7 +13,7 @@ use Rattle.paper.specs.Bytes.{byte, bytes, isUpper, isLower, isBlank, is
 use Rattle.paper.specs.Names.{nameRule}
 use Rattle.paper.specs.Modes.{Modes, modeOf}
 use Rattle.paper.specs.Values.{Value, valueOnto, valueRule, valueInSlash}
-use Rattle.paper.specs.Tree.{LineEnd, LF, CRLF, Blank, Trait, Marker, Annotation, Line, blank, text, Concept, selfClosed, children, content, Body, done, blankLine, element, Sheet}
+use Rattle.paper.specs.Tree.{LineEnd, LF, CRLF, Blank, Trait, Marker, Annotation, Line, blank, text, Concept, selfClosed, children, content, Body, done, blankLine, element, Sheet, Ending, block, self}
 
 -- ---- the bytes of a tree, in front of what follows
 
@@ -48,6 +48,10 @@ traitsOnto (t ∷ ts) next = traitOnto t (traitsOnto ts next)
 abbrev pub markerOnto : Marker → List ℕ → List ℕ
 markerOnto k next = byte "<" ∷ (k .name ++ traitsOnto (k .traits) (k .white ++ next))
 
+abbrev pub endingOnto : Ending → List ℕ → List ℕ
+endingOnto block next = byte ">" ∷ next
+endingOnto self next = byte "/" ∷ byte ">" ∷ next
+
 abbrev pub closingOnto : List ℕ → List ℕ → List ℕ
 closingOnto name next = byte "<" ∷ byte "/" ∷ (name ++ (byte ">" ∷ next))
 
@@ -63,9 +67,9 @@ linesOnto tabs (l ∷ ls) next = lineOnto tabs l (linesOnto tabs ls next)
 -- a Concept from its "<" past its last ">", where its line has so many tabs
 unfoldable mutual
   pub conceptOnto : ℕ → Concept → List ℕ → List ℕ
-  conceptOnto tabs (selfClosed k) next = markerOnto k (byte "/" ∷ byte ">" ∷ next)
-  conceptOnto tabs (children k rest body back) next = markerOnto k (byte ">" ∷ blankOnto rest (bodyOnto body (tabsOnto back (closingOnto (k .name) next))))
-  conceptOnto tabs (content k rest lines) next = markerOnto k (byte ">" ∷ blankOnto rest (linesOnto tabs lines (tabsOnto tabs (closingOnto (k .name) next))))
+  conceptOnto tabs (selfClosed k) next = markerOnto k (endingOnto self next)
+  conceptOnto tabs (children k rest body back) next = markerOnto k (endingOnto block (blankOnto rest (bodyOnto body (tabsOnto back (closingOnto (k .name) next)))))
+  conceptOnto tabs (content k rest lines) next = markerOnto k (endingOnto block (blankOnto rest (linesOnto tabs lines (tabsOnto tabs (closingOnto (k .name) next)))))
 
   pub bodyOnto : Body → List ℕ → List ℕ
   bodyOnto done next = next

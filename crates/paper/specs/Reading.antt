@@ -53,12 +53,12 @@ blankLines s = manyOf (λ b. 0) blankTurn 0 s
 abbrev pub isTab : ℕ → Bool
 isTab = is tab
 
--- a line on which a marker or an annotation is due, where a blank line may stand too: a space could only have begun a blank line
-unfoldable pub noSpace : List ℕ → List ℕ → Found (List ℕ)
+-- the tabs of a line on which a marker or an annotation is due, and a blank line may stand too: a space could only have begun a blank line
+unfoldable pub noSpace : List ℕ → List ℕ → Found ℕ
 noSpace s [] = fault 9 []
-noSpace s (b ∷ l) = elim (startsIn (is space) (behind isTab s)) [ true ↦ fault 7 (b ∷ l) | false ↦ found s s ]
+noSpace s (b ∷ l) = elim (startsIn (is space) (behind isTab s)) [ true ↦ fault 7 (b ∷ l) | false ↦ found (lengthIn isTab s) (behind isTab s) ]
 
-abbrev pub tabsOnly : List ℕ → Found (List ℕ)
+abbrev pub tabsOnly : List ℕ → Found ℕ
 tabsOnly s = noSpace s (behind isBlank s)
 
 -- ---- names
@@ -231,10 +231,10 @@ unfoldable mutual
   body by (suc fuel) deeper room s =
       elim (isBlankLine s) [
         | true ↦ andThen (lineRest s) (λ b left. andThen (body by fuel deeper room left) (λ inner end. found (blankLine b inner) end))
-        | false ↦ andThen (tabsOnly s) (λ line left.
-            elim (startsWith (bytes "</") (behind isTab line)) [
-              | true ↦ found done line
-              | false ↦ andThen (annotations room line) (λ notes line.
+        | false ↦ andThen (tabsOnly s) (λ tabs mark.
+            elim (startsWith (bytes "</") mark) [
+              | true ↦ found done s
+              | false ↦ andThen (annotations room s) (λ notes line.
                   andThen (concept by fuel deeper (room - length notes) (lengthIn isTab line) (behind isTab line)) (λ c left.
                   andThen (lineRest left) (λ rest left. andThen (body by fuel deeper (room - length notes - conceptSize c) left) (λ inner end.
                   found (element notes (lengthIn isTab line) c rest inner) end))))
@@ -250,7 +250,7 @@ lastBlanks blanks (b ∷ l) = fault 7 (b ∷ l)
 
 unfoldable pub sheetTree : Bounds → ℕ → ℕ → List ℕ → Found Sheet
 sheetTree by deeper room s =
-    andThen (blankLines s) (λ before left. andThen (tabsOnly left) (λ line left. andThen (annotations room line) (λ notes line.
+    andThen (blankLines s) (λ before first. andThen (tabsOnly first) (λ tabs mark. andThen (annotations room first) (λ notes line.
     andThen (concept by (suc (length line)) deeper (room - length notes) (lengthIn isTab line) (behind isTab line)) (λ c left.
     andThen (blankLines left) (λ after left. andThen (lastBlanks (front isBlank left) (behind isBlank left)) (λ last end.
     found (record { before = before; annotations = notes; tabs = lengthIn isTab line; root = c; after = after; last = last }) end))))))

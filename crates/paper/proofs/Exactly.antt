@@ -1,0 +1,173 @@
+-- A sheet is accepted exactly when the grammar derives it within the limits and its entries fit; the derivation is the only one; everything else is refused.
+-- Demand 2's first half, about the definitions. Assumes nothing.
+use Prim.Native.Nat.{ℕ, zero, suc, _+_, _-_, _≤_, _<_, max}
+use mathlib.Core.Path.{_≡_, refl, sym, ap, _∙_}
+use mathlib.Core.Bool.{Bool, true, false, _&&_}
+use mathlib.Core.List.{List, [], _∷_, _++_}
+use mathlib.Core.Logic.{_⊎_, inl, inr, ⊎-elim, _↔_}
+use native.Mathlib.Omega.{arith}
+use lib.ListN.{length, drop, replicate, length-drop}
+use lib.Dec.{leb, ltb}
+use borrow.Author.Tests.{leb-true, le-leb, ltb-true, ltb-false, le-ltb}
+use Rattle.paper.specs.Answer.{Told, accepted, refused}
+use Rattle.paper.specs.Found.{Found, found, fault, andThen, placeIn}
+use Rattle.paper.specs.Bytes.{all, sheetBytes}
+use Rattle.paper.specs.Names.{nameLimit}
+use Rattle.paper.specs.Modes.{Modes, modeTable}
+use Rattle.paper.specs.Tree.{Sheet}
+use Rattle.paper.specs.Grammar.{sheetOnto, sheetRule, Derives}
+use Rattle.paper.specs.Limits.{sheetLimit, conceptLimit, listLimit, conceptFits, conceptDepth, withinLimits}
+use Rattle.paper.specs.Entries.{Entry, sheetSize, entries, filled}
+use Rattle.paper.specs.Reading.{Bounds, sheetTree, roomOf, sheetOf, Reading, refusal, reading}
+use Rattle.paper.proofs.Tests.{split, true-false}
+use Rattle.paper.proofs.Lists.{both, and}
+use Rattle.paper.proofs.Finds.{Tail, whole, tail-length, tail-drop, Fault, Reads}
+use Rattle.paper.proofs.Scalars.{sheet-made}
+use Rattle.paper.proofs.Before.{Only, table-only, table-whole, bytes-only}
+use Rattle.paper.proofs.Sizes.{entries-size, filled-only}
+use Rattle.paper.proofs.Sheets.{ReadSheet, sheet-reads, Keeps, sheet-complete}
+
+-- what the paper reads by
+abbrev pub paperBounds : Modes → Bounds
+paperBounds m = record { modes = m; names = nameLimit; lists = listLimit }
+
+-- ---- a sheet under a valid table
+
+-- what is found is derived, within the limits, and its entries fit
+pub record Accepts (m : Modes) (room : ℕ) (s : List ℕ) (t : Sheet) : Type 0 where
+  pub derives : Derives m s t
+  pub limits : withinLimits s t ≡ true
+  pub fit : length (entries t) ≤ room
+
+-- every other answer is a number from 2 to 11, at a place of the sheet
+pub record Rejects (s : List ℕ) (n : ℕ) (left : List ℕ) : Type 0 where
+  pub least : 2 ≤ n
+  pub most : n ≤ 11
+  pub place : placeIn s left ≤ length s
+
+abbrev pub Answers : Modes → ℕ → List ℕ → Found Sheet → Type 0
+Answers m room s (found t left) = (left ≡ []) × Accepts m room s t
+Answers m room s (fault n left) = Rejects s n left
+
+sheet-answers : (m : Modes) (room : ℕ) (s : List ℕ) → Answers m room s (sheetOf m room s)
+unfolding sheetOf withinLimits
+sheet-answers m room s =
+    split (ltb sheetLimit (length s))
+    (λ e. rw (e, sheetOf) (record { least = omega arith; most = omega arith; place = omega arith }))
+    (λ e. rw (e, sheetOf) (bytes (ltb-false sheetLimit (length s) e) (sheetBytes s) refl (bytes-only s)))
+  where
+    tree : length s ≤ sheetLimit → (vs : List ℕ) → sheetBytes s ≡ found vs [] → (x : Found Sheet) → Reads s (λ t left. ReadSheet (paperBounds m) conceptLimit room s t left) x → Answers m room s x
+    tree l vs e (fault n left) h = record { least = omega (arith, h .least); most = h .most; place = omega arith }
+    tree l vs e (found t left) h =
+        let r = h .1 in (
+          r .over,
+          record {
+            derives = record { scalars = vs; bytes = e; covers = sym (r .covers); rule = r .rule };
+            limits = and (and (le-leb (length s) sheetLimit l) (r .within)) (le-leb _ conceptLimit (r .depth));
+            fit = omega (arith, entries-size t, r .fits);
+          },
+        )
+
+    bytes : length s ≤ sheetLimit → (x : Found (List ℕ)) → sheetBytes s ≡ x → Only 3 s x → Answers m room s (andThen x (λ vs left. sheetTree (paperBounds m) conceptLimit room s))
+    bytes l (fault n left) e h = record { least = omega (arith, h .0); most = omega (arith, h .0); place = omega arith }
+    bytes l (found vs left) e h = tree l vs (e ∙ ap (found vs) (sheet-made s vs left e .empty)) (sheetTree (paperBounds m) conceptLimit room s) (sheet-reads (paperBounds m) conceptLimit room s)
+
+sheet-accepts : (m : Modes) (room : ℕ) (s : List ℕ) (t : Sheet) → Accepts m room s t → sheetOf m room s ≡ found t []
+unfolding sheetOf withinLimits
+sheet-accepts m room s t a =
+    let d = a .derives in
+    let p = both (leb (length s) sheetLimit && conceptFits nameLimit listLimit (t .root)) (leb (conceptDepth (t .root)) conceptLimit) (a .limits) in
+    let q = both (leb (length s) sheetLimit) (conceptFits nameLimit listLimit (t .root)) (p .0) in
+    rw (le-ltb sheetLimit (length s) (leb-true (length s) sheetLimit (q .0)), sheetOf, d .bytes)
+    (ap (sheetTree (paperBounds m) conceptLimit room) (sym (d .covers))
+    ∙ sheet-complete (paperBounds m) conceptLimit room t (record { rule = d .rule; within = q .1; depth = leb-true (conceptDepth (t .root)) conceptLimit (p .1); fits = omega (arith, a .fit, entries-size t) }))
+
+-- ---- accepted exactly
+
+pub record Exactly (table s : List ℕ) (lent : ℕ) (es : List Entry) : Type 0 where
+  pub modes : Modes
+  pub tree : Sheet
+  pub valid : modeTable table ≡ found modes []
+  pub derives : Derives modes s tree
+  pub limits : withinLimits s tree ≡ true
+  pub are : entries tree ≡ es
+  pub fit : length es ≤ roomOf lent
+
+-- the reading that accepts with these entries
+abbrev pub accepting : List ℕ → ℕ → List Entry → Reading
+accepting s lent es = record { answer = accepted (length s) (length es); cells = filled lent es }
+
+-- every other reading refuses: a number from 1 to 11, at a place of the table for 1 and of the sheet for the others
+pub record Refused (table s : List ℕ) (lent : ℕ) : Type 0 where
+  pub number : ℕ
+  pub place : ℕ
+  pub is : reading table s lent ≡ refusal lent number place
+  pub least : 1 ≤ number
+  pub most : number ≤ 11
+  pub in-table : number ≡ 1 → place ≤ length table
+  pub in-sheet : 2 ≤ number → place ≤ length s
+
+-- a reading is one or the other
+pub record Accepted (table s : List ℕ) (lent : ℕ) : Type 0 where
+  pub list : List Entry
+  pub is : reading table s lent ≡ accepting s lent list
+  pub exactly : Exactly table s lent list
+
+pub refused-otherwise : (table s : List ℕ) (lent : ℕ) → Accepted table s lent ⊎ Refused table s lent
+unfolding reading
+refused-otherwise table s lent = by-table (modeTable table) refl (table-only table)
+  where
+    by-sheet : (m : Modes) → modeTable table ≡ found m [] → (x : Found Sheet) → sheetOf m (roomOf lent) s ≡ x → Answers m (roomOf lent) s x → Accepted table s lent ⊎ Refused table s lent
+    by-sheet m v (found t left) e a =
+        inl (record {
+          list = entries t;
+          is = rw (v, e);
+          exactly = record { modes = m; tree = t; valid = v; derives = a .1 .derives; limits = a .1 .limits; are = refl; fit = a .1 .fit };
+        })
+    by-sheet m v (fault n left) e a =
+        inr (record {
+          number = n;
+          place = placeIn s left;
+          is = rw (v, e);
+          least = omega (arith, a .least);
+          most = a .most;
+          in-table = λ q. absurd (omega (arith, a .least));
+          in-sheet = λ q. a .place;
+        })
+
+    by-table : (x : Found Modes) → modeTable table ≡ x → Only 1 table x → Accepted table s lent ⊎ Refused table s lent
+    by-table (found m left) e o = by-sheet m (e ∙ ap (found m) (table-whole table m left e)) (sheetOf m (roomOf lent) s) refl (sheet-answers m (roomOf lent) s)
+    by-table (fault n left) e o =
+        inr (record {
+          number = n;
+          place = placeIn table left;
+          is = rw e;
+          least = omega (arith, o .0);
+          most = omega (arith, o .0);
+          in-table = λ q. omega arith;
+          in-sheet = λ q. absurd (omega (arith, o .0));
+        })
+
+-- not both: an acceptance has number 0
+pub not-both : (table s : List ℕ) (lent : ℕ) (es : List Entry) → reading table s lent ≡ accepting s lent es → Refused table s lent → ⊥
+not-both table s lent es e r = let z : 0 ≡ r .number = ap (λ (x : Reading). x .answer .number) (sym e ∙ r .is) in omega (arith, r .least)
+
+-- the table reads to modes, a tree derives the sheet under them within the limits, and its entries are these and fit: exactly then
+pub accepted-exactly : (table s : List ℕ) (lent : ℕ) (es : List Entry) → (reading table s lent ≡ accepting s lent es) ↔ Exactly table s lent es
+unfolding reading
+accepted-exactly table s lent es = (forth, back)
+  where
+    forth : reading table s lent ≡ accepting s lent es → Exactly table s lent es
+    forth e = ⊎-elim (λ a. same a) (λ r. absurd (not-both table s lent es e r)) (refused-otherwise table s lent)
+      where
+        same : Accepted table s lent → Exactly table s lent es
+        same a =
+            let q : accepting s lent (a .list) ≡ accepting s lent es = sym (a .is) ∙ e in
+            let l : length (a .list) ≡ length es = ap (λ (x : Reading). x .answer .count) q in
+            let f : a .list ≡ es = filled-only lent (a .list) es l (ap (λ (x : Reading). x .cells) q) in
+            let x = a .exactly in
+            record { modes = x .modes; tree = x .tree; valid = x .valid; derives = x .derives; limits = x .limits; are = x .are ∙ f; fit = omega (arith, x .fit) }
+
+    back : Exactly table s lent es → reading table s lent ≡ accepting s lent es
+    back x =
+        rw (x .valid, sheet-accepts (x .modes) (roomOf lent) s (x .tree) (record { derives = x .derives; limits = x .limits; fit = omega (arith, x .fit, ap length (x .are)) }), x .are)
