@@ -4,32 +4,31 @@ use Prim.Native.Nat.{ℕ, _+_, _≤_, _<_}
 use mathlib.Core.Path.{_≡_, refl, sym, _∙_}
 use mathlib.Core.List.{List, [], _∷_}
 use mathlib.Core.Bool.{Bool, true, false, _&&_}
-use native.Mathlib.Numerals.{add-one}
 use native.Mathlib.Omega.{arith}
 use lib.ListN.{length, getD, drop, drop-of-length-le}
-use lib.Seq.{drop-cons}
 use borrow.Author.Tests.{lt-ltb, le-ltb, le-leb, lt-leb}
 use Rattle.paper.specs.Bytes.{isUpper, isNameByte}
 use Rattle.paper.specs.Names.{nameLimit, startsIn, fewCapitals, nameRule, shortName}
+use Rattle.text.proofs.Places.{here}
 
 -- ---- capitals in a row, where n stand directly before
 
 module _ (s : List ℕ) (i n : ℕ) (h : i < length s) where
   pub one-capital : isUpper (getD s i 0) ≡ true → n < 2 → fewCapitals n (drop i s) ≡ fewCapitals (n + 1) (drop (i + 1) s)
   unfolding fewCapitals
-  one-capital u l = rw (drop-cons s i 0 h, fewCapitals, u, lt-ltb n 2 l, add-one i)
+  one-capital u l = rw (here s i h, fewCapitals, u, lt-ltb n 2 l)
 
   pub third-capital : isUpper (getD s i 0) ≡ true → 2 ≤ n → fewCapitals n (drop i s) ≡ false
   unfolding fewCapitals
-  third-capital u l = rw (drop-cons s i 0 h, fewCapitals, u, le-ltb n 2 l)
+  third-capital u l = rw (here s i h, fewCapitals, u, le-ltb n 2 l)
 
   pub no-capital : isUpper (getD s i 0) ≡ false → isNameByte (getD s i 0) ≡ true → fewCapitals n (drop i s) ≡ fewCapitals 0 (drop (i + 1) s)
   unfolding fewCapitals
-  no-capital u e = rw (drop-cons s i 0 h, fewCapitals, u, e, add-one i)
+  no-capital u e = rw (here s i h, fewCapitals, u, e)
 
   pub no-name-byte : isUpper (getD s i 0) ≡ false → isNameByte (getD s i 0) ≡ false → fewCapitals n (drop i s) ≡ false
   unfolding fewCapitals
-  no-name-byte u e = rw (drop-cons s i 0 h, fewCapitals, u, e)
+  no-name-byte u e = rw (here s i h, fewCapitals, u, e)
 
 pub capitals-end : (s : List ℕ) (i n : ℕ) → length s ≤ i → fewCapitals n (drop i s) ≡ true
 unfolding fewCapitals

@@ -1,3 +1,4 @@
-// Bytes as they are read: their classes.
+// Bytes and scalar values: what every reader of a sheet stands on.
 // Document 01, "The grammar", Bytes.
 pub mod classes;
+pub mod parts;

@@ -1,0 +1,2 @@
+-- Laws of the paper's definitions; no line of them speaks of code.
+pub mod Tests

@@ -1,0 +1,1 @@
+-- What the functions of this crate answer, over the definitions of the paper.
