@@ -1,7 +1,8 @@
 -- The invariant: the names that are left from `at` on are whole, and searching them finds what the whole search finds.
 -- The measure is how many are left.
-use Prim.Native.Nat.{_+_, _-_, _≤_, _<_}
+use Prim.Native.Nat.{ℕ, _+_, _≤_, _<_}
 use mathlib.Core.Path.{_≡_, refl, _∙_}
+use mathlib.Core.List.{List}
 use native.Mathlib.Omega.{arith}
 use lib.ListN.{length, getD, drop}
 use borrow.Author.Needs.{needs}
@@ -16,18 +17,21 @@ Inv-loop table start count name at₀ left₀ at left = Whole left (drop at tabl
 abbrev μ-loop : tie.MeasureT-loop
 μ-loop table start count name at₀ left₀ at left = left
 
+abbrev table : tie.In-loop Inv-loop μ-loop → List ℕ
+table c = c .before .before .before .before .args .table .now
+
 -- the table has the name that is due, whole
-due : (c : tie.In-loop Inv-loop μ-loop) → c .before .loop .at < length (c .before .before .before .before .args .table .now)
+due : (c : tie.In-loop Inv-loop μ-loop) → c .before .loop .at < length (table c)
 due c = inside _ _ _ (c .loop-test .taken) (c .before .loop .inv .0)
 
-fits : (c : tie.In-loop Inv-loop μ-loop) → c .before .loop .at + 1 + getD (c .before .before .before .before .args .table .now) (c .before .loop .at) 0 ≤ length (c .before .before .before .before .args .table .now)
+fits : (c : tie.In-loop Inv-loop μ-loop) → c .before .loop .at + 1 + getD (table c) (c .before .loop .at) 0 ≤ length (table c)
 fits c = fits-on _ _ _ (c .loop-test .taken) (due c) (c .before .loop .inv .0)
 
 loop-holds : tie.Need-loop-holds Inv-loop μ-loop
 loop-holds c = (c .before .before .pre, refl)
 
 add-letters : tie.Need-add-letters Inv-loop μ-loop
-add-letters c = let d = due (c) in omega arith
+add-letters c = let d = due c in omega arith
 
 shared-slice-read-end : tie.Need-shared-slice-read-end Inv-loop μ-loop
 shared-slice-read-end c = due (c .before)
@@ -51,7 +55,10 @@ same-requires : tie.Need-same-requires Inv-loop μ-loop
 same-requires c κs = search needs
 
 returns : tie.Need-returns Inv-loop μ-loop
-returns c = search-here _ _ _ _ (c .before .before .before .before .loop-test .taken) (due (c .before .before .before .before)) _ (c .before .same .ensures) (c .if1 .taken) ∙ c .before .before .before .before .before .loop .inv .1
+returns c =
+    let turn = c .before .before .before .before in
+    let loop = turn .before in
+    search-here _ _ _ _ (turn .loop-test .taken) (due turn) _ (c .before .same .ensures) (c .if1 .taken) ∙ loop .loop .inv .1
 
 sub-left : tie.Need-sub-left Inv-loop μ-loop
 sub-left c = omega arith
@@ -60,7 +67,10 @@ loop-less : tie.Need-loop-less Inv-loop μ-loop
 loop-less c = omega arith
 
 loop-again : tie.Need-loop-again Inv-loop μ-loop
-loop-again c = (whole-on _ _ _ (c .before .before .before .before .loop-test .taken) (due (c .before .before .before .before)) (c .before .before .before .before .before .loop .inv .0), search-on _ _ _ _ (c .before .before .before .before .loop-test .taken) (due (c .before .before .before .before)) _ (c .before .same .ensures) (c .if1 .left) ∙ c .before .before .before .before .before .loop .inv .1)
+loop-again c =
+    let turn = c .before .before .before .before in
+    let loop = turn .before in
+    (whole-on _ _ _ (turn .loop-test .taken) (due turn) (loop .loop .inv .0), search-on _ _ _ _ (turn .loop-test .taken) (due turn) _ (c .before .same .ensures) (c .if1 .left) ∙ loop .loop .inv .1)
 
 returns-2 : tie.Need-returns-2 Inv-loop μ-loop
 returns-2 c = search-past _ _ _ _ (c .loop-test .left) ∙ c .before .loop .inv .1

@@ -1,6 +1,7 @@
 -- The second section begins where the first ends, and the table ends where the second does.
-use Prim.Native.Nat.{_+_}
+use Prim.Native.Nat.{ℕ}
 use mathlib.Core.Path.{sym, ap, _∙_}
+use mathlib.Core.List.{List}
 use native.Mathlib.Omega.{arith}
 use lib.ListN.{drop}
 use borrow.Author.Needs.{needs}
@@ -11,10 +12,13 @@ use Rattle.modes.proofs.read.Statement.{statement}
 use Rattle.modes.proofs.read.Tie as tie
 
 -- the two sections that were read
-first-read : (c : tie.After-known-told) → Read (c .before .before .before .before .before .args .table .now) (namesOf 0 (drop 1 (c .before .before .before .before .before .args .table .now))) 0 (c .before .first .given .0 .0) (c .before .first .given .0 .1 .0)
+abbrev table : tie.After-known-told → List ℕ
+table c = c .before .before .before .before .before .args .table .now
+
+first-read : (c : tie.After-known-told) → Read (table c) (namesOf 0 (drop 1 (table c))) 0 (c .before .first .given .0 .0) (c .before .first .given .0 .1 .0)
 first-read c = section-read _ _ _ _ _ (sym (ap told (c .before .first .given .1)) ∙ c .before .before .before .read-section .ensures)
 
-second-read : (c : tie.After-known-told2) → Read (c .before .before .before .before .before .before .before .before .before .args .table .now) (namesOf (c .before .before .before .before .before .first .given .0 .1 .0) (drop 1 (c .before .before .before .before .before .before .before .before .before .args .table .now))) (c .before .before .before .before .before .first .given .0 .0) (c .before .second .given .0 .0) (c .before .second .given .0 .1 .0)
+second-read : (c : tie.After-known-told2) → Read (table (c .before .before .before .before)) (namesOf (c .before .before .before .before .before .first .given .0 .1 .0) (drop 1 (table (c .before .before .before .before)))) (c .before .before .before .before .before .first .given .0 .0) (c .before .second .given .0 .0) (c .before .second .given .0 .1 .0)
 second-read c = section-read _ _ _ _ _ (sym (ap told (c .before .second .given .1)) ∙ c .before .before .before .read-section2 .ensures)
 
 read-section-requires : tie.Need-read-section-requires
@@ -46,7 +50,10 @@ refuse-requires : tie.Need-refuse-requires
 refuse-requires c κs = search needs
 
 returns-3 : tie.Need-returns-3
-returns-3 c = c .refuse .ensures ∙ table-spare _ _ _ (first-read (c .before .before .before .before .before .before)) _ _ (second-read (c .before .before)) (c .before .if1 .taken)
+returns-3 c =
+    let second = c .before .before in
+    let first = second .before .before .before .before in
+    c .refuse .ensures ∙ table-spare _ _ _ (first-read first) _ _ (second-read second) (c .before .if1 .taken)
 
 add-t8 : tie.Need-add-t8
 add-t8 c = let f = first-read (c .before .before .before .before .before) in let s = second-read (c .before) in omega arith

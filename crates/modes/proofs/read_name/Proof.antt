@@ -1,12 +1,22 @@
 -- A law for each way out; the tests are those of the definition, in its order.
+use Prim.Native.Nat.{ℕ, _<_}
 use mathlib.Core.Path.{_∙_}
+use mathlib.Core.List.{List}
 use mathlib.Core.Logic.{⊎-elim, inl, inr}
 use native.Mathlib.Omega.{arith}
+use lib.ListN.{length}
 use borrow.Author.Tests.{ltb-true, ltb-false}
 use borrow.Author.Needs.{needs}
 use Rattle.modes.proofs.Named.{name-cut, name-size, name-short, name-broken, name-good}
 use Rattle.modes.proofs.read_name.Statement.{statement}
 use Rattle.modes.proofs.read_name.Tie as tie
+
+abbrev table : tie.Else1 → List ℕ
+table c = c .before .before .args .table .now
+
+-- the length byte is there
+inside : (c : tie.Else1) → c .before .before .args .at < length (table c)
+inside c = omega arith
 
 refuse-requires : tie.Need-refuse-requires
 refuse-requires c κs = search needs
@@ -24,7 +34,9 @@ refuse-requires-2 : tie.Need-refuse-requires-2
 refuse-requires-2 c κs = search needs
 
 returns-2 : tie.Need-returns-2
-returns-2 c = c .refuse2 .ensures ∙ name-size _ _ (omega arith) (⊎-elim (λ w. inl (w .taken)) (λ w. inr (ltb-true _ _ (w .1 .taken))) (c .before .if2 .came))
+returns-2 c =
+    c .refuse2 .ensures
+    ∙ name-size _ _ (inside (c .before .before .before)) (⊎-elim (λ w. inl (w .taken)) (λ w. inr (ltb-true _ _ (w .1 .taken))) (c .before .if2 .came))
 
 add-letters : tie.Need-add-letters
 add-letters c = omega arith
@@ -36,7 +48,8 @@ refuse-requires-3 : tie.Need-refuse-requires-3
 refuse-requires-3 c κs = search needs
 
 returns-3 : tie.Need-returns-3
-returns-3 c = c .refuse3 .ensures ∙ name-short (c .before .before .before .before .before .before .before .args .table .now) (c .before .before .before .before .before .before .before .args .at) (omega arith) (c .before .before .before .if2 .left) (ltb-false _ _ (c .before .before .if3 .left)) (c .before .if4 .taken)
+returns-3 c =
+    c .refuse3 .ensures ∙ name-short (table (c .before .before .before .before .before)) _ (inside (c .before .before .before .before .before)) (c .before .before .before .if2 .left) (ltb-false _ _ (c .before .before .if3 .left)) (c .before .if4 .taken)
 
 add-end : tie.Need-add-end
 add-end c = omega arith
@@ -57,10 +70,15 @@ refuse-requires-4 : tie.Need-refuse-requires-4
 refuse-requires-4 c κs = search needs
 
 returns-4 : tie.Need-returns-4
-returns-4 c = c .refuse4 .ensures ∙ name-broken _ _ (omega arith) (c .before .before .before .before .before .before .if2 .left) (ltb-false _ _ (c .before .before .before .before .before .if3 .left)) (c .before .before .before .before .if4 .left) _ (c .before .before .is-concept-name .ensures) (c .before .if5 .taken)
+returns-4 c =
+    c .refuse4 .ensures
+    ∙ name-broken _ _ (inside (c .before .before .before .before .before .before .before .before)) (c .before .before .before .before .before .before .if2 .left) (ltb-false _ _ (c .before .before .before .before .before .if3 .left)) (c .before .before .before .before .if4 .left)
+    _ (c .before .before .is-concept-name .ensures) (c .before .if5 .taken)
 
 returns-5 : tie.Need-returns-5
-returns-5 c = name-good _ _ (omega arith) (c .before .before .before .before .before .if2 .left) (ltb-false _ _ (c .before .before .before .before .if3 .left)) (c .before .before .before .if4 .left) _ (c .before .is-concept-name .ensures) (c .if5 .left)
+returns-5 c =
+    name-good _ _ (inside (c .before .before .before .before .before .before .before)) (c .before .before .before .before .before .if2 .left) (ltb-false _ _ (c .before .before .before .before .if3 .left)) (c .before .before .before .if4 .left)
+    _ (c .before .is-concept-name .ensures) (c .if5 .left)
 
 pub read-name-spec : {M : Type 1} → statement M
 read-name-spec =

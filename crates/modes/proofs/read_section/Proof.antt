@@ -1,9 +1,9 @@
 -- The invariant: `i` names are read up to `place`, and reading the rest from there gives what reading them all gives.
 -- The measure is how many names are left.
-use Prim.Native.Nat.{_+_, _-_, _≤_}
+use Prim.Native.Nat.{_-_}
 use mathlib.Core.Path.{sym, ap, _∙_}
 use native.Mathlib.Omega.{arith}
-use lib.ListN.{length, drop}
+use lib.ListN.{drop}
 use borrow.Author.Needs.{needs}
 use Rattle.paper.specs.Answer.{told}
 use Rattle.modes.specs.Table.{namesOf}
@@ -56,7 +56,13 @@ enum-told : tie.Need-enum-told Inv-loop μ-loop
 enum-told c = search needs
 
 returns-3 : tie.Need-returns-3 Inv-loop μ-loop
-returns-3 c = ends-refused _ _ _ _ _ _ (c .before .before .before .before .loop .inv) _ _ _ (c .before .before .before .loop-test .taken) (c .before .before .read-name .ensures) (c .enum-told .given .1) ∙ section-names (c .before .before .before .before .before .before .before .before .before .args .table .now) _ (c .before .before .before .before .before .before .before .before .before .args .at) (omega arith) (c .before .before .before .before .before .if2 .left)
+returns-3 c =
+    let turn = c .before .before .before in
+    let loop = turn .before in
+    let few = loop .before in
+    let start = few .before .before .before .before in
+    ends-refused _ _ _ _ _ _ (loop .loop .inv) _ _ _ (turn .loop-test .taken) (c .before .before .read-name .ensures) (c .enum-told .given .1)
+    ∙ section-names (start .args .table .now) _ (start .args .at) (omega arith) (few .if2 .left)
 
 add-letters : tie.Need-add-letters Inv-loop μ-loop
 add-letters c = let n = name c in omega arith
@@ -71,13 +77,24 @@ part-stands-earlier-end : tie.Need-part-stands-earlier-end Inv-loop μ-loop
 part-stands-earlier-end c = name c .fits
 
 stands-earlier-requires : tie.Need-stands-earlier-requires Inv-loop μ-loop
-stands-earlier-requires c κs = (c .before .before .before .before .before .before .before .before .before .before .before .pre .1, read-whole _ _ _ _ _ _ (c .before .before .before .before .before .before .loop .inv))
+stands-earlier-requires c κs =
+    let loop = c .before .before .before .before .before .before in
+    let start = loop .before .before .before .before .before in
+    (start .pre .1, read-whole _ _ _ _ _ _ (loop .loop .inv))
 
 refuse-requires-3 : tie.Need-refuse-requires-3 Inv-loop μ-loop
 refuse-requires-3 c κs = search needs
 
 returns-4 : tie.Need-returns-4 Inv-loop μ-loop
-returns-4 c = c .refuse3 .ensures ∙ ends-again _ _ _ _ _ _ (c .before .before .before .before .before .before .before .before .before .loop .inv) _ (c .before .before .before .before .before .before .before .before .loop-test .taken) (name (c .before .before .before .before)) _ (c .before .before .stands-earlier .ensures) (c .before .if3 .taken) ∙ section-names (c .before .before .before .before .before .before .before .before .before .before .before .before .before .before .args .table .now) _ (c .before .before .before .before .before .before .before .before .before .before .before .before .before .before .args .at) (omega arith) (c .before .before .before .before .before .before .before .before .before .before .if2 .left)
+returns-4 c =
+    let known = c .before .before .before .before in
+    let turn = known .before .before .before .before in
+    let loop = turn .before in
+    let few = loop .before in
+    let start = few .before .before .before .before in
+    c .refuse3 .ensures
+    ∙ ends-again _ _ _ _ _ _ (loop .loop .inv) _ (turn .loop-test .taken) (name known) _ (c .before .before .stands-earlier .ensures) (c .before .if3 .taken)
+    ∙ section-names (start .args .table .now) _ (start .args .at) (omega arith) (few .if2 .left)
 
 add-i : tie.Need-add-i Inv-loop μ-loop
 add-i c = omega arith
@@ -86,10 +103,17 @@ loop-less : tie.Need-loop-less Inv-loop μ-loop
 loop-less c = omega arith
 
 loop-again : tie.Need-loop-again Inv-loop μ-loop
-loop-again c = goes-on _ _ _ _ _ _ (c .before .before .before .before .before .before .before .before .loop .inv) _ (c .before .before .before .before .before .before .before .loop-test .taken) (name (c .before .before .before)) _ (c .before .stands-earlier .ensures) (c .if3 .left)
+loop-again c =
+    let known = c .before .before .before in
+    let turn = known .before .before .before .before in
+    let loop = turn .before in
+    goes-on _ _ _ _ _ _ (loop .loop .inv) _ (turn .loop-test .taken) (name known) _ (c .before .stands-earlier .ensures) (c .if3 .left)
 
 returns-5 : tie.Need-returns-5 Inv-loop μ-loop
-returns-5 c = ends-all _ _ _ _ _ _ (c .before .loop .inv) (c .loop-test .left) ∙ section-names (c .before .before .before .before .before .before .args .table .now) _ (c .before .before .before .before .before .before .args .at) (omega arith) (c .before .before .if2 .left)
+returns-5 c =
+    let start = c .before .before .before .before .before .before in
+    ends-all _ _ _ _ _ _ (c .before .loop .inv) (c .loop-test .left)
+    ∙ section-names (start .args .table .now) _ (start .args .at) (omega arith) (c .before .before .if2 .left)
 
 pub read-section-spec : {M : Type 1} → statement M
 read-section-spec =

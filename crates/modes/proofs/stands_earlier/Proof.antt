@@ -27,10 +27,16 @@ enum-told-4 : tie.Need-enum-told-4
 enum-told-4 c = search needs
 
 returns-2 : tie.Need-returns-2
-returns-2 c = stands-second 1 _ _ _ _ _ _ _ (sym (c .before .before .before .enum-told .given .1) ∙ c .before .before .before .before .before .find .ensures) (sym (c .enum-told4 .given .1) ∙ c .before .before .find2 .ensures)
+returns-2 c =
+    stands-second 1 _ _ _ _ _ _ _
+    (sym (c .before .before .before .enum-told .given .1) ∙ c .before .before .before .before .before .find .ensures)
+    (sym (c .enum-told4 .given .1) ∙ c .before .before .find2 .ensures)
 
 returns-3 : tie.Need-returns-3
-returns-3 c = stands-not 1 _ _ _ _ _ _ _ _ (sym (c .before .before .before .enum-told .given .1) ∙ c .before .before .before .before .before .find .ensures) (sym (c .enum-told3 .given .1) ∙ c .before .before .find2 .ensures)
+returns-3 c =
+    stands-not 1 _ _ _ _ _ _ _ _
+    (sym (c .before .before .before .enum-told .given .1) ∙ c .before .before .before .before .before .find .ensures)
+    (sym (c .enum-told3 .given .1) ∙ c .before .before .find2 .ensures)
 
 pub stands-earlier-spec : {M : Type 1} → statement M
 stands-earlier-spec =

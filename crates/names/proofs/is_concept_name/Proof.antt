@@ -22,7 +22,9 @@ keeps-rule-requires c κs = search needs
 
 returns-2 : tie.Need-returns-2
 unfolding isConceptName
-returns-2 c = c .keeps-rule .ensures ∙ good-start isUpper _ (c .before .before .before .before .if1 .left) (sym (c .before .before .is-upper .ensures) ∙ c .before .if2 .taken)
+returns-2 c =
+    let some = c .before .before .before .before in
+    c .keeps-rule .ensures ∙ good-start isUpper _ (some .if1 .left) (sym (c .before .before .is-upper .ensures) ∙ c .before .if2 .taken)
 
 returns-3 : tie.Need-returns-3
 unfolding isConceptName

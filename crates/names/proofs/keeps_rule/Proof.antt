@@ -31,7 +31,10 @@ is-upper-requires : tie.Need-is-upper-requires Inv-loop μ-loop
 is-upper-requires c κs = search needs
 
 returns-2 : tie.Need-returns-2 Inv-loop μ-loop
-returns-2 c = broken _ (sym (c .before .before .before .before .before .loop .inv .2) ∙ third-capital _ _ _ (c .before .before .before .before .loop-test .taken) (sym (c .before .before .is-upper .ensures) ∙ c .before .if2 .taken) (omega arith))
+returns-2 c =
+    let turn = c .before .before .before .before in
+    let loop = turn .before in
+    broken _ (sym (loop .loop .inv .2) ∙ third-capital _ _ _ (turn .loop-test .taken) (sym (c .before .before .is-upper .ensures) ∙ c .before .if2 .taken) (omega arith))
 
 add-capitals : tie.Need-add-capitals Inv-loop μ-loop
 add-capitals c = omega arith
@@ -40,7 +43,10 @@ is-name-byte-requires : tie.Need-is-name-byte-requires Inv-loop μ-loop
 is-name-byte-requires c κs = search needs
 
 returns-3 : tie.Need-returns-3 Inv-loop μ-loop
-returns-3 c = broken _ (sym (c .before .before .before .before .before .before .loop .inv .2) ∙ no-name-byte _ _ _ (c .before .before .before .before .before .loop-test .taken) (sym (c .before .before .before .is-upper .ensures) ∙ c .before .before .if2 .left) (sym (c .before .is-name-byte .ensures) ∙ not-true _ (c .if4 .taken)))
+returns-3 c =
+    let turn = c .before .before .before .before .before in
+    let loop = turn .before in
+    broken _ (sym (loop .loop .inv .2) ∙ no-name-byte _ _ _ (turn .loop-test .taken) (sym (c .before .before .before .is-upper .ensures) ∙ c .before .before .if2 .left) (sym (c .before .is-name-byte .ensures) ∙ not-true _ (c .if4 .taken)))
 
 add-i : tie.Need-add-i Inv-loop μ-loop
 add-i c = omega arith

@@ -27,7 +27,10 @@ is-name-byte-requires : tie.Need-is-name-byte-requires Inv-loop μ-loop
 is-name-byte-requires c κs = search needs
 
 returns : tie.Need-returns Inv-loop μ-loop
-returns c = (sym (run-stops _ _ (c .before .before .before .loop-test .taken) (sym (c .before .is-name-byte .ensures) ∙ not-true _ (c .if1 .taken))) ∙ c .before .before .before .before .loop .inv .2, omega arith, omega arith)
+returns c =
+    let turn = c .before .before .before in
+    let loop = turn .before in
+    (sym (run-stops _ _ (turn .loop-test .taken) (sym (c .before .is-name-byte .ensures) ∙ not-true _ (c .if1 .taken))) ∙ loop .loop .inv .2, omega arith, omega arith)
 
 add-i : tie.Need-add-i Inv-loop μ-loop
 add-i c = omega arith
@@ -36,7 +39,10 @@ loop-less : tie.Need-loop-less Inv-loop μ-loop
 loop-less c = omega arith
 
 loop-again : tie.Need-loop-again Inv-loop μ-loop
-loop-again c = (omega arith, omega arith, sym (run-more _ _ (c .before .before .before .loop-test .taken) (sym (c .before .is-name-byte .ensures) ∙ not-false _ (c .if1 .left))) ∙ c .before .before .before .before .loop .inv .2)
+loop-again c =
+    let turn = c .before .before .before in
+    let loop = turn .before in
+    (omega arith, omega arith, sym (run-more _ _ (turn .loop-test .taken) (sym (c .before .is-name-byte .ensures) ∙ not-false _ (c .if1 .left))) ∙ loop .loop .inv .2)
 
 returns-2 : tie.Need-returns-2 Inv-loop μ-loop
 returns-2 c = (sym (run-cut _ _ (c .loop-test .left)) ∙ c .before .loop .inv .2, omega arith, omega arith)
