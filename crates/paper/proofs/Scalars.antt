@@ -110,6 +110,9 @@ leads b =
     (λ h. upTo b 0xF4 (λ k. rw (row-f4 b (omega arith)) (omega arith))
     (λ h. rw (row-past b h) tt))))))))))
 
+pub leads-as : (b : ℕ) (row : Row) → rowOf b ≡ row → Leads b row
+leads-as b row e = rw e at (leads b)
+
 -- ---- one byte that follows
 
 module _ (low high : ℕ) where

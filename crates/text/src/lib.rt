@@ -1,3 +1,4 @@
 // Bytes and scalar values: what every reader of a sheet stands on.
 // Document 01, "The grammar", Bytes.
 pub mod parts;
+pub mod utf8;
