@@ -1,6 +1,6 @@
 -- What holds of all that a reading finds. Assumes nothing.
+-- Document 01, "Order": a reading finds something and what is left, or the fault met first.
 use Prim.Native.Nat.{ℕ}
-use mathlib.Core.Path.{_≡_}
 use mathlib.Core.List.{List}
 use Rattle.paper.specs.Found.{Found, found, fault, andThen}
 

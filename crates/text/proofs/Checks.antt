@@ -1,20 +1,21 @@
--- What may stand, and the check of a whole sheet from a place on, a law for each way on or out of its loop. Assumes nothing.
-use Prim.Native.Nat.{ℕ, suc, _+_, _-_, _<_, _≤_}
-use mathlib.Core.Path.{_≡_, refl, sym, ap, _∙_}
+-- What may stand, and the check of a whole sheet from a place on: a law for each way on or out of its loop. Assumes nothing.
+-- Document 01, "The grammar", Bytes, and refusal 3.
+use Prim.Native.Nat.{ℕ, _+_, _<_, _≤_}
+use mathlib.Core.Path.{_≡_, refl, ap}
 use mathlib.Core.Bool.{Bool, true, false}
 use mathlib.Core.List.{List, [], _∷_}
 use native.Mathlib.Omega.{arith}
 use lib.ListN.{length, getD, drop, length-drop}
-use borrow.Author.Tests.{eq-eqb, ne-eqb, le-leb, lt-leb}
-use Rattle.paper.specs.Found.{Found, found, fault, andThen, placeIn}
-use Rattle.paper.specs.Bytes.{tab, lf, cr, startsWith, scalar, mayStand, scalars, byteOrderMark, sheetBytes, encode}
+use borrow.Author.Tests.{ne-eqb, le-leb, lt-leb}
+use Rattle.paper.specs.Found.{Found, found, fault, andThen}
+use Rattle.paper.specs.Bytes.{tab, lf, cr, startsWith, scalar, mayStand, scalars, byteOrderMark, sheetBytes}
 use Rattle.paper.proofs.Tests.{upTo}
-use Rattle.paper.proofs.Scalars.{Spelt, scalar-sound, spelt-shorter, scalars-nil, scalars-broken, scalars-stop, scalars-on, scalars-fuel}
-use Rattle.text.specs.declared.utf8.Cursor.{Cursor}
+use Rattle.paper.proofs.Scalars.{scalars-nil, scalars-broken, scalars-stop, scalars-on, scalars-fuel}
 use Rattle.text.specs.declared.utf8.Step.{Step}
 use Rattle.text.specs.declared.utf8.Checked.{Checked}
-use Rattle.text.specs.Steps.{stepOf, stepFrom, stepAt, checkedOf, checked}
-use Rattle.text.proofs.Places.{here, front-inside, place-back, left-back}
+use Rattle.text.specs.Steps.{stepAt, checkedOf, checked}
+use Rattle.text.proofs.Places.{here}
+use Rattle.text.proofs.Steps.{Stepped, ended, failed}
 
 -- ---- what may stand
 
@@ -61,62 +62,6 @@ check-mark s e = rw (e, sheetBytes) (ap Checked.Broken (omega arith))
 pub check-start : (s : List ℕ) (at : ℕ) → at ≡ 0 → startsWith byteOrderMark s ≡ false → checkedAt s at ≡ checked s
 unfolding sheetBytes
 check-start s at n e = rw (n, e, sheetBytes)
-
--- a step that found a value: it is what the paper reads there, and the cursor stands behind it
-pub record Stepped (s : List ℕ) (at v next : ℕ) : Type 0 where
-  pub ahead : at < next
-  pub inside : next ≤ length s
-  pub reads : scalar (drop at s) ≡ found v (drop next s)
-
-stepped-to : (s : List ℕ) (at v : ℕ) (left : List ℕ) → at < length s → scalar (drop at s) ≡ found v left → Stepped s at v (placeIn s left)
-stepped-to s at v left h e =
-    let spelt = scalar-sound (drop at s) v left e in
-    let less = spelt-shorter spelt in
-    record { ahead = omega (arith, length-drop at s); inside = omega arith; reads = e ∙ ap (found v) (left-back s at (encode v) left (omega arith) (spelt .whole)) }
-
--- what each answer of a step says of the place
-module _ (s : List ℕ) (at : ℕ) where
-  pub ended : Step.End ≡ stepAt s at → drop at s ≡ []
-  ended e = go (drop at s) refl e
-    where
-      no-end : (x : Found ℕ) → Step.End ≡ stepOf s x → ⊥
-      no-end (found v left) e = let z : _≡_ {A = ℕ} 0 1 = cc in omega arith
-      no-end (fault n left) e = let z : _≡_ {A = ℕ} 0 1 = cc in omega arith
-
-      go : (l : List ℕ) → drop at s ≡ l → Step.End ≡ stepFrom s l → drop at s ≡ []
-      go [] q e = q
-      go (b ∷ l) q e = absurd (no-end (scalar (b ∷ l)) e)
-
-  pub record Failed : Type 0 where
-    pub inside : at < length s
-    pub number : ℕ
-    pub left : List ℕ
-    pub reads : scalar (drop at s) ≡ fault number left
-
-  pub failed : Step.Broken ≡ stepAt s at → Failed
-  failed e = go (drop at s) refl e
-    where
-      at-byte : (b : ℕ) (l : List ℕ) → drop at s ≡ b ∷ l → (x : Found ℕ) → scalar (drop at s) ≡ x → Step.Broken ≡ stepOf s x → Failed
-      at-byte b l q (found v left) r e = let z : _≡_ {A = ℕ} 0 1 = cc in absurd (omega arith)
-      at-byte b l q (fault n left) r e = record { inside = front-inside s at b l q; number = n; left = left; reads = r }
-
-      go : (l : List ℕ) → drop at s ≡ l → Step.Broken ≡ stepFrom s l → Failed
-      go [] q e = let z : _≡_ {A = ℕ} 0 1 = cc in absurd (omega arith)
-      go (b ∷ l) q e = at-byte b l q (scalar (b ∷ l)) (ap scalar q) e
-
-  pub stepped : (v : ℕ) (next : Cursor) → Step.Scalar v next ≡ stepAt s at → Stepped s at v (next .at)
-  stepped v next e = go (drop at s) refl e
-    where
-      at-byte : (b : ℕ) (l : List ℕ) → drop at s ≡ b ∷ l → (x : Found ℕ) → scalar (drop at s) ≡ x → Step.Scalar v next ≡ stepOf s x → Stepped s at v (next .at)
-      at-byte b l q (found w left) r e =
-          let k : v ≡ w = cc in
-          let c : next ≡ record { at = placeIn s left } = cc in
-          rw (k, c) (stepped-to s at w left (front-inside s at b l q) r)
-      at-byte b l q (fault n left) r e = let z : _≡_ {A = ℕ} 0 1 = cc in absurd (omega arith)
-
-      go : (l : List ℕ) → drop at s ≡ l → Step.Scalar v next ≡ stepFrom s l → Stepped s at v (next .at)
-      go [] q e = let z : _≡_ {A = ℕ} 0 1 = cc in absurd (omega arith)
-      go (b ∷ l) q e = at-byte b l q (scalar (b ∷ l)) (ap scalar q) e
 
 -- the check, by what the step answers
 module _ (s : List ℕ) (at : ℕ) where

@@ -1,6 +1,6 @@
 -- A place in a list: the byte that stands there and what is left behind it. Assumes nothing.
 -- Code goes by places, the definitions by what is left of the list; these laws cross over.
-use Prim.Native.Nat.{ℕ, _+_, _-_, _<_, _≤_}
+use Prim.Native.Nat.{ℕ, _+_, _<_, _≤_}
 use mathlib.Core.Path.{_≡_, sym, ap, _∙_}
 use mathlib.Core.List.{List, _∷_, _++_}
 use native.Mathlib.Numerals.{add-one}

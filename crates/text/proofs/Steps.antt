@@ -1,17 +1,19 @@
--- One step of UTF-8 at a place, a law for each way out of the functions of src/utf8.rt. Assumes nothing.
+-- One step of UTF-8 at a place: a law for each way out of its functions, and what each answer says. Assumes nothing.
+-- Document 01, "The grammar", Bytes; RFC 3629 §4.
 use Prim.Native.Nat.{ℕ, _+_, _-_, _*_, _<_, _≤_}
-use mathlib.Core.Path.{_≡_, refl, sym, ap, _∙_}
+use mathlib.Core.Path.{_≡_, refl, ap, _∙_}
 use mathlib.Core.List.{List, [], _∷_}
 use native.Mathlib.Omega.{arith}
-use lib.ListN.{length, getD, drop, drop-of-length-le}
+use lib.ListN.{length, getD, drop, length-drop, drop-of-length-le}
 use Rattle.paper.specs.Found.{Found, found, fault, andThen, placeIn}
-use Rattle.paper.specs.Bytes.{one, two, three, four, none, rowOf, follower, scalar}
+use Rattle.paper.specs.Bytes.{one, two, three, four, none, rowOf, follower, scalar, encode}
 use Rattle.paper.proofs.Finds.{Finds}
-use Rattle.paper.proofs.Scalars.{follower-in, follower-under, follower-over, Follows, follows, scalar-one, scalar-two, scalar-three, scalar-four, scalar-none}
+use Rattle.paper.proofs.Scalars.{follower-in, follower-under, follower-over, Follows, follows, scalar-one, scalar-two, scalar-three, scalar-four, scalar-none, scalar-sound, spelt-shorter}
 use Rattle.text.specs.declared.utf8.Bits.{Bits}
+use Rattle.text.specs.declared.utf8.Cursor.{Cursor}
 use Rattle.text.specs.declared.utf8.Step.{Step}
-use Rattle.text.specs.Steps.{bitsOf, stepOf, stepAt}
-use Rattle.text.proofs.Places.{here, place-back, front-inside, front-behind}
+use Rattle.text.specs.Steps.{bitsOf, stepOf, stepFrom, stepAt}
+use Rattle.text.proofs.Places.{here, place-back, front-inside, front-behind, left-back}
 
 -- ---- a byte that follows
 
@@ -117,3 +119,62 @@ module _ (s : List ℕ) (at : ℕ) (h : at < length s) where
 
         pub four-found : (e : ℕ) → Followed s (at + 3) 0x80 0xBF (at + 4) e → Step.Scalar ((((getD s at 0 - 0xF0) * 64 + c) * 64 + d) * 64 + e) (record { at = at + 4 }) ≡ stepAt s at
         four-found e i = rw (step-four, f .reads, g .reads, i .reads, place-back s (at + 4) (i .inside))
+
+-- ---- what each answer of a step says of the place
+
+-- a step that found a value: it is what the paper reads there, and the cursor stands behind it
+pub record Stepped (s : List ℕ) (at v next : ℕ) : Type 0 where
+  pub ahead : at < next
+  pub inside : next ≤ length s
+  pub reads : scalar (drop at s) ≡ found v (drop next s)
+
+stepped-to : (s : List ℕ) (at v : ℕ) (left : List ℕ) → at < length s → scalar (drop at s) ≡ found v left → Stepped s at v (placeIn s left)
+stepped-to s at v left h e =
+    let spelt = scalar-sound (drop at s) v left e in
+    let less = spelt-shorter spelt in
+    record { ahead = omega (arith, length-drop at s); inside = omega arith; reads = e ∙ ap (found v) (left-back s at (encode v) left (omega arith) (spelt .whole)) }
+
+module _ (s : List ℕ) (at : ℕ) where
+  -- nothing is left
+  pub ended : Step.End ≡ stepAt s at → drop at s ≡ []
+  ended e = go (drop at s) refl e
+    where
+      no-end : (x : Found ℕ) → Step.End ≡ stepOf s x → ⊥
+      no-end (found v left) e = let z : _≡_ {A = ℕ} 0 1 = cc in omega arith
+      no-end (fault n left) e = let z : _≡_ {A = ℕ} 0 1 = cc in omega arith
+
+      go : (l : List ℕ) → drop at s ≡ l → Step.End ≡ stepFrom s l → drop at s ≡ []
+      go [] q e = q
+      go (b ∷ l) q e = absurd (no-end (scalar (b ∷ l)) e)
+
+  -- the paper reads a fault there
+  pub record Failed : Type 0 where
+    pub inside : at < length s
+    pub number : ℕ
+    pub left : List ℕ
+    pub reads : scalar (drop at s) ≡ fault number left
+
+  pub failed : Step.Broken ≡ stepAt s at → Failed
+  failed e = go (drop at s) refl e
+    where
+      at-byte : (b : ℕ) (l : List ℕ) → drop at s ≡ b ∷ l → (x : Found ℕ) → scalar (drop at s) ≡ x → Step.Broken ≡ stepOf s x → Failed
+      at-byte b l q (found v left) r e = let z : _≡_ {A = ℕ} 0 1 = cc in absurd (omega arith)
+      at-byte b l q (fault n left) r e = record { inside = front-inside s at b l q; number = n; left = left; reads = r }
+
+      go : (l : List ℕ) → drop at s ≡ l → Step.Broken ≡ stepFrom s l → Failed
+      go [] q e = let z : _≡_ {A = ℕ} 0 1 = cc in absurd (omega arith)
+      go (b ∷ l) q e = at-byte b l q (scalar (b ∷ l)) (ap scalar q) e
+
+  pub stepped : (v : ℕ) (next : Cursor) → Step.Scalar v next ≡ stepAt s at → Stepped s at v (next .at)
+  stepped v next e = go (drop at s) refl e
+    where
+      at-byte : (b : ℕ) (l : List ℕ) → drop at s ≡ b ∷ l → (x : Found ℕ) → scalar (drop at s) ≡ x → Step.Scalar v next ≡ stepOf s x → Stepped s at v (next .at)
+      at-byte b l q (found w left) r e =
+          let k : v ≡ w = cc in
+          let c : next ≡ record { at = placeIn s left } = cc in
+          rw (k, c) (stepped-to s at w left (front-inside s at b l q) r)
+      at-byte b l q (fault n left) r e = let z : _≡_ {A = ℕ} 0 1 = cc in absurd (omega arith)
+
+      go : (l : List ℕ) → drop at s ≡ l → Step.Scalar v next ≡ stepFrom s l → Stepped s at v (next .at)
+      go [] q e = let z : _≡_ {A = ℕ} 0 1 = cc in absurd (omega arith)
+      go (b ∷ l) q e = at-byte b l q (scalar (b ∷ l)) (ap scalar q) e

@@ -6,7 +6,8 @@ use Prim.Native.Nat.{_-_}
 use lib.ListN.{length}
 use borrow.Author.Tests.{not-true, not-false}
 use Rattle.text.specs.Steps.{checked}
-use Rattle.text.proofs.Checks.{checkedAt, check-mark, check-start, check-end, check-broken, check-stop, check-on, stepped}
+use Rattle.text.proofs.Checks.{checkedAt, check-mark, check-start, check-end, check-broken, check-stop, check-on}
+use Rattle.text.proofs.Steps.{stepped}
 use Rattle.text.proofs.utf8.check.Statement.{statement}
 use Rattle.text.proofs.utf8.check.Tie as tie
 
