@@ -1,8 +1,39 @@
--- Tests by their two cases. Assumes nothing.
+-- Tests by their two cases, and ranges as two orders. Assumes nothing.
+-- Document 01, "The grammar": its classes of bytes are such ranges.
+use Prim.Native.Nat.{ℕ, _≤_, _<_}
 use mathlib.Core.Path.{_≡_, refl}
 use mathlib.Core.Bool.{Bool, true, false}
+use native.Mathlib.Omega.{arith}
+use lib.Dec.{leb}
+use borrow.Author.Tests.{leb-true, leb-false, le-leb, lt-leb}
+use Rattle.paper.specs.Bytes.{within}
 
 -- what holds in both cases of a test holds
 pub split : {X : Type 0} (test : Bool) → (test ≡ true → X) → (test ≡ false → X) → X
 split true on off = on refl
 split false on off = off refl
+
+-- a test is not both
+pub true-false : {X : Type 0} → true ≡ false → X
+true-false e = let z : _≡_ {A = ℕ} 0 1 = cc in absurd (omega arith)
+
+-- ---- orders and ranges
+
+pub upTo : {X : Type 0} (b high : ℕ) → (b ≤ high → X) → (high < b → X) → X
+upTo b high on off = split (leb b high) (λ h. on (leb-true b high h)) (λ h. off (leb-false b high h))
+
+module _ (low high b : ℕ) where
+  pub inside : low ≤ b → b ≤ high → within low high b ≡ true
+  inside l h = rw (le-leb low b l, le-leb b high h)
+
+  pub below : b < low → within low high b ≡ false
+  below h = rw (lt-leb low b h)
+
+  pub above : high < b → within low high b ≡ false
+  above h = split (leb low b) (λ e. rw (e, lt-leb b high h)) (λ e. rw e)
+
+  pub byRange : {X : Type 0} → (low ≤ b → b ≤ high → within low high b ≡ true → X) → (within low high b ≡ false → X) → X
+  byRange on off =
+      split (leb low b)
+      (λ l. split (leb b high) (λ h. on (leb-true low b l) (leb-true b high h) (rw (l, h))) (λ h. off (rw (l, h))))
+      (λ l. off (rw l))

@@ -1,8 +1,8 @@
 -- Bytes: classes of ASCII, one scalar value of UTF-8, and the bytes that a sheet may have.
 -- Document 01, "The grammar", Bytes; RFC 3629 §4.
-use Prim.Native.Nat.{ℕ, zero, suc, _+_, _-_, _*_}
+use Prim.Native.Nat.{ℕ, zero, suc, _+_, _-_, _*_, _/_, _%_}
 use mathlib.Core.Bool.{Bool, true, false, not, _&&_, _||_}
-use mathlib.Core.List.{List, [], _∷_}
+use mathlib.Core.List.{List, [], _∷_, _++_}
 use lib.ListN.{length}
 use lib.Dec.{leb, eqb}
 use Rattle.paper.specs.Found.{Found, found, fault, andThen, pick}
@@ -98,6 +98,28 @@ scalar (b ∷ l) =
           andThen (follower 0x80 0xBF q) (λ e p. found ((((b - 0xF0) * 64 + c) * 64 + d) * 64 + e) p)))
       | none ↦ fault 3 (b ∷ l)
     ]
+
+-- ---- scalar values and their bytes (RFC 3629 §3)
+
+-- the values up to 0x10FFFF, without the surrogates
+unfoldable pub isScalar : ℕ → Bool
+isScalar v = leb v 0xD7FF || within 0xE000 0x10FFFF v
+
+-- the bytes of a scalar value: six bits in each byte that follows, the highest ones in the first
+unfoldable pub encode : ℕ → List ℕ
+encode v =
+    pick (leb v 0x7F) (v ∷ [])
+    (pick (leb v 0x7FF) ((0xC0 + v / 64) ∷ (0x80 + v % 64) ∷ [])
+    (pick (leb v 0xFFFF) ((0xE0 + v / 64 / 64) ∷ (0x80 + v / 64 % 64) ∷ (0x80 + v % 64) ∷ [])
+    ((0xF0 + v / 64 / 64 / 64) ∷ (0x80 + v / 64 / 64 % 64) ∷ (0x80 + v / 64 % 64) ∷ (0x80 + v % 64) ∷ [])))
+
+unfoldable pub allScalars : List ℕ → Bool
+allScalars [] = true
+allScalars (v ∷ vs) = elim (isScalar v) [ true ↦ allScalars vs | false ↦ false ]
+
+unfoldable pub encodeAll : List ℕ → List ℕ
+encodeAll [] = []
+encodeAll (v ∷ vs) = encode v ++ encodeAll vs
 
 -- ---- the bytes of a whole sheet
 

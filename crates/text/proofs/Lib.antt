@@ -2,3 +2,5 @@
 pub mod Places
 pub mod Compared
 pub mod Either
+pub mod Steps
+pub mod Checks

@@ -2,3 +2,4 @@
 // Document 01, "The grammar", Bytes.
 pub mod classes;
 pub mod parts;
+pub mod utf8;
