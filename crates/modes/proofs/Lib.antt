@@ -1,4 +1,5 @@
 -- Laws of the mode table at its places.
+pub mod Answered
 pub mod Walk
 pub mod Named
 pub mod Sections

@@ -1,8 +1,8 @@
 -- A name of the table by itself: each way out of reading it at a place, and what an acceptance says.
 -- Over plain lists. Assumes nothing.
-use Prim.Native.Nat.{ℕ, suc, _+_, _-_, _≤_, _<_}
-use mathlib.Core.Path.{_≡_, refl, sym, ap, _∙_}
-use mathlib.Core.Bool.{Bool, true, false, not, _&&_}
+use Prim.Native.Nat.{ℕ, _+_, _-_, _≤_, _<_}
+use mathlib.Core.Path.{_≡_, sym, ap, _∙_}
+use mathlib.Core.Bool.{Bool, true, false, not}
 use mathlib.Core.List.{List, [], _∷_}
 use mathlib.Core.Logic.{_⊎_, ⊎-elim}
 use native.Mathlib.Nat.{add-sub-cancel-left}
@@ -10,45 +10,52 @@ use native.Mathlib.Omega.{arith}
 use lib.ListN.{length, getD, take, drop, length-drop, drop-of-length-le}
 use lib.Seq.{drop-drop}
 use lib.Dec.{leb, ltb}
-use borrow.Author.Tests.{le-leb, lt-leb, leb-true, leb-false, ltb-true, ltb-false, not-true, not-false}
-use Rattle.paper.specs.Answer.{Told, accepted, refused}
-use Rattle.paper.specs.Found.{Found, found, fault, placeIn}
+use borrow.Author.Tests.{le-leb, lt-leb, leb-true, ltb-true, ltb-false, not-true, not-false}
+use Rattle.paper.specs.Answer.{accepted, refused}
+use Rattle.paper.specs.Found.{found, fault, placeIn}
 use Rattle.paper.specs.Bytes.{within}
 use Rattle.paper.specs.Names.{nameLimit, isConceptName}
-use Rattle.paper.proofs.Tests.{split}
+use Rattle.paper.proofs.Tests.{split, inside, below, above}
 use Rattle.text.proofs.Places.{here, place-back}
 use Rattle.modes.specs.Table.{nameAt, one, toldOf}
+use Rattle.modes.proofs.Answered.{place-told, no-acceptance}
 
 -- ---- the tests of a name, one after another
 
 module _ (size : ℕ) (s : List ℕ) where
-  pub bad-size : within 1 nameLimit size ≡ false → nameAt (size ∷ s) ≡ fault 1 (size ∷ s)
+  bad-size : within 1 nameLimit size ≡ false → nameAt (size ∷ s) ≡ fault 1 (size ∷ s)
   unfolding nameAt
   bad-size e = rw (nameAt, e)
 
   module _ (w : within 1 nameLimit size ≡ true) where
-    pub missing : leb size (length s) ≡ false → nameAt (size ∷ s) ≡ fault 1 []
+    missing : leb size (length s) ≡ false → nameAt (size ∷ s) ≡ fault 1 []
     unfolding nameAt
     missing e = rw (nameAt, w, e)
 
     module _ (f : leb size (length s) ≡ true) where
-      pub broken : isConceptName (take size s) ≡ false → nameAt (size ∷ s) ≡ fault 1 s
+      broken : isConceptName (take size s) ≡ false → nameAt (size ∷ s) ≡ fault 1 s
       unfolding nameAt
       broken e = rw (nameAt, w, f, e)
 
-      pub good : isConceptName (take size s) ≡ true → nameAt (size ∷ s) ≡ found (take size s) (drop size s)
+      good : isConceptName (take size s) ≡ true → nameAt (size ∷ s) ≡ found (take size s) (drop size s)
       unfolding nameAt
       good e = rw (nameAt, w, f, e)
 
+-- a name has a fault, or is whole and found
+pub by-name : {X : Type 0} (size : ℕ) (s : List ℕ) → ((left : List ℕ) → nameAt (size ∷ s) ≡ fault 1 left → X)
+    → (size ≤ length s → nameAt (size ∷ s) ≡ found (take size s) (drop size s) → X) → X
+by-name size s bad fine =
+    split (within 1 nameLimit size)
+    (λ w. split (leb size (length s))
+    (λ f. split (isConceptName (take size s)) (λ g. fine (leb-true size (length s) f) (good size s w f g)) (λ g. bad s (broken size s w f g)))
+    (λ f. bad [] (missing size s w f)))
+    (λ w. bad (size ∷ s) (bad-size size s w))
+
 out-of-range : (size : ℕ) → (size ≡ 0) ⊎ (nameLimit < size) → within 1 nameLimit size ≡ false
-out-of-range size e = ⊎-elim (λ z. rw z) (λ l. rw (lt-leb size nameLimit l) (none (leb 1 size))) e
-  where
-    none : (p : Bool) → (p && false) ≡ false
-    none true = refl
-    none false = refl
+out-of-range size e = ⊎-elim (λ z. below 1 nameLimit size (omega arith)) (above 1 nameLimit size) e
 
 in-range : (size : ℕ) → (size ≡ 0 → ⊥) → size ≤ nameLimit → within 1 nameLimit size ≡ true
-in-range size s l = rw (le-leb 1 size (omega arith), le-leb size nameLimit l)
+in-range size some few = inside 1 nameLimit size (omega arith) few
 
 -- ---- at a place of the table, with what code leaves of the tests
 
@@ -65,8 +72,8 @@ module _ (t : List ℕ) (at : ℕ) (h : at < length t) where
   module _ (some : getD t at 0 ≡ 0 → ⊥) (few : getD t at 0 ≤ nameLimit) where
     pub name-short : length t - (at + 1) < getD t at 0 → refused 1 (length t) ≡ toldOf one t (nameAt (drop at t))
     name-short l =
-        rw (here t at h, missing (getD t at 0) (drop (at + 1) t) (in-range (getD t at 0) some few) (lt-leb (getD t at 0) (length (drop (at + 1) t)) (omega (arith, length-drop (at + 1) t))))
-        (ap (refused 1) (omega arith))
+        let over = lt-leb (getD t at 0) (length (drop (at + 1) t)) (omega (arith, length-drop (at + 1) t)) in
+        rw (here t at h, missing (getD t at 0) (drop (at + 1) t) (in-range (getD t at 0) some few) over) (ap (refused 1) (omega arith))
 
     module _ (fit : getD t at 0 ≤ length t - (at + 1)) (o : Bool) (e : o ≡ isConceptName (take (at + 1 + getD t at 0 - (at + 1)) (drop (at + 1) t))) where
       ruled : isConceptName (take (getD t at 0) (drop (at + 1) t)) ≡ o
@@ -94,21 +101,10 @@ pub record Named (t : List ℕ) (at end : ℕ) : Type 0 where
   pub fits : end ≤ length t
   pub same : nameAt (drop at t) ≡ found (take (getD t at 0) (drop (at + 1) t)) (drop end t)
 
-no-acceptance : {X : Type 0} (p n q k : ℕ) → accepted p n ≡ refused (suc k) q → X
-no-acceptance p n q k e = let z : 0 ≡ suc k = ap (λ (x : Told). x .number) e in absurd (omega arith)
-
-module _ (t : List ℕ) (end many size : ℕ) (s : List ℕ) (e : accepted end many ≡ toldOf one t (nameAt (size ∷ s))) where
-  all-there : leb size (length s) ≡ true → nameAt (size ∷ s) ≡ found (take size s) (drop size s)
+module _ (t : List ℕ) (end many size : ℕ) (s : List ℕ) where
+  accepting : accepted end many ≡ toldOf one t (nameAt (size ∷ s))
       → (size ≤ length s) × (end ≡ placeIn t (drop size s)) × (nameAt (size ∷ s) ≡ found (take size s) (drop size s))
-  all-there f g = (leb-true size (length s) f, ap (λ (x : Told). x .place) (rw g at e), g)
-
-  accepting : (size ≤ length s) × (end ≡ placeIn t (drop size s)) × (nameAt (size ∷ s) ≡ found (take size s) (drop size s))
-  accepting =
-      split (within 1 nameLimit size)
-      (λ w. split (leb size (length s))
-      (λ f. split (isConceptName (take size s)) (λ g. all-there f (good size s w f g)) (λ g. no-acceptance end many _ 0 (rw (broken size s w f g) at e)))
-      (λ f. no-acceptance end many _ 0 (rw (missing size s w f) at e)))
-      (λ w. no-acceptance end many _ 0 (rw (bad-size size s w) at e))
+  accepting e = by-name size s (λ left q. no-acceptance end many _ (rw q at e)) (λ f g. (f, place-told (rw g at e), g))
 
 module _ (t : List ℕ) (at end many : ℕ) where
   read-inside : at < length t → accepted end many ≡ toldOf one t (nameAt (drop at t)) → Named t at end
@@ -121,4 +117,4 @@ module _ (t : List ℕ) (at end many : ℕ) where
   unfolding nameAt
   named e =
       split (ltb at (length t)) (λ l. read-inside (ltb-true at (length t) l) e)
-      (λ l. no-acceptance end many _ 0 (rw (drop-of-length-le t (ltb-false at (length t) l)) at e))
+      (λ l. no-acceptance end many _ (rw (drop-of-length-le t (ltb-false at (length t) l)) at e))

@@ -1,9 +1,9 @@
 -- A whole table: its reading from those of its sections, what an acceptance says, and the mode of a name.
 -- Over plain lists. Assumes nothing.
-use Prim.Native.Nat.{ℕ, _+_, _-_, _≤_, _<_}
+use Prim.Native.Nat.{ℕ, _+_, _≤_, _<_}
 use mathlib.Core.Path.{_≡_, refl, sym, ap, _∙_}
 use mathlib.Core.Bool.{true, false}
-use mathlib.Core.List.{List, [], _∷_}
+use mathlib.Core.List.{List, []}
 use native.Mathlib.Omega.{arith}
 use lib.ListN.{length, getD, drop, length-drop, drop-of-length-le}
 use lib.Seq.{drop-drop}
@@ -15,12 +15,12 @@ use Rattle.paper.specs.declared.Refusal.{Refusal}
 use Rattle.paper.specs.Found.{Found, found, fault, andThen, placeIn}
 use Rattle.paper.specs.Names.{among}
 use Rattle.paper.specs.Modes.{Modes, sectionLimit, section, wholly, modeTable, readTable, modeOf}
-use Rattle.paper.proofs.Told.{number-positive}
-use Rattle.text.proofs.Places.{here, place-back}
+use Rattle.text.proofs.Places.{here}
 use Rattle.modes.specs.declared.Search.the-variants.{Here, Past}
 use Rattle.modes.specs.Table.{namesOf, sizeOf, Whole, searched, toldOf, modesOf, Valid}
+use Rattle.modes.proofs.Answered.{number-told, place-told, count-told, no-acceptance, passed-on}
 use Rattle.modes.proofs.Walk.{stands, absent}
-use Rattle.modes.proofs.Laid.{Good, Section, section-good, middle, Laid, table-good, laid}
+use Rattle.modes.proofs.Laid.{Good, Section, section-good, middle, with-second, Laid, table-good, laid}
 
 -- ---- a section that was accepted
 
@@ -32,65 +32,67 @@ pub record Read (t : List ℕ) (before : List (List ℕ)) (at place count : ℕ)
   pub same : section before (drop at t) ≡ found (namesOf count (drop (at + 1) t)) (drop place t)
 
 module _ (t : List ℕ) (before : List (List ℕ)) (at place count : ℕ) where
-  found-read : (names : List (List ℕ)) (left : List ℕ) → section before (drop at t) ≡ found names left → Section t at names left → accepted place count ≡ toldOf length t (found names left) → Read t before at place count
+  found-read : (names : List (List ℕ)) (left : List ℕ) → section before (drop at t) ≡ found names left → Section t at names left
+      → accepted place count ≡ toldOf length t (found names left) → Read t before at place count
   found-read names left q g e =
-      let n : getD t at 0 ≡ count = sym (g .behind .many) ∙ sym (ap (λ (x : Told). x .count) e) in
-      let p : place ≡ placeIn t left = ap (λ (x : Told). x .place) e in
+      let n : getD t at 0 ≡ count = sym (g .behind .many) ∙ sym (count-told e) in
+      let p : place ≡ placeIn t left = place-told e in
       let are : names ≡ namesOf count (drop (at + 1) t) = rw n at (g .behind .are) in
       let rest : left ≡ drop (at + 1 + sizeOf count (drop (at + 1) t)) t = rw (n, drop-drop) at (g .behind .rest) in
       let w : Whole count (drop (at + 1) t) = rw n at (g .behind .whole) in
-      let ends : place ≡ at + 1 + sizeOf count (drop (at + 1) t) = omega (arith, g .inside, ap length rest, length-drop (at + 1) t, length-drop (at + 1 + sizeOf count (drop (at + 1) t)) t) in
+      let ends : place ≡ at + 1 + sizeOf count (drop (at + 1) t)
+      = omega (arith, g .inside, ap length rest, length-drop (at + 1) t, length-drop (at + 1 + sizeOf count (drop (at + 1) t)) t) in
       record {
         inside = omega (arith, g .inside, length-drop (at + 1) t);
         few = omega (arith, g .few);
         whole = w;
-        many = sym (ap length are) ∙ sym (ap (λ (x : Told). x .count) e);
+        many = sym (ap length are) ∙ sym (count-told e);
         same = q ∙ rw (are, rest, ends);
       }
 
   pub section-read : accepted place count ≡ toldOf length t (section before (drop at t)) → Read t before at place count
   section-read = go (section before (drop at t)) refl (section-good t before at)
     where
-      go : (x : Found (List (List ℕ))) → section before (drop at t) ≡ x → Good (Section t at) x → accepted place count ≡ toldOf length t x → Read t before at place count
+      go : (x : Found (List (List ℕ))) → section before (drop at t) ≡ x → Good (Section t at) x → accepted place count ≡ toldOf length t x
+          → Read t before at place count
       go (found names left) q g e = found-read names left q g e
-      go (fault k left) q g e = let z : _≡_ {A = ℕ} 0 1 = ap (λ (x : Told). x .number) e ∙ g in absurd (omega arith)
+      go (fault k left) q g e = no-acceptance place count _ (rw g at e)
 
 -- ---- a table from its sections
 
 abbrev told-table : List ℕ → Found Modes → Told
 told-table t x = elim x [ found m left ↦ accepted (length t) (length (m .children) + length (m .content)) | fault k left ↦ refused k (placeIn t left) ]
 
-abbrev with-second : List (List ℕ) → Found (List (List ℕ)) → Found Modes
-with-second children x = andThen x (λ content spare. wholly (record { children = children; content = content }) spare)
-
 by-table : (t : List ℕ) → readTable t ≡ told-table t (modeTable t)
 unfolding readTable
 by-table t = refl
 
-by-sections : (t : List ℕ) → readTable t ≡ told-table t (andThen (section [] t) (λ children left. with-second children (section children left)))
+abbrev by-second : List ℕ → List (List ℕ) → Found (List (List ℕ)) → Told
+by-second t children x = told-table t (with-second children x)
+
+abbrev by-first : List ℕ → Found (List (List ℕ)) → Told
+by-first t x = told-table t (andThen x (λ children left. with-second children (section children left)))
+
+by-sections : (t : List ℕ) → readTable t ≡ by-first t (section [] t)
 unfolding modeTable
 by-sections t = by-table t
 
 module _ (t : List ℕ) where
-  pub first-refused : (a : Answer) (why : Refusal) (p : ℕ) → told a ≡ toldOf length t (section (namesOf 0 (drop 1 t)) (drop 0 t)) → a ≡ Refused why p → told a ≡ readTable t
+  pub first-refused : (a : Answer) (why : Refusal) (p : ℕ) → told a ≡ toldOf length t (section (namesOf 0 (drop 1 t)) (drop 0 t))
+      → a ≡ Refused why p → told a ≡ readTable t
   unfolding namesOf
-  first-refused a why p e r = rw (by-sections t) (go (section [] t) e)
-    where
-      go : (x : Found (List (List ℕ))) → told a ≡ toldOf length t x → told a ≡ told-table t (andThen x (λ children left. with-second children (section children left)))
-      go (fault k left) e = e
-      go (found names left) e = absurd (number-positive why (ap (λ (x : Told). x .number) (rw r at e)))
+  first-refused a why p e r = rw (by-sections t) (passed-on length t (by-first t) (λ k left. refl) (section [] t) a why p e r)
 
   module _ (place children : ℕ) (first : Read t (namesOf 0 (drop 1 t)) 0 place children) where
-    second : readTable t ≡ told-table t (with-second (namesOf children (drop 1 t)) (section (namesOf children (drop 1 t)) (drop place t)))
+    second : readTable t ≡ by-second t (namesOf children (drop 1 t)) (section (namesOf children (drop 1 t)) (drop place t))
     unfolding namesOf
     second = rw (by-sections t, first .same)
 
-    pub second-refused : (a : Answer) (why : Refusal) (p : ℕ) → told a ≡ toldOf length t (section (namesOf children (drop 1 t)) (drop place t)) → a ≡ Refused why p → told a ≡ readTable t
-    second-refused a why p e r = rw second (go (section (namesOf children (drop 1 t)) (drop place t)) e)
-      where
-        go : (x : Found (List (List ℕ))) → told a ≡ toldOf length t x → told a ≡ told-table t (with-second (namesOf children (drop 1 t)) x)
-        go (fault k left) e = e
-        go (found names left) e = absurd (number-positive why (ap (λ (x : Told). x .number) (rw r at e)))
+    pub second-refused : (a : Answer) (why : Refusal) (p : ℕ) → told a ≡ toldOf length t (section (namesOf children (drop 1 t)) (drop place t))
+        → a ≡ Refused why p → told a ≡ readTable t
+    second-refused a why p e r =
+        rw second
+        (passed-on length t (by-second t (namesOf children (drop 1 t))) (λ k left. refl) (section (namesOf children (drop 1 t)) (drop place t)) a why p e r)
 
     module _ (end content : ℕ) (rest : Read t (namesOf children (drop 1 t)) place end content) where
       pub table-spare : end < length t → refused 1 end ≡ readTable t
@@ -115,7 +117,7 @@ valid t a e z = go (modeTable t) refl (table-good t)
     go : (x : Found Modes) → modeTable t ≡ x → Good (Laid t) x → Valid t
     go (found m left) q g = rw (modes-found t m left q, q, g .whole)
     go (fault k left) q g =
-        let n : told a .number ≡ k = ap (λ (x : Told). x .number) (e ∙ by-table t ∙ ap (told-table t) q) in
+        let n : told a .number ≡ k = number-told (e ∙ by-table t ∙ ap (told-table t) q) in
         absurd (omega (arith, g))
 
 pub accepted-valid : (t : List ℕ) (a : Answer) (p n : ℕ) → told a ≡ readTable t → a ≡ Accepted p n → Valid t

@@ -14,7 +14,6 @@ use Rattle.paper.specs.Names.{among}
 use Rattle.paper.proofs.Tests.{split}
 use Rattle.text.proofs.Places.{here}
 use Rattle.modes.specs.Table.{namesOf, sizeOf, Whole, searched}
-use Rattle.modes.specs.declared.Search.{Search}
 use Rattle.modes.specs.declared.Search.the-variants.{Here, Past}
 
 -- ---- one name
@@ -41,10 +40,10 @@ module _ (t : List ℕ) (at n : ℕ) (due : 0 < n) where
   inside w = omega (arith, size-some n (drop at t) due, length-drop at t)
 
   module _ (h : at < length t) where
-    pub sizes-on : sizeOf n (drop at t) ≡ 1 + getD t at 0 + sizeOf (n - 1) (drop (at + 1 + getD t at 0) t)
+    sizes-on : sizeOf n (drop at t) ≡ 1 + getD t at 0 + sizeOf (n - 1) (drop (at + 1 + getD t at 0) t)
     sizes-on = rw (here t at h, sizes-next n (getD t at 0) (drop (at + 1) t) due, drop-drop)
 
-    pub names-on : namesOf n (drop at t) ≡ take (getD t at 0) (drop (at + 1) t) ∷ namesOf (n - 1) (drop (at + 1 + getD t at 0) t)
+    names-on : namesOf n (drop at t) ≡ take (getD t at 0) (drop (at + 1) t) ∷ namesOf (n - 1) (drop (at + 1 + getD t at 0) t)
     names-on = rw (here t at h, names-next n (getD t at 0) (drop (at + 1) t) due, drop-drop)
 
     pub fits-on : Whole n (drop at t) → at + 1 + getD t at 0 ≤ length t
@@ -76,7 +75,8 @@ module _ (t : List ℕ) (start i place : ℕ) (ends : place ≡ start + sizeOf i
   unfolding sizeOf
   sizes-more =
       let w : Whole i (drop start t) = omega (arith, length-drop start t) in
-      let one : sizeOf (i + 1) (drop start t) ≡ sizeOf i (drop start t) + sizeOf 1 (drop place t) = rw (add-one i, sizes-snoc i (drop start t) w, drop-drop, ← ends) in
+      let one : sizeOf (i + 1) (drop start t) ≡ sizeOf i (drop start t) + sizeOf 1 (drop place t)
+      = rw (add-one i, sizes-snoc i (drop start t) w, drop-drop, ← ends) in
       omega (arith, sizes-on t place 1 (omega arith) h)
 
 -- ---- a name among others
@@ -89,7 +89,7 @@ among-on : (v w : List ℕ) (ns : List (List ℕ)) → same v w ≡ false → am
 unfolding among
 among-on v w ns e = rw (e, among)
 
-pub among-either : (ms ns : List (List ℕ)) (w : List ℕ) → among (ms ++ ns) w ≡ (among ms w || among ns w)
+among-either : (ms ns : List (List ℕ)) (w : List ℕ) → among (ms ++ ns) w ≡ (among ms w || among ns w)
 unfolding among
 among-either [] ns w = refl
 among-either (m ∷ ms) ns w =
@@ -112,7 +112,8 @@ module _ (t : List ℕ) (at n : ℕ) (w : List ℕ) where
 
     pub search-on : o ≡ false → searched (at + 1 + getD t at 0) (n - 1) (drop (at + 1 + getD t at 0) t) w ≡ searched at n (drop at t) w
     search-on y =
-        let size : at + sizeOf n (drop at t) ≡ at + 1 + getD t at 0 + sizeOf (n - 1) (drop (at + 1 + getD t at 0) t) = omega (arith, sizes-on t at n due h) in
+        let size : at + sizeOf n (drop at t) ≡ at + 1 + getD t at 0 + sizeOf (n - 1) (drop (at + 1 + getD t at 0) t)
+        = omega (arith, sizes-on t at n due h) in
         rw (names-on t at n due h, among-on _ w _ (compared ∙ y), size)
 
 -- ---- what a search says of its names
@@ -122,7 +123,9 @@ module _ (at n : ℕ) (s w : List ℕ) where
   stands e = split (among (namesOf n s) w) (λ y. y) (λ y. let f : Here ≡ Past (at + sizeOf n s) = rw y at e in cc)
 
   pub absent : (p : ℕ) → Past p ≡ searched at n s w → (among (namesOf n s) w ≡ false) × (p ≡ at + sizeOf n s)
-  absent p e = split (among (namesOf n s) w) (λ y. let f : Past p ≡ Here = rw y at e in (cc, cc)) (λ y. let f : Past p ≡ Past (at + sizeOf n s) = rw y at e in (y, cc))
+  absent p e =
+      split (among (namesOf n s) w) (λ y. let f : Past p ≡ Here = rw y at e in (cc, cc))
+      (λ y. let f : Past p ≡ Past (at + sizeOf n s) = rw y at e in (y, cc))
 
 module _ (a n m : ℕ) (s r w : List ℕ) where
   pub stands-first : Here ≡ searched a n s w → true ≡ among (namesOf n s ++ namesOf m r) w

@@ -1,9 +1,9 @@
 -- The name rule: a turn of the loop that counts capitals, its ends, and the rule from how a name starts.
 -- Over plain lists. Assumes nothing.
 use Prim.Native.Nat.{ℕ, _+_, _≤_, _<_}
-use mathlib.Core.Path.{_≡_, refl, sym, _∙_}
+use mathlib.Core.Path.{_≡_, refl, sym}
 use mathlib.Core.List.{List, [], _∷_}
-use mathlib.Core.Bool.{Bool, true, false, _&&_}
+use mathlib.Core.Bool.{Bool, true, false, _&&_, and-false}
 use native.Mathlib.Omega.{arith}
 use lib.ListN.{length, getD, drop, drop-of-length-le}
 use borrow.Author.Tests.{lt-ltb, le-ltb, le-leb, lt-leb}
@@ -39,13 +39,9 @@ capitals-end s i n h = rw (drop-of-length-le s h)
 abbrev pub kept : List ℕ → Bool
 kept w = fewCapitals 0 w && shortName w
 
-none : (p : Bool) → (p && false) ≡ false
-none true = refl
-none false = refl
-
 module _ (w : List ℕ) where
   pub too-long : nameLimit < length w → false ≡ kept w
-  too-long h = rw (lt-leb (length w) nameLimit h) (sym (none (fewCapitals 0 w)))
+  too-long h = rw (lt-leb (length w) nameLimit h) (sym (and-false (fewCapitals 0 w)))
 
   pub broken : fewCapitals 0 w ≡ false → false ≡ kept w
   broken e = rw e

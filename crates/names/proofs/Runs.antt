@@ -1,6 +1,6 @@
 -- The run of letters and digits at a position: a turn of the loop that walks it, and its two ends.
 -- Over plain lists. Assumes nothing.
-use Prim.Native.Nat.{ℕ, suc, _+_, _≤_, _<_}
+use Prim.Native.Nat.{ℕ, _+_, _≤_, _<_}
 use mathlib.Core.Path.{_≡_}
 use mathlib.Core.List.{List}
 use mathlib.Core.Bool.{true, false}

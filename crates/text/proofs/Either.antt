@@ -1,6 +1,6 @@
 -- What code leaves of `p || q`: the first half where that holds, else the second.
 -- Of booleans alone. Assumes nothing.
-use mathlib.Core.Path.{_≡_, refl, sym, _∙_}
+use mathlib.Core.Path.{_≡_, sym, _∙_}
 use mathlib.Core.Bool.{Bool, true, false, _||_}
 
 pub either-first : {p r : Bool} (q : Bool) → r ≡ p → r ≡ true → r ≡ (p || q)

@@ -12,7 +12,8 @@ use Rattle.modes.proofs.find.Statement.{statement}
 use Rattle.modes.proofs.find.Tie as tie
 
 abbrev Inv-loop : tie.InvT-loop
-Inv-loop table start count name at₀ left₀ at left = Whole left (drop at table) × (searched at left (drop at table) name ≡ searched start count (drop start table) name)
+Inv-loop table start count name at₀ left₀ at left =
+    Whole left (drop at table) × (searched at left (drop at table) name ≡ searched start count (drop start table) name)
 
 abbrev μ-loop : tie.MeasureT-loop
 μ-loop table start count name at₀ left₀ at left = left
@@ -69,8 +70,10 @@ loop-less c = omega arith
 loop-again : tie.Need-loop-again Inv-loop μ-loop
 loop-again c =
     let turn = c .before .before .before .before in
-    let loop = turn .before in
-    (whole-on _ _ _ (turn .loop-test .taken) (due turn) (loop .loop .inv .0), search-on _ _ _ _ (turn .loop-test .taken) (due turn) _ (c .before .same .ensures) (c .if1 .left) ∙ loop .loop .inv .1)
+    let loop = turn .before in (
+      whole-on _ _ _ (turn .loop-test .taken) (due turn) (loop .loop .inv .0),
+      search-on _ _ _ _ (turn .loop-test .taken) (due turn) _ (c .before .same .ensures) (c .if1 .left) ∙ loop .loop .inv .1,
+    )
 
 returns-2 : tie.Need-returns-2 Inv-loop μ-loop
 returns-2 c = search-past _ _ _ _ (c .loop-test .left) ∙ c .before .loop .inv .1

@@ -13,7 +13,8 @@ abbrev start : tie.After-known-told → tie.Start
 start c = c .before .before .before .before .before .before .before
 
 -- the first section is passed
-past : (c : tie.After-known-told) → Past (c .before .middle .given .0 .0) ≡ searched 1 (getD (start c .args .table .now) 0 0) (drop 1 (start c .args .table .now)) (start c .args .name .now)
+past : (c : tie.After-known-told)
+    → Past (c .before .middle .given .0 .0) ≡ searched 1 (getD (start c .args .table .now) 0 0) (drop 1 (start c .args .table .now)) (start c .args .name .now)
 past c = sym (c .before .middle .given .1) ∙ c .before .before .before .find .ensures
 
 shared-slice-read-children : tie.Need-shared-slice-read-children
@@ -54,11 +55,13 @@ enum-told-3 c = search needs
 
 returns-2 : tie.Need-returns-2
 returns-2 c =
-    mode-content _ _ (start (c .before .before .before .before) .pre) _ (past (c .before .before .before .before)) (sym (c .enum-told3 .given .1) ∙ c .before .before .find2 .ensures)
+    mode-content _ _ (start (c .before .before .before .before) .pre) _ (past (c .before .before .before .before))
+    (sym (c .enum-told3 .given .1) ∙ c .before .before .find2 .ensures)
 
 returns-3 : tie.Need-returns-3
 returns-3 c =
-    mode-absent _ _ (start (c .before .before .before .before) .pre) _ (past (c .before .before .before .before)) _ (sym (c .enum-told2 .given .1) ∙ c .before .before .find2 .ensures)
+    mode-absent _ _ (start (c .before .before .before .before) .pre) _ (past (c .before .before .before .before)) _
+    (sym (c .enum-told2 .given .1) ∙ c .before .before .find2 .ensures)
 
 pub mode-of-spec : {M : Type 1} → statement M
 mode-of-spec =

@@ -12,13 +12,24 @@ use Rattle.modes.proofs.read.Statement.{statement}
 use Rattle.modes.proofs.read.Tie as tie
 
 -- the two sections that were read
+
 abbrev table : tie.After-known-told → List ℕ
 table c = c .before .before .before .before .before .args .table .now
 
-first-read : (c : tie.After-known-told) → Read (table c) (namesOf 0 (drop 1 (table c))) 0 (c .before .first .given .0 .0) (c .before .first .given .0 .1 .0)
+abbrev middle : tie.After-known-told → ℕ
+middle c = c .before .first .given .0 .0
+
+abbrev children : tie.After-known-told → ℕ
+children c = c .before .first .given .0 .1 .0
+
+first-read : (c : tie.After-known-told) → Read (table c) (namesOf 0 (drop 1 (table c))) 0 (middle c) (children c)
 first-read c = section-read _ _ _ _ _ (sym (ap told (c .before .first .given .1)) ∙ c .before .before .before .read-section .ensures)
 
-second-read : (c : tie.After-known-told2) → Read (table (c .before .before .before .before)) (namesOf (c .before .before .before .before .before .first .given .0 .1 .0) (drop 1 (table (c .before .before .before .before)))) (c .before .before .before .before .before .first .given .0 .0) (c .before .second .given .0 .0) (c .before .second .given .0 .1 .0)
+abbrev first : tie.After-known-told2 → tie.After-known-told
+first c = c .before .before .before .before
+
+second-read : (c : tie.After-known-told2)
+    → Read (table (first c)) (namesOf (children (first c)) (drop 1 (table (first c)))) (middle (first c)) (c .before .second .given .0 .0) (c .before .second .given .0 .1 .0)
 second-read c = section-read _ _ _ _ _ (sym (ap told (c .before .second .given .1)) ∙ c .before .before .before .read-section2 .ensures)
 
 read-section-requires : tie.Need-read-section-requires
@@ -52,14 +63,16 @@ refuse-requires c κs = search needs
 returns-3 : tie.Need-returns-3
 returns-3 c =
     let second = c .before .before in
-    let first = second .before .before .before .before in
-    c .refuse .ensures ∙ table-spare _ _ _ (first-read first) _ _ (second-read second) (c .before .if1 .taken)
+    c .refuse .ensures ∙ table-spare _ _ _ (first-read (first second)) _ _ (second-read second) (c .before .if1 .taken)
 
 add-t8 : tie.Need-add-t8
-add-t8 c = let f = first-read (c .before .before .before .before .before) in let s = second-read (c .before) in omega arith
+add-t8 c =
+    let f = first-read (first (c .before)) in
+    let s = second-read (c .before) in
+    omega arith
 
 returns-4 : tie.Need-returns-4
-returns-4 c = table-done _ _ _ (first-read (c .before .before .before .before .before)) _ _ (second-read (c .before)) (c .if1 .left)
+returns-4 c = table-done _ _ _ (first-read (first (c .before))) _ _ (second-read (c .before)) (c .if1 .left)
 
 pub read-spec : {M : Type 1} → statement M
 read-spec =

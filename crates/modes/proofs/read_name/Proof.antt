@@ -49,7 +49,9 @@ refuse-requires-3 c κs = search needs
 
 returns-3 : tie.Need-returns-3
 returns-3 c =
-    c .refuse3 .ensures ∙ name-short (table (c .before .before .before .before .before)) _ (inside (c .before .before .before .before .before)) (c .before .before .before .if2 .left) (ltb-false _ _ (c .before .before .if3 .left)) (c .before .if4 .taken)
+    let there = c .before .before .before .before .before in
+    c .refuse3 .ensures
+    ∙ name-short (table there) _ (inside there) (c .before .before .before .if2 .left) (ltb-false _ _ (c .before .before .if3 .left)) (c .before .if4 .taken)
 
 add-end : tie.Need-add-end
 add-end c = omega arith
@@ -72,13 +74,13 @@ refuse-requires-4 c κs = search needs
 returns-4 : tie.Need-returns-4
 returns-4 c =
     c .refuse4 .ensures
-    ∙ name-broken _ _ (inside (c .before .before .before .before .before .before .before .before)) (c .before .before .before .before .before .before .if2 .left) (ltb-false _ _ (c .before .before .before .before .before .if3 .left)) (c .before .before .before .before .if4 .left)
-    _ (c .before .before .is-concept-name .ensures) (c .before .if5 .taken)
+    ∙ name-broken _ _ (inside (c .before .before .before .before .before .before .before .before)) (c .before .before .before .before .before .before .if2 .left)
+    (ltb-false _ _ (c .before .before .before .before .before .if3 .left)) (c .before .before .before .before .if4 .left) _ (c .before .before .is-concept-name .ensures) (c .before .if5 .taken)
 
 returns-5 : tie.Need-returns-5
 returns-5 c =
-    name-good _ _ (inside (c .before .before .before .before .before .before .before)) (c .before .before .before .before .before .if2 .left) (ltb-false _ _ (c .before .before .before .before .if3 .left)) (c .before .before .before .if4 .left)
-    _ (c .before .is-concept-name .ensures) (c .if5 .left)
+    name-good _ _ (inside (c .before .before .before .before .before .before .before)) (c .before .before .before .before .before .if2 .left)
+    (ltb-false _ _ (c .before .before .before .before .if3 .left)) (c .before .before .before .if4 .left) _ (c .before .is-concept-name .ensures) (c .if5 .left)
 
 pub read-name-spec : {M : Type 1} → statement M
 read-name-spec =

@@ -1,6 +1,6 @@
 -- The invariant: what stands from `i` on, with the capitals directly before it, decides as the whole name does.
 -- The measure is what is left of the name.
-use Prim.Native.Nat.{_≤_, _<_, _-_}
+use Prim.Native.Nat.{_≤_, _-_}
 use mathlib.Core.Path.{_≡_, sym, _∙_}
 use mathlib.Core.Logic.{⊎-elim}
 use native.Mathlib.Omega.{arith}
@@ -33,8 +33,8 @@ is-upper-requires c κs = search needs
 returns-2 : tie.Need-returns-2 Inv-loop μ-loop
 returns-2 c =
     let turn = c .before .before .before .before in
-    let loop = turn .before in
-    broken _ (sym (loop .loop .inv .2) ∙ third-capital _ _ _ (turn .loop-test .taken) (sym (c .before .before .is-upper .ensures) ∙ c .before .if2 .taken) (omega arith))
+    let upper = sym (c .before .before .is-upper .ensures) ∙ c .before .if2 .taken in
+    broken _ (sym (turn .before .loop .inv .2) ∙ third-capital _ _ _ (turn .loop-test .taken) upper (omega arith))
 
 add-capitals : tie.Need-add-capitals Inv-loop μ-loop
 add-capitals c = omega arith
@@ -45,8 +45,9 @@ is-name-byte-requires c κs = search needs
 returns-3 : tie.Need-returns-3 Inv-loop μ-loop
 returns-3 c =
     let turn = c .before .before .before .before .before in
-    let loop = turn .before in
-    broken _ (sym (loop .loop .inv .2) ∙ no-name-byte _ _ _ (turn .loop-test .taken) (sym (c .before .before .before .is-upper .ensures) ∙ c .before .before .if2 .left) (sym (c .before .is-name-byte .ensures) ∙ not-true _ (c .if4 .taken)))
+    let other = sym (c .before .before .before .is-upper .ensures) ∙ c .before .before .if2 .left in
+    let no-byte = sym (c .before .is-name-byte .ensures) ∙ not-true _ (c .if4 .taken) in
+    broken _ (sym (turn .before .loop .inv .2) ∙ no-name-byte _ _ _ (turn .loop-test .taken) other no-byte)
 
 add-i : tie.Need-add-i Inv-loop μ-loop
 add-i c = omega arith
@@ -56,10 +57,16 @@ loop-less c = omega arith
 
 loop-again : tie.Need-loop-again Inv-loop μ-loop
 loop-again c =
-    let u = c .before .is-upper .ensures in
+    let turn = c .before .before .before in
+    let so-far = turn .before .loop .inv .2 in
+    let upper = c .before .is-upper .ensures in
     ⊎-elim
-    (λ w. (omega arith, omega arith, rw (w .2) (sym (one-capital _ _ _ (c .before .before .before .loop-test .taken) (sym u ∙ w .0 .taken) (omega arith)) ∙ c .before .before .before .before .loop .inv .2)))
-    (λ w. (omega arith, omega arith, rw (w .3) (sym (no-capital _ _ _ (c .before .before .before .loop-test .taken) (sym u ∙ w .0 .left) (sym (w .1 .ensures) ∙ not-false _ (w .2 .left))) ∙ c .before .before .before .before .loop .inv .2)))
+    (λ w. (omega arith, omega arith, rw (w .2) (sym (one-capital _ _ _ (turn .loop-test .taken) (sym upper ∙ w .0 .taken) (omega arith)) ∙ so-far)))
+    (λ w. (
+      omega arith,
+      omega arith,
+      rw (w .3) (sym (no-capital _ _ _ (turn .loop-test .taken) (sym upper ∙ w .0 .left) (sym (w .1 .ensures) ∙ not-false _ (w .2 .left))) ∙ so-far),
+    ))
     (c .if2 .came)
 
 returns-4 : tie.Need-returns-4 Inv-loop μ-loop

@@ -29,8 +29,8 @@ is-name-byte-requires c κs = search needs
 returns : tie.Need-returns Inv-loop μ-loop
 returns c =
     let turn = c .before .before .before in
-    let loop = turn .before in
-    (sym (run-stops _ _ (turn .loop-test .taken) (sym (c .before .is-name-byte .ensures) ∙ not-true _ (c .if1 .taken))) ∙ loop .loop .inv .2, omega arith, omega arith)
+    let other = sym (c .before .is-name-byte .ensures) ∙ not-true _ (c .if1 .taken) in
+    (sym (run-stops _ _ (turn .loop-test .taken) other) ∙ turn .before .loop .inv .2, omega arith, omega arith)
 
 add-i : tie.Need-add-i Inv-loop μ-loop
 add-i c = omega arith
@@ -41,8 +41,8 @@ loop-less c = omega arith
 loop-again : tie.Need-loop-again Inv-loop μ-loop
 loop-again c =
     let turn = c .before .before .before in
-    let loop = turn .before in
-    (omega arith, omega arith, sym (run-more _ _ (turn .loop-test .taken) (sym (c .before .is-name-byte .ensures) ∙ not-false _ (c .if1 .left))) ∙ loop .loop .inv .2)
+    let byte = sym (c .before .is-name-byte .ensures) ∙ not-false _ (c .if1 .left) in
+    (omega arith, omega arith, sym (run-more _ _ (turn .loop-test .taken) byte) ∙ turn .before .loop .inv .2)
 
 returns-2 : tie.Need-returns-2 Inv-loop μ-loop
 returns-2 c = (sym (run-cut _ _ (c .loop-test .left)) ∙ c .before .loop .inv .2, omega arith, omega arith)
