@@ -38,6 +38,7 @@ text-escape b l (fault n left) e h = record { least = h .least; most = h .most; 
 
 mutual
   unfolding textOf annotationText
+
   pub text-reads : (s : List ℕ) → Reads s (λ t left. ReadText s t left) (textOf s)
   text-reads [] = fault-end []
   text-reads (b ∷ l) =
@@ -52,14 +53,15 @@ mutual
 
 mutual
   unfolding textOf annotationText elem
+
   pub text-complete : (t next : List ℕ) → annotationText t ≡ true → textOf (t ++ (byte "]" ∷ next)) ≡ found t next
   text-complete [] next e = refl
   text-complete (b ∷ t) next e =
       split (eqb b (byte "\\"))
       (λ f. rw (eqb-true b (byte "\\") f) (escape-complete (byte "\\" ∷ (t ++ (byte "]" ∷ next))) t next (rw (f, annotationText) at e)))
       (λ f. let h = both (not (eqb b (byte "]") || isLineEnd b)) (annotationText t) (rw (f, annotationText) at e) in
-        split (eqb b (byte "]")) (λ g. true-false (sym (h .0) ∙ rw g))
-        (λ g. split (isLineEnd b) (λ k. true-false (sym (h .0) ∙ rw (g, k))) (λ k. rw (g, textOf, f, k, text-complete t next (h .1)))))
+      split (eqb b (byte "]")) (λ g. true-false (sym (h .0) ∙ rw g))
+      (λ g. split (isLineEnd b) (λ k. true-false (sym (h .0) ∙ rw (g, k))) (λ k. rw (g, textOf, f, k, text-complete t next (h .1)))))
 
   escape-complete : (back t next : List ℕ) → annotationEscape t ≡ true → escapeOf back (t ++ (byte "]" ∷ next)) ≡ found (byte "\\" ∷ t) next
   escape-complete back [] next e = true-false (sym e)
@@ -88,8 +90,8 @@ annotation-reads room tabs s =
     (λ t mid u r. reads-on s (λ v end. (0 < room) × (v ≡ t) × (end ≡ mid)) _ _ (makes room s t mid) (makes-reads s room s t mid whole u)
     (λ v end u m. reads-on s (λ b left. ReadBlank end b left) _ _ (lineRest end) (reads-in u (λ b left. ReadBlank end b left) (lineRest end) (rest-reads end))
     (λ b left u k.
-      let c : s ≡ v ++ (byte "]" ∷ blankOnto b left) = r .covers ∙ rw (m .1) (ap (λ (l : List ℕ). t ++ (byte "]" ∷ l)) (sym (m .2) ∙ k .covers)) in
-      (u, record { covers = c; rule = and {a = annotationText v} (rw (m .1) (r .rule)) (k .rule); fits = m .0; at = refl; shorter = omega (arith, ap length (r .covers), length-append t (byte "]" ∷ mid), ap length (m .2), k .shorter) }))))
+    let c : s ≡ v ++ (byte "]" ∷ blankOnto b left) = r .covers ∙ rw (m .1) (ap (λ (l : List ℕ). t ++ (byte "]" ∷ l)) (sym (m .2) ∙ k .covers)) in
+    (u, record { covers = c; rule = and {a = annotationText v} (rw (m .1) (r .rule)) (k .rule); fits = m .0; at = refl; shorter = omega (arith, ap length (r .covers), length-append t (byte "]" ∷ mid), ap length (m .2), k .shorter) }))))
 
 -- a line that begins with tabs and "["
 turn-reads : (room : ℕ) (s : List ℕ) → Turns s (λ a left. ReadAnnotation room s a left) (λ left. (s ≡ left) × (startsWith (bytes "[") (behind isTab s) ≡ false)) (annotationTurn room s)
@@ -123,7 +125,7 @@ annotations-reads room s =
     (record {
       of-turn = λ room s a left. ReadAnnotation room s a left;
       of-end = λ room s left. (s ≡ left) × (startsWith (bytes "[") (behind isTab s) ≡ false);
-      of-run = λ room s notes left. ReadAnnotations room s notes left
+      of-run = λ room s notes left. ReadAnnotations room s notes left;
     })
     turn-reads
     (λ room s left e. record { covers = e .0; rule = refl; fits = omega arith })

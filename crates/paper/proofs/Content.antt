@@ -80,13 +80,16 @@ unfolding textLine
 text-reads s =
     reads-on s (λ b left. (b .blanks ≡ []) × (onward isLineEnd s ≡ lineEndOnto (b .end) left)) _ _ (lineEnd [] (onward isLineEnd s))
     (reads-in (tail-drop (lengthIn (λ b. not (isLineEnd b)) s) s) _ (lineEnd [] (onward isLineEnd s)) (line-end-reads [] (onward isLineEnd s)))
-    (λ b left u h. (u, record {
-      written = upTo isLineEnd s;
-      end = b .end;
-      is-text = refl;
-      covers = sym (front-behind (λ b. not (isLineEnd b)) s) ∙ ap (λ (l : List ℕ). upTo isLineEnd s ++ l) (h .1);
-      no-ends = front-all (λ b. not (isLineEnd b)) s
-    }))
+    (λ b left u h. (
+      u,
+      record {
+        written = upTo isLineEnd s;
+        end = b .end;
+        is-text = refl;
+        covers = sym (front-behind (λ b. not (isLineEnd b)) s) ∙ ap (λ (l : List ℕ). upTo isLineEnd s ++ l) (h .1);
+        no-ends = front-all (λ b. not (isLineEnd b)) s;
+      },
+    ))
 
 -- a line end stops the text
 stops-text : (e : LineEnd) (next : List ℕ) → startsIn (λ b. not (isLineEnd b)) (lineEndOnto e next) ≡ false
@@ -165,7 +168,7 @@ inked (b ∷ t) e r =
     let h = all-head (λ b. not (isLineEnd b)) b t r in
     split (isBlank b)
     (λ f. let k = inked t (rw f at e) (h .1) in
-      record { blanks = b ∷ k .blanks; first = k .first; others = k .others; is-text = ap (λ (l : List ℕ). b ∷ l) (k .is-text); blank-front = and f (k .blank-front); no-blank = k .no-blank; no-end = k .no-end })
+    record { blanks = b ∷ k .blanks; first = k .first; others = k .others; is-text = ap (λ (l : List ℕ). b ∷ l) (k .is-text); blank-front = and f (k .blank-front); no-blank = k .no-blank; no-end = k .no-end })
     (λ f. record { blanks = []; first = b; others = t; is-text = refl; blank-front = refl; no-blank = f; no-end = not-true (isLineEnd b) (h .0) })
 
 -- a line of text: its first byte that is no blank, and its text behind the tabs
@@ -210,7 +213,7 @@ lines-reads tabs w s =
     (record {
       of-turn = λ room s l left. ReadLine tabs s l left;
       of-end = λ room s left. (s ≡ left) × (closesLine tabs w s ≡ true);
-      of-run = λ room s lines left. ReadLines tabs w s lines left
+      of-run = λ room s lines left. ReadLines tabs w s lines left;
     })
     (line-reads tabs w)
     (λ room s left e. record { covers = e .0; rule = refl; closed = rw (← e .0) (e .1) })
@@ -242,15 +245,18 @@ content-reads tabs room k s =
     reads-on s (λ b left. ReadBlank s b left) _ _ (lineRest s) (rest-reads s)
     (λ b mid u r. reads-on s (λ v end. (0 < room) × (v ≡ b) × (end ≡ mid)) _ _ (makes room mid b mid) (makes-reads s room mid b mid u u)
     (λ v start u m. reads-on s (λ lines left. ReadLines tabs (k .name) start lines left) _ _ (manyOf (λ l. 0) (lineTurn tabs (k .name)) 0 start) (reads-in u _ (manyOf (λ l. 0) (lineTurn tabs (k .name)) 0 start) (lines-reads tabs (k .name) start))
-    (λ lines left u q. (tail-then u (tail-drop (length (closingMark tabs (k .name))) left), record {
-      rest = v;
-      lines = lines;
-      is-content = refl;
-      covers = r .covers ∙ ap (blankOnto b) (sym (m .2) ∙ q .covers ∙ ap (linesOnto tabs lines) (closes-is tabs (k .name) left (q .closed))) ∙ rw (m .1);
-      rest-rule = rw (m .1) (r .rule);
-      lines-rule = q .rule;
-      fits = m .0
-    }))))
+    (λ lines left u q. (
+      tail-then u (tail-drop (length (closingMark tabs (k .name))) left),
+      record {
+        rest = v;
+        lines = lines;
+        is-content = refl;
+        covers = r .covers ∙ ap (blankOnto b) (sym (m .2) ∙ q .covers ∙ ap (linesOnto tabs lines) (closes-is tabs (k .name) left (q .closed))) ∙ rw (m .1);
+        rest-rule = rw (m .1) (r .rule);
+        lines-rule = q .rule;
+        fits = m .0;
+      },
+    ))))
 
 pub content-complete : (tabs room : ℕ) (k : Marker) (rest : Blank) (lines : List Line) (next : List ℕ) → blankRule rest ≡ true → all lineRule lines ≡ true → 0 < room → atLineEnd (behind isBlank next) ≡ true → contentOf tabs room k (blankOnto rest (linesOnto tabs lines (tabsOnto tabs (closingOnto (k .name) next)))) ≡ found (content k rest lines) next
 unfolding contentOf

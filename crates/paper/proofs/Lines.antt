@@ -52,15 +52,18 @@ rest-reads s = go (lineRest s) (line-end-reads (front isBlank s) (behind isBlank
     end-shorter : (e : LineEnd) (left : List ℕ) → length left < length (lineEndOnto e left)
     end-shorter LF left = omega arith
     end-shorter CRLF left = omega arith
+
     go : (x : Found Blank) → Reads (behind isBlank s) (λ b left. (b .blanks ≡ front isBlank s) × (behind isBlank s ≡ lineEndOnto (b .end) left)) x → Reads s (λ b left. ReadBlank s b left) x
     go (fault n left) h = record { least = h .least; most = h .most; tail = tail-then (tail-drop (lengthIn isBlank s) s) (h .tail) }
     go (found b left) h =
-        let c : s ≡ blankOnto b left = sym (front-behind isBlank s) ∙ rw (h .1 .0, ← h .1 .1) in
-        (tail-then (tail-drop (lengthIn isBlank s) s) (h .0), record {
-          covers = c;
-          rule = rw (h .1 .0) (front-all isBlank s);
-          shorter = omega (arith, ap length c, length-append (b .blanks) (lineEndOnto (b .end) left), end-shorter (b .end) left)
-        })
+        let c : s ≡ blankOnto b left = sym (front-behind isBlank s) ∙ rw (h .1 .0, ← h .1 .1) in (
+          tail-then (tail-drop (lengthIn isBlank s) s) (h .0),
+          record {
+            covers = c;
+            rule = rw (h .1 .0) (front-all isBlank s);
+            shorter = omega (arith, ap length c, length-append (b .blanks) (lineEndOnto (b .end) left), end-shorter (b .end) left);
+          },
+        )
 
 -- a line end is no blank
 pub ends-blank : (e : LineEnd) (next : List ℕ) → startsIn isBlank (lineEndOnto e next) ≡ false
@@ -97,7 +100,7 @@ blank-says : Says Blank
 blank-says = record {
   of-turn = λ room s b left. ReadBlank s b left;
   of-end = λ room s left. (s ≡ left) × (isBlankLine s ≡ false);
-  of-run = λ room s bs left. ReadBlanks s bs left
+  of-run = λ room s bs left. ReadBlanks s bs left;
 }
 
 blank-turns : (room : ℕ) (s : List ℕ) → Turns s (λ b left. ReadBlank s b left) (λ left. (s ≡ left) × (isBlankLine s ≡ false)) (blankTurn room s)
