@@ -2,14 +2,14 @@
 -- Document 01, "The grammar", Bytes; RFC 3629 §3 and §4. Assumes nothing.
 use Prim.Native.Nat.{ℕ, zero, suc, _+_, _-_, _*_, _/_, _%_, _≤_, _<_}
 use mathlib.Core.Path.{_≡_, refl, sym, ap, _∙_}
-use mathlib.Core.Bool.{Bool, true, false, _||_}
-use mathlib.Core.List.{List, [], _∷_, _++_, append-assoc, append-nil}
+use mathlib.Core.Bool.{true, false}
+use mathlib.Core.List.{List, [], _∷_, _++_}
 use native.Mathlib.Omega.{arith}
 use lib.ListN.{length, length-append}
-use lib.Dec.{leb, eqb}
-use borrow.Author.Tests.{leb-true, leb-false, le-leb, lt-leb, eqb-true, eqb-false, ne-eqb}
-use Rattle.paper.specs.Found.{Found, found, fault, andThen, pick}
-use Rattle.paper.specs.Bytes.{within, Row, one, two, three, four, none, rowOf, follower, scalar, mayStand, scalars, sheetBytes, isScalar, encode, all, encodeAll, startsWith, byteOrderMark}
+use lib.Dec.{leb}
+use borrow.Author.Tests.{leb-true, le-leb, lt-leb, ne-eqb}
+use Rattle.paper.specs.Found.{Found, found, fault, andThen}
+use Rattle.paper.specs.Bytes.{Row, one, two, three, four, none, rowOf, follower, scalar, mayStand, scalars, sheetBytes, isScalar, encode, all, encodeAll, startsWith, byteOrderMark}
 use Rattle.paper.proofs.Tests.{split, true-false, upTo, inside, below, above, byRange}
 use Rattle.paper.proofs.Finds.{Finds, finds-then}
 
@@ -109,6 +109,9 @@ leads b =
     (λ h. upTo b 0xF3 (λ k. rw (row-f1 b h k) (omega arith))
     (λ h. upTo b 0xF4 (λ k. rw (row-f4 b (omega arith)) (omega arith))
     (λ h. rw (row-past b h) tt))))))))))
+
+pub leads-as : (b : ℕ) (row : Row) → rowOf b ≡ row → Leads b row
+leads-as b row e = rw e at (leads b)
 
 -- ---- one byte that follows
 

@@ -1,4 +1,5 @@
 -- Tests by their two cases, and ranges as two orders. Assumes nothing.
+-- Document 01, "The grammar": its classes of bytes are such ranges.
 use Prim.Native.Nat.{ℕ, _≤_, _<_}
 use mathlib.Core.Path.{_≡_, refl, sym}
 use mathlib.Core.Bool.{Bool, true, false}

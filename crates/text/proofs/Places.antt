@@ -1,12 +1,12 @@
 -- A place in a list: the byte that stands there and what is left behind it. Assumes nothing.
 -- Code goes by places, the definitions by what is left of the list; these laws cross over.
-use Prim.Native.Nat.{ℕ, _+_, _-_, _<_, _≤_}
-use mathlib.Core.Path.{_≡_}
-use mathlib.Core.List.{List, _∷_}
+use Prim.Native.Nat.{ℕ, _+_, _<_, _≤_}
+use mathlib.Core.Path.{_≡_, sym, ap, _∙_}
+use mathlib.Core.List.{List, _∷_, _++_}
 use native.Mathlib.Numerals.{add-one}
 use native.Mathlib.Omega.{arith}
-use lib.ListN.{length, getD, drop, length-drop}
-use lib.Seq.{drop-cons}
+use lib.ListN.{length, getD, drop, length-drop, length-append}
+use lib.Seq.{drop-cons, drop-drop, drop-append-seam}
 use Rattle.paper.specs.Found.{placeIn}
 
 -- what is left at a place inside: its byte, and what is left behind it
@@ -16,3 +16,18 @@ here s i h = rw add-one (drop-cons s i 0 h)
 -- what is left from a place on begins at that place
 pub place-back : (s : List ℕ) (i : ℕ) → i ≤ length s → placeIn s (drop i s) ≡ i
 place-back s i h = omega (arith, length-drop i s)
+
+-- where something is left in front of the rest, the place is inside, and the rest is what is left behind it
+pub front-inside : (s : List ℕ) (i b : ℕ) (left : List ℕ) → drop i s ≡ b ∷ left → i < length s
+front-inside s i b left e = omega (arith, length-drop i s, ap length e)
+
+pub front-behind : (s : List ℕ) (i b : ℕ) (left : List ℕ) → drop i s ≡ b ∷ left → left ≡ drop (i + 1) s
+front-behind s i b left e =
+    let x : b ∷ left ≡ getD s i 0 ∷ drop (i + 1) s = sym e ∙ here s i (front-inside s i b left e) in
+    cc
+
+-- what is left behind some bytes at a place is what is left from its own place on
+pub left-back : (s : List ℕ) (i : ℕ) (p left : List ℕ) → i ≤ length s → drop i s ≡ p ++ left → left ≡ drop (placeIn s left) s
+left-back s i p left h e =
+    let n : placeIn s left ≡ i + length p = omega (arith, length-drop i s, ap length e, length-append p left) in
+    rw (n, ← drop-drop (length p) i s, e, drop-append-seam p left)

@@ -1,3 +1,5 @@
 // Bytes and scalar values: what every reader of a sheet stands on.
 // Document 01, "The grammar", Bytes.
+pub mod classes;
 pub mod parts;
+pub mod utf8;

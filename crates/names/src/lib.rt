@@ -1,0 +1,77 @@
+// Names: the run of letters and digits that stands somewhere, and the rule for Concepts and traits.
+// Document 01, "The grammar", Names, and "Sizes".
+use text::classes;
+ghost use mathlib.Core.Path.{_≡_};
+ghost use mathlib.Core.Bool.{_&&_};
+ghost use Prim.Native.Nat.{_+_, _≤_};
+ghost use lib.ListN.{length, drop};
+ghost use lib.Dec.{leb};
+ghost use Rattle.paper.specs.Names.{nameLimit, runLength, fewCapitals, isConceptName, isTraitName};
+
+// Names are at most so many bytes.
+pub const LIMIT: usize = 32;
+
+// So many upper case letters may stand in a row.
+const CAPITALS: usize = 2;
+
+// Where the run of letters and digits that stands at `at` ends.
+pub fn run_end(s: &[u8], at: usize) -> usize
+    requires { ⌜ at ≤ length (now s) ⌝ }
+    ensures { λ r. ⌜ (r ≡ at + runLength (drop at (now (s .entry)))) × (at ≤ r) × (r ≤ length (now (s .entry))) ⌝ }
+{
+    let mut i = at;
+    while i < s.len() {
+        if !classes::is_name_byte(s[i]) {
+            return i;
+        }
+        i += 1;
+    }
+    i
+}
+
+// Whether the name keeps to the rule of a Concept's name.
+pub fn is_concept_name(name: &[u8]) -> bool
+    ensures { λ r. ⌜ r ≡ isConceptName (now (name .entry)) ⌝ }
+{
+    if name.len() == 0 {
+        return false;
+    }
+    classes::is_upper(name[0]) && keeps_rule(name)
+}
+
+// Whether the name keeps to the rule of a trait's name.
+pub fn is_trait_name(name: &[u8]) -> bool
+    ensures { λ r. ⌜ r ≡ isTraitName (now (name .entry)) ⌝ }
+{
+    if name.len() == 0 {
+        return false;
+    }
+    classes::is_lower(name[0]) && keeps_rule(name)
+}
+
+// The rule but for how a name starts: letters and digits, few capitals in a row, within the limit.
+fn keeps_rule(name: &[u8]) -> bool
+    ensures { λ r. ⌜ r ≡ (fewCapitals 0 (now (name .entry)) && leb (length (now (name .entry))) nameLimit) ⌝ }
+{
+    if LIMIT < name.len() {
+        return false;
+    }
+    let mut capitals = 0;
+    let mut i = 0;
+    while i < name.len() {
+        let b = name[i];
+        if classes::is_upper(b) {
+            if capitals == CAPITALS {
+                return false;
+            }
+            capitals += 1;
+        } else {
+            if !classes::is_name_byte(b) {
+                return false;
+            }
+            capitals = 0;
+        }
+        i += 1;
+    }
+    true
+}

@@ -1,0 +1,56 @@
+// Classes of ASCII bytes: letters, digits, and what names and white space are made of.
+// Document 01, "The grammar", Bytes and Names.
+ghost use mathlib.Core.Path.{_≡_};
+ghost use Rattle.paper.specs.Bytes.{within, isUpper, isLower, isDigit, isLetter, isNameByte, isHex, isBlank};
+
+// Whether the byte lies from `low` to `high`, both counted.
+pub fn is_within(low: u8, high: u8, b: u8) -> bool
+    ensures { λ r. ⌜ r ≡ within low high b ⌝ }
+{
+    low <= b && b <= high
+}
+
+pub fn is_upper(b: u8) -> bool
+    ensures { λ r. ⌜ r ≡ isUpper b ⌝ }
+{
+    is_within(b'A', b'Z', b)
+}
+
+pub fn is_lower(b: u8) -> bool
+    ensures { λ r. ⌜ r ≡ isLower b ⌝ }
+{
+    is_within(b'a', b'z', b)
+}
+
+pub fn is_digit(b: u8) -> bool
+    ensures { λ r. ⌜ r ≡ isDigit b ⌝ }
+{
+    is_within(b'0', b'9', b)
+}
+
+pub fn is_letter(b: u8) -> bool
+    ensures { λ r. ⌜ r ≡ isLetter b ⌝ }
+{
+    is_upper(b) || is_lower(b)
+}
+
+// Whether names are made of the byte: a letter or a digit.
+pub fn is_name_byte(b: u8) -> bool
+    ensures { λ r. ⌜ r ≡ isNameByte b ⌝ }
+{
+    is_letter(b) || is_digit(b)
+}
+
+// Whether the byte is a hex digit, in either case.
+pub fn is_hex(b: u8) -> bool
+    ensures { λ r. ⌜ r ≡ isHex b ⌝ }
+{
+    is_digit(b) || is_within(b'A', b'F', b) || is_within(b'a', b'f', b)
+}
+
+// Whether the byte is a space or a tab.
+pub fn is_blank(b: u8) -> bool
+    ensures { λ r. ⌜ r ≡ isBlank b ⌝ }
+{
+    b == b' ' || b == b'\t'
+}
