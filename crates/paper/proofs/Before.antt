@@ -7,7 +7,7 @@ use native.Mathlib.Omega.{arith}
 use lib.ListN.{length, take, drop}
 use lib.Dec.{leb}
 use Rattle.paper.specs.Found.{Found, found, fault, andThen}
-use Rattle.paper.specs.Bytes.{within, startsWith, scalar, mayStand, scalars, byteOrderMark, sheetBytes}
+use Rattle.paper.specs.Bytes.{within, startsWith, scalar, mayStand, scalars, encode, byteOrderMark, sheetBytes}
 use Rattle.paper.specs.Names.{nameLimit, isConceptName, among}
 use Rattle.paper.specs.Modes.{sectionLimit, Modes, tableNames, section, wholly, modeTable}
 use Rattle.paper.proofs.Tests.{split}
@@ -90,7 +90,7 @@ scalars-only (suc fuel) (b ∷ l) =
     byFirst b l
     (λ n r e. rw (scalars-broken fuel b l n r e) (refl, whole))
     (λ v r e m. rw (scalars-stop fuel b l v r e m) (refl, whole))
-    (λ v r e m. rw (scalars-on fuel b l v r e m) (only-then 3 (b ∷ l) (scalars fuel r) _ (only-in 3 (scalars fuel r) (rw (scalar-sound (b ∷ l) v r e .whole) (tail-append _ r)) (scalars-only fuel r)) (λ vs left t. t)))
+    (λ v r e m. rw (scalars-on fuel b l v r e m) (only-then 3 (b ∷ l) (scalars fuel r) _ (only-in 3 (scalars fuel r) (rw (scalar-sound (b ∷ l) v r e .whole) (tail-append (encode v) r)) (scalars-only fuel r)) (λ vs left t. t)))
 
 pub bytes-only : (s : List ℕ) → Only 3 s (sheetBytes s)
 unfolding sheetBytes

@@ -63,7 +63,7 @@ pub record Admits (by : Bounds) (deeper room : ℕ) (w left : List ℕ) (mode : 
   pub fits : 0 < room
   pub same : end ≡ left
 
-admitted-reads : (by : Bounds) (deeper room : ℕ) (at s w left : List ℕ) → Tail at s → Tail at left → Reads at (λ mode end. Admits by deeper room w left mode end) (admitted by deeper room at s w left)
+pub admitted-reads : (by : Bounds) (deeper room : ℕ) (at s w left : List ℕ) → Tail at s → Tail at left → Reads at (λ mode end. Admits by deeper room w left mode end) (admitted by deeper room at s w left)
 unfolding admitted inMode
 admitted-reads by zero room at s w left t u = fault-here at 10 (omega arith) (omega arith)
 admitted-reads by (suc deeper) room at s w left t u = go (modeOf (by .modes) w) refl

@@ -121,14 +121,14 @@ refused-otherwise table s lent = by-table (modeTable table) refl (table-only tab
     by-sheet m v (found t left) e a =
         inl (record {
           list = entries t;
-          is = rw (v, e);
+          is = rw (v, reading, e);
           exactly = record { modes = m; tree = t; valid = v; derives = a .1 .derives; limits = a .1 .limits; are = refl; fit = a .1 .fit };
         })
     by-sheet m v (fault n left) e a =
         inr (record {
           number = n;
           place = placeIn s left;
-          is = rw (v, e);
+          is = rw (v, reading, e);
           least = omega (arith, a .least);
           most = a .most;
           in-table = λ q. absurd (omega (arith, a .least));
@@ -141,7 +141,7 @@ refused-otherwise table s lent = by-table (modeTable table) refl (table-only tab
         inr (record {
           number = n;
           place = placeIn table left;
-          is = rw e;
+          is = rw (e, reading);
           least = omega (arith, o .0);
           most = omega (arith, o .0);
           in-table = λ q. omega arith;
@@ -170,4 +170,4 @@ accepted-exactly table s lent es = (forth, back)
 
     back : Exactly table s lent es → reading table s lent ≡ accepting s lent es
     back x =
-        rw (x .valid, sheet-accepts (x .modes) (roomOf lent) s (x .tree) (record { derives = x .derives; limits = x .limits; fit = omega (arith, x .fit, ap length (x .are)) }), x .are)
+        rw (x .valid, reading, sheet-accepts (x .modes) (roomOf lent) s (x .tree) (record { derives = x .derives; limits = x .limits; fit = omega (arith, x .fit, ap length (x .are)) }), x .are)

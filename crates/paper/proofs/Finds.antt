@@ -70,6 +70,11 @@ reads-on s P Q next (fault n left) h f = h
 pub reads-then : {A B : Type 0} (s : List ℕ) (P : A → List ℕ → Type 0) (Q : B → List ℕ → Type 0) (next : A → List ℕ → Found B) (x : Found A) → Reads s P x → ((a : A) (left : List ℕ) → P a left → Reads left Q (next a left)) → Reads s Q (andThen x next)
 reads-then s P Q next x h f = reads-on s P Q next x h (λ a left t p. reads-in t Q (next a left) (f a left p))
 
+-- two readings that go on alike after whatever the first one finds
+pub then-same : {A B : Type 0} (s : List ℕ) (P : A → List ℕ → Type 0) (x : Found A) (f g : A → List ℕ → Found B) → Reads s P x → ((a : A) (left : List ℕ) → Tail s left → P a left → f a left ≡ g a left) → andThen x f ≡ andThen x g
+then-same s P (found a left) f g h e = e a left (h .0) (h .1)
+then-same s P (fault n left) f g h e = refl
+
 -- ---- the same of a turn
 
 abbrev pub Turns : {A : Type 0} → List ℕ → (A → List ℕ → Type 0) → (List ℕ → Type 0) → Turn A → Type 0

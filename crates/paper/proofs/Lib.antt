@@ -12,6 +12,7 @@ pub mod ReadValues
 pub mod Markers
 pub mod Widths
 pub mod Concepts
+pub mod Fuel
 pub mod Sheets
 pub mod Sizes
 pub mod Before

@@ -328,7 +328,7 @@ module _ (fuel b : ℕ) (l : List ℕ) where
     scalars-on m = rw (e, scalars) (rw (m, scalars))
 
 -- the three ways of a list that is not empty: no sequence, a value that may not stand, one that may
-byFirst : {X : Type 0} (b : ℕ) (l : List ℕ)
+pub byFirst : {X : Type 0} (b : ℕ) (l : List ℕ)
     → ((n : ℕ) (r : List ℕ) → scalar (b ∷ l) ≡ fault n r → X)
     → ((v : ℕ) (r : List ℕ) → scalar (b ∷ l) ≡ found v r → mayStand v r ≡ false → X)
     → ((v : ℕ) (r : List ℕ) → scalar (b ∷ l) ≡ found v r → mayStand v r ≡ true → X) → X

@@ -2,4 +2,5 @@
 // Document 01, "The grammar", Bytes.
 pub mod classes;
 pub mod parts;
+pub mod runs;
 pub mod utf8;
