@@ -29,6 +29,13 @@ tail-drop ℕ.zero s = whole
 tail-drop (ℕ.suc n) [] = whole
 tail-drop (ℕ.suc n) (b ∷ s) = past (tail-drop n s)
 
+pub tail-of : (w : List ℕ) {s left : List ℕ} → s ≡ w ++ left → Tail s left
+tail-of w {s} {left} e = rw e (tail-append w left)
+
+pub tail-end : (s : List ℕ) → Tail s []
+tail-end [] = whole
+tail-end (b ∷ s) = past (tail-end s)
+
 -- ---- what a reading finds, or its fault
 
 -- whatever is found has the property; of a fault nothing is said
@@ -45,6 +52,9 @@ pub record Fault (s : List ℕ) (n : ℕ) (left : List ℕ) : Type 0 where
   pub least : 4 ≤ n
   pub most : n ≤ 11
   pub tail : Tail s left
+
+pub faults : {s left : List ℕ} (n : ℕ) → (4 ≤ n) × (n ≤ 11) → Tail s left → Fault s n left
+faults n h t = record { least = h .0; most = h .1; tail = t }
 
 pub fault-in : {s mid left : List ℕ} {n : ℕ} → Tail s mid → Fault mid n left → Fault s n left
 fault-in t f = record { least = f .least; most = f .most; tail = tail-then t (f .tail) }

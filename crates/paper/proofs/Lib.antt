@@ -4,4 +4,5 @@ pub mod Finds
 pub mod Lists
 pub mod Runs
 pub mod Scalars
+pub mod Pieces
 pub mod Starred

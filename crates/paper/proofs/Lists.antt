@@ -2,14 +2,14 @@
 use Prim.Native.Nat.{ℕ, zero, suc, _+_, _≤_, _<_}
 use mathlib.Core.Path.{_≡_, refl, sym, ap, _∙_}
 use mathlib.Core.Bool.{Bool, true, false, not, _&&_, _||_}
-use mathlib.Core.List.{List, [], _∷_, _++_, append-assoc}
+use mathlib.Core.List.{List, [], _∷_, _++_, map, append-assoc}
 use native.Mathlib.Omega.{arith}
 use lib.ListN.{length, take, drop, replicate, take-append-drop}
 use lib.Seq.{take-append-seam, drop-append-seam}
 use lib.Dec.{eqb}
 use borrow.Author.Tests.{eqb-true, eq-eqb}
 use Rattle.paper.specs.Bytes.{all, startsIn, elem, lengthIn, front, behind, same, startsWith}
-use Rattle.paper.proofs.Tests.{split, true-false}
+use Rattle.paper.proofs.Tests.{split, true-false, apart}
 
 -- ---- two tests
 
@@ -23,15 +23,31 @@ and {a} {b} e f = rw (e, f)
 pub is-not : {a : Bool} → a ≡ false → not a ≡ true
 is-not e = rw e
 
+-- ---- an empty list or its first element
+
+pub byFront : {A X : Type 0} (l : List A) → (l ≡ [] → X) → ((a : A) (m : List A) → l ≡ a ∷ m → X) → X
+byFront [] none some = none refl
+byFront (a ∷ m) none some = some a m refl
+
 -- ---- every byte of a class
 
 pub all-head : {A : Type 0} (class : A → Bool) (a : A) (l : List A) → all class (a ∷ l) ≡ true → (class a ≡ true) × (all class l ≡ true)
 unfolding all
 all-head class a l e = both (class a) (all class l) e
 
+pub all-nil : {A : Type 0} (class : A → Bool) → all class [] ≡ true
+unfolding all
+all-nil class = refl
+
 pub all-cons : {A : Type 0} (class : A → Bool) (a : A) (l : List A) → class a ≡ true → all class l ≡ true → all class (a ∷ l) ≡ true
 unfolding all
 all-cons class a l e f = rw (e, f)
+
+pub all-map : {A B : Type 0} (f : A → B) (p : A → Bool) (q : B → Bool) → ((a : A) → p a ≡ true → q (f a) ≡ true) → (l : List A) → all p l ≡ true → all q (map f l) ≡ true
+all-map f p q h [] e = all-nil q
+all-map f p q h (a ∷ l) e =
+    let k = all-head p a l e in
+    all-cons q (f a) (map f l) (h a (k .0)) (all-map f p q h l (k .1))
 
 -- ---- the bytes of a class in front
 
@@ -60,6 +76,11 @@ front-of class w next a e = rw (front-length class w next a e) (take-append-seam
 pub behind-of : (class : ℕ → Bool) (w next : List ℕ) → all class w ≡ true → startsIn class next ≡ false → behind class (w ++ next) ≡ next
 behind-of class w next a e = rw (front-length class w next a e) (drop-append-seam w next)
 
+pub front-least : (class : ℕ → Bool) (w next : List ℕ) → all class w ≡ true → length w ≤ lengthIn class (w ++ next)
+unfolding lengthIn
+front-least class [] next a = omega arith
+front-least class (c ∷ w) next a = let h = all-head class c w a in rw (h .0, lengthIn) (omega (arith, front-least class w next (h .1)))
+
 -- a run of one byte
 pub all-same : (b n : ℕ) → all (λ c. eqb c b) (replicate n b) ≡ true
 unfolding all
@@ -84,6 +105,10 @@ pub starts-of : (p next : List ℕ) → startsWith p (p ++ next) ≡ true
 unfolding startsWith
 starts-of [] next = refl
 starts-of (b ∷ p) next = rw (eq-eqb b b refl, startsWith) (starts-of p next)
+
+pub starts-not : (class : ℕ → Bool) (p b : ℕ) (l : List ℕ) → class b ≡ true → class p ≡ false → startsWith (p ∷ []) (b ∷ l) ≡ false
+unfolding startsWith
+starts-not class p b l e f = rw (apart class b p e f, startsWith)
 
 -- ---- equal lists
 

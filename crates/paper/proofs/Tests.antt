@@ -1,10 +1,10 @@
 -- Tests by their two cases, and ranges as two orders. Assumes nothing.
 use Prim.Native.Nat.{ℕ, _≤_, _<_}
-use mathlib.Core.Path.{_≡_, refl}
-use mathlib.Core.Bool.{Bool, true, false}
+use mathlib.Core.Path.{_≡_, refl, sym, ap, _∙_}
+use mathlib.Core.Bool.{Bool, true, false, _||_}
 use native.Mathlib.Omega.{arith}
-use lib.Dec.{leb}
-use borrow.Author.Tests.{leb-true, leb-false, le-leb, lt-leb}
+use lib.Dec.{leb, eqb}
+use borrow.Author.Tests.{leb-true, leb-false, le-leb, lt-leb, ne-eqb}
 use Rattle.paper.specs.Bytes.{within}
 
 -- what holds in both cases of a test holds
@@ -15,6 +15,15 @@ split false on off = off refl
 -- a test is not both
 pub true-false : {X : Type 0} → true ≡ false → X
 true-false e = let z : _≡_ {A = ℕ} 0 1 = cc in absurd (omega arith)
+
+-- a number that passes a test is none that fails it
+pub apart : (test : ℕ → Bool) (b c : ℕ) → test b ≡ true → test c ≡ false → eqb b c ≡ false
+apart test b c e f = ne-eqb b c (λ q. true-false (sym e ∙ ap test q ∙ f))
+
+-- one of two tests
+pub either : {X : Type 0} (a b : Bool) → a || b ≡ true → (a ≡ true → X) → (b ≡ true → X) → X
+either true b e on off = on refl
+either false b e on off = off e
 
 -- ---- orders and ranges
 
