@@ -29,6 +29,10 @@ pub byFront : {A X : Type 0} (l : List A) → (l ≡ [] → X) → ((a : A) (m :
 byFront [] none some = none refl
 byFront (a ∷ m) none some = some a m refl
 
+pub empty-is : {A : Type 0} (l : List A) → eqb (length l) 0 ≡ true → l ≡ []
+empty-is [] e = refl
+empty-is (a ∷ l) e = absurd (omega (arith, eqb-true (length (a ∷ l)) 0 e))
+
 -- ---- every byte of a class
 
 pub all-head : {A : Type 0} (class : A → Bool) (a : A) (l : List A) → all class (a ∷ l) ≡ true → (class a ≡ true) × (all class l ≡ true)
@@ -43,11 +47,16 @@ pub all-cons : {A : Type 0} (class : A → Bool) (a : A) (l : List A) → class 
 unfolding all
 all-cons class a l e f = rw (e, f)
 
-pub all-map : {A B : Type 0} (f : A → B) (p : A → Bool) (q : B → Bool) → ((a : A) → p a ≡ true → q (f a) ≡ true) → (l : List A) → all p l ≡ true → all q (map f l) ≡ true
-all-map f p q h [] e = all-nil q
-all-map f p q h (a ∷ l) e =
+pub all-weaken : {A : Type 0} (p q : A → Bool) → ((a : A) → p a ≡ true → q a ≡ true) → (l : List A) → all p l ≡ true → all q l ≡ true
+all-weaken p q h [] e = all-nil q
+all-weaken p q h (a ∷ l) e =
     let k = all-head p a l e in
-    all-cons q (f a) (map f l) (h a (k .0)) (all-map f p q h l (k .1))
+    all-cons q a l (h a (k .0)) (all-weaken p q h l (k .1))
+
+pub all-map : {A B : Type 0} (f : A → B) (class : B → Bool) (l : List A) → all class (map f l) ≡ all (λ a. class (f a)) l
+unfolding all
+all-map f class [] = refl
+all-map f class (a ∷ l) = ap (λ (t : Bool). class (f a) && t) (all-map f class l)
 
 -- ---- the bytes of a class in front
 

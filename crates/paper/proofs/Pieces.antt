@@ -10,12 +10,13 @@ use lib.Dec.{leb, eqb}
 use borrow.Author.Tests.{leb-true, leb-false, le-leb, lt-leb, eqb-true, eq-eqb, ne-eqb, not-true}
 use Rattle.paper.specs.Found.{Found, found, fault, andThen, Turn, more, over, stop, turnOf, manyOf, pick}
 use Rattle.paper.specs.Bytes.{byte, bytes, isDigit, isHex, isLineEnd, all, elem, startsIn, startsWith, lengthIn, front, behind, scalar, isScalar, encode}
-use Rattle.paper.specs.Values.{Piece, direct, escaped, four, braces, pieceOnto, piecesOnto, spellsScalar, hexValue, pieceRule, is, Leaf, character}
-use Rattle.paper.specs.ReadingValues.{judged, fourDigits, bracedDigits, escape, Inside, closes, escapes, breaks, itself, insideOf, pieceTurn, closeCharacter, characterOf, backtickTurn}
+use Rattle.paper.specs.Values.{Piece, direct, escaped, four, braces, pieceOnto, piecesOnto, spellsScalar, hexValue, pieceRule, oneScalar, backtickRule, is}
+use Rattle.paper.specs.ReadingValues.{judged, fourDigits, bracedDigits, escape, Inside, closes, escapes, breaks, itself, insideOf, pieceTurn, backtickTurn}
 use Rattle.paper.proofs.Tests.{split, true-false, apart, either, upTo}
 use Rattle.paper.proofs.Finds.{Tail, whole, past, tail-of, tail-end, Fault, faults, Reads, Turns, turns-of}
+use Rattle.paper.proofs.Scalars.{Spelt, scalar-sound, scalar-encode, encode-high}
 use Rattle.paper.proofs.Runs.{Says, many-reads, Shorter, turns-shorter, run-more, run-over}
-use Rattle.paper.proofs.Lists.{both, byFront, all-nil, all-cons, starts-is, front-behind, front-length, front-of, behind-of, front-least, all-head, starts-not}
+use Rattle.paper.proofs.Lists.{both, and, is-not, byFront, all-nil, all-cons, starts-is, front-behind, front-length, front-of, behind-of, front-least, all-head, starts-not, all-weaken, all-map, empty-is}
 
 -- ---- the spelling in front of what follows
 
@@ -262,3 +263,157 @@ pieces-back [] left e = run-over (λ p. 0) pieceTurn turn-shorter 0 _ left (turn
 pieces-back (p ∷ ps) left e =
     let h = all-head (pieceRule (byte "\"")) p ps e in
     run-more (λ p. 0) pieceTurn turn-shorter 0 _ p (piecesOnto ps (byte "\"" ∷ left)) ps left (turn-back 0 p _ (h .0)) (pieces-back ps left (h .1))
+
+-- ---- backticks
+
+module _ (room : ℕ) (l : List ℕ) where
+  pub tick-closes : backtickTurn room (byte "`" ∷ l) ≡ over l
+  unfolding backtickTurn
+  tick-closes = refl
+
+  pub tick-escapes : backtickTurn room (byte "\\" ∷ byte "`" ∷ l) ≡ more (escaped (byte "`")) l
+  unfolding backtickTurn startsWith
+  tick-escapes = refl
+
+  pub tick-itself : (b : ℕ) → eqb b (byte "`") ≡ false → startsWith (bytes "\\`") (b ∷ l) ≡ false → backtickTurn room (b ∷ l) ≡ more (direct b) l
+  unfolding backtickTurn
+  tick-itself b e f = rw (e, backtickTurn, f)
+
+-- a backslash that is itself has no backtick behind it
+pub tick-apart : (b : ℕ) (l : List ℕ) → (eqb b (byte "\\") ≡ true → startsIn (is (byte "`")) l ≡ false) → startsWith (bytes "\\`") (b ∷ l) ≡ false
+unfolding startsWith startsIn
+tick-apart b [] h = split (eqb b (byte "\\")) (λ e. rw (e, startsWith)) (λ e. rw (e, startsWith))
+tick-apart b (c ∷ l) h = split (eqb b (byte "\\")) (λ e. rw (e, startsWith, h e)) (λ e. rw (e, startsWith))
+
+pub tick-behind : (b : ℕ) (l : List ℕ) → startsWith (bytes "\\`") (b ∷ l) ≡ false → eqb b (byte "\\") ≡ true → startsIn (is (byte "`")) l ≡ false
+unfolding startsWith startsIn
+tick-behind b [] e f = refl
+tick-behind b (c ∷ l) e f = split (eqb c (byte "`")) (λ g. true-false (rw (f, startsWith, g) at e)) (λ g. g)
+
+-- the pieces and the closing backtick stood in front
+pub record Ticked (s : List ℕ) (ps : List Piece) (left : List ℕ) : Type 0 where
+  pub covers : s ≡ piecesOnto ps (byte "`" ∷ left)
+  pub rule : (after : Bool) → (after ≡ true → startsIn (is (byte "`")) s ≡ false) → backtickRule after ps ≡ true
+
+-- one piece did, and may stand before all that may stand behind it
+record Tick (s : List ℕ) (p : Piece) (left : List ℕ) : Type 0 where
+  covers : s ≡ pieceOnto p left
+  rule : (ps : List Piece) → ((after : Bool) → (after ≡ true → startsIn (is (byte "`")) left ≡ false) → backtickRule after ps ≡ true) → (after : Bool) → backtickRule after (p ∷ ps) ≡ true
+
+tick-end : (s left : List ℕ) → s ≡ byte "`" ∷ left → Ticked s [] left
+unfolding piecesOnto backtickRule startsIn
+tick-end s left e = record { covers = e; rule = λ after h. split after (λ f. true-false (rw e at (h f))) (λ f. rw f) }
+
+tick-turns : (room : ℕ) (s : List ℕ) → Turns s (Tick s) (λ left. s ≡ byte "`" ∷ left) (backtickTurn room s)
+unfolding backtickTurn pieceOnto backtickRule startsWith
+tick-turns room [] = faults 9 (omega arith) whole
+tick-turns room (b ∷ l) =
+    split (eqb b (byte "`"))
+    (λ e. rw (eqb-true b (byte "`") e) (past whole, refl))
+    (λ e. split (startsWith (bytes "\\`") (b ∷ l))
+    (λ f. rw (starts-is (bytes "\\`") (b ∷ l) f) (past (past whole), record { covers = refl; rule = λ ps h after. h false (λ z. true-false (sym z)) }))
+    (λ f. rw (tick-itself room l b e f, Turns) (past whole, record { covers = refl; rule = λ ps h after. and (is-not e) (h (eqb b (byte "\\")) (tick-behind b l f)) })))
+
+pub ticks-read : (s : List ℕ) → Reads s (Ticked s) (manyOf (λ p. 0) backtickTurn 0 s)
+unfolding piecesOnto
+ticks-read s =
+    many-reads (λ p. 0) backtickTurn
+    (record { of-turn = λ room s p left. Tick s p left; of-end = λ room s left. s ≡ byte "`" ∷ left; of-run = λ room s ps left. Ticked s ps left })
+    tick-turns
+    (λ room s left e. tick-end s left e)
+    (λ room s p mid ps left h k. record { covers = h .covers ∙ ap (pieceOnto p) (k .covers); rule = λ after z. h .rule ps (k .rule) after })
+    (suc (length s)) 0 s
+
+tick-shorter : (room : ℕ) (s : List ℕ) → Shorter s (backtickTurn room s)
+tick-shorter room s = turns-shorter s (Tick s) _ (λ p left h. rw (h .covers) (piece-longer p left)) (backtickTurn room s) (tick-turns room s)
+
+-- what may stand behind a backslash that is itself does not begin with a backtick
+not-tick : (ps : List Piece) (left : List ℕ) → backtickRule true ps ≡ true → startsIn (is (byte "`")) (piecesOnto ps (byte "`" ∷ left)) ≡ false
+unfolding backtickRule piecesOnto pieceOnto startsIn
+not-tick [] left e = true-false (sym e)
+not-tick (direct b ∷ ps) left e = not-true (eqb b (byte "`")) (both (not (eqb b (byte "`"))) (backtickRule (eqb b (byte "\\")) ps) e .0)
+not-tick (escaped b ∷ ps) left e = refl
+not-tick (four digits ∷ ps) left e = refl
+not-tick (braces digits ∷ ps) left e = refl
+
+pub ticks-back : (after : Bool) (ps : List Piece) (left : List ℕ) → backtickRule after ps ≡ true → manyOf (λ p. 0) backtickTurn 0 (piecesOnto ps (byte "`" ∷ left)) ≡ found ps left
+unfolding backtickRule piecesOnto pieceOnto
+ticks-back after [] left e = run-over (λ p. 0) backtickTurn tick-shorter 0 _ left (tick-closes 0 left)
+ticks-back after (direct b ∷ ps) left e =
+    let h = both (not (eqb b (byte "`"))) (backtickRule (eqb b (byte "\\")) ps) e in
+    run-more (λ p. 0) backtickTurn tick-shorter 0 _ (direct b) (piecesOnto ps (byte "`" ∷ left)) ps left
+    (tick-itself 0 _ b (not-true (eqb b (byte "`")) (h .0)) (tick-apart b _ (λ f. not-tick ps left (rw f at (h .1)))))
+    (ticks-back (eqb b (byte "\\")) ps left (h .1))
+ticks-back after (escaped b ∷ ps) left e =
+    let h = both (eqb b (byte "`")) (backtickRule false ps) e in
+    rw (eqb-true b (byte "`") (h .0))
+    (run-more (λ p. 0) backtickTurn tick-shorter 0 _ (escaped (byte "`")) (piecesOnto ps (byte "`" ∷ left)) ps left (tick-escapes 0 _) (ticks-back false ps left (h .1)))
+ticks-back after (four digits ∷ ps) left e = true-false (sym e)
+ticks-back after (braces digits ∷ ps) left e = true-false (sym e)
+
+-- ---- one scalar value, spelt directly
+
+direct-onto : (w next : List ℕ) → piecesOnto (map direct w) next ≡ w ++ next
+unfolding piecesOnto pieceOnto
+direct-onto [] next = refl
+direct-onto (b ∷ w) next = ap (λ (l : List ℕ). b ∷ l) (direct-onto w next)
+
+-- pieces without a backslash are direct
+only-direct : (ps : List Piece) → all (λ b. not (eqb b (byte "\\"))) (piecesOnto ps []) ≡ true → ps ≡ map direct (piecesOnto ps [])
+unfolding piecesOnto pieceOnto all
+only-direct [] e = refl
+only-direct (direct b ∷ ps) e = ap (λ (qs : List Piece). direct b ∷ qs) (only-direct ps (both (not (eqb b (byte "\\"))) _ e .1))
+only-direct (escaped b ∷ ps) e = true-false (sym e)
+only-direct (four digits ∷ ps) e = true-false (sym e)
+only-direct (braces digits ∷ ps) e = true-false (sym e)
+
+module _ (quote : ℕ) where
+  high-direct : quote < 0x80 → (b : ℕ) → leb 0x80 b ≡ true → pieceRule quote (direct b) ≡ true
+  unfolding pieceRule isLineEnd
+  high-direct q b e = rw (apart (leb 0x80) b quote e (lt-leb 0x80 quote q), apart (leb 0x80) b (byte "\\") e refl, apart (leb 0x80) b 0x0A e refl, apart (leb 0x80) b 0x0D e refl)
+
+  no-backslash : (b : ℕ) → pieceRule quote (direct b) ≡ true → not (eqb b (byte "\\")) ≡ true
+  unfolding pieceRule
+  no-backslash b e = split (eqb b quote) (λ f. true-false (sym e ∙ rw f)) (λ f. split (eqb b (byte "\\")) (λ g. true-false (sym e ∙ rw (f, g))) (λ g. rw g))
+
+  -- its pieces keep the rule if the first one does
+  pub scalar-rule : quote < 0x80 → (b v : ℕ) (l left : List ℕ) → pieceRule quote (direct b) ≡ true → b ∷ l ≡ encode v ++ left → all (pieceRule quote) (map direct (encode v)) ≡ true
+  scalar-rule q b v l left r e =
+      byFront (encode v) (λ f. rw f (all-nil _))
+      (λ c w f. let g : b ∷ l ≡ c ∷ (w ++ left) = e ∙ ap (λ (x : List ℕ). x ++ left) f in
+      let h : b ≡ c = cc in
+      rw f (all-cons _ (direct c) (map direct w) (rw h at r) (rw all-map (all-weaken (leb 0x80) (λ a. pieceRule quote (direct a)) (high-direct q) w (rw f at (encode-high v))))))
+
+scalar-some : {X : Type 0} (v : ℕ) → scalar [] ≡ found v [] → X
+unfolding scalar
+scalar-some v e = let z : true ≡ false = cc in true-false z
+
+pub scalar-one : (v : ℕ) → isScalar v ≡ true → oneScalar (map direct (encode v)) ≡ true
+unfolding oneScalar
+scalar-one v r = go (encode v) (scalar-encode v [] r)
+  where
+    go : (w : List ℕ) → scalar (w ++ []) ≡ found v [] → oneScalar (map direct w) ≡ true
+    go [] e = scalar-some v e
+    go (b ∷ w) e = rw (direct-onto (b ∷ w) [], oneScalar, e)
+
+spelt-directly : (quote b v : ℕ) (ps : List Piece) → pieceRule quote (direct b) ≡ true → piecesOnto (direct b ∷ ps) [] ≡ encode v → direct b ∷ ps ≡ map direct (encode v)
+unfolding piecesOnto pieceOnto
+spelt-directly quote b v ps r e =
+    only-direct (direct b ∷ ps)
+    (all-cons _ b (piecesOnto ps []) (no-backslash quote b r)
+    (all-weaken (leb 0x80) _ (λ c h. is-not (apart (leb 0x80) c (byte "\\") h refl)) (piecesOnto ps []) (rw (← e) at (encode-high v))))
+    ∙ ap (map direct) e
+
+-- pieces that are one scalar value, the first one direct, are its direct spelling
+pub one-scalar : {X : Type 0} (quote b : ℕ) (ps : List Piece) → pieceRule quote (direct b) ≡ true → oneScalar (direct b ∷ ps) ≡ true → ((v : ℕ) → isScalar v ≡ true → direct b ∷ ps ≡ map direct (encode v) → X) → X
+unfolding oneScalar
+one-scalar {X} quote b ps r e so = go (scalar (piecesOnto (direct b ∷ ps) [])) refl
+  where
+    ends : (v : ℕ) (left : List ℕ) → scalar (piecesOnto (direct b ∷ ps) []) ≡ found v left → left ≡ []
+    ends v left f = empty-is left (rw (f, oneScalar) at e)
+
+    go : (x : Found ℕ) → scalar (piecesOnto (direct b ∷ ps) []) ≡ x → X
+    go (found v left) f =
+        let h = scalar-sound _ v [] (f ∙ rw (ends v left f)) in
+        so v (h .right) (spelt-directly quote b v ps r (h .whole ∙ append-nil (encode v)))
+    go (fault n left) f = true-false (sym (rw (f, oneScalar) at e))
