@@ -5,4 +5,5 @@ pub mod Lists
 pub mod Runs
 pub mod Scalars
 pub mod Pieces
+pub mod Words
 pub mod Starred
