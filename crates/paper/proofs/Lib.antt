@@ -6,4 +6,5 @@ pub mod Runs
 pub mod Scalars
 pub mod Pieces
 pub mod Words
+pub mod WordKinds
 pub mod Starred

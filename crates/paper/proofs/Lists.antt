@@ -53,10 +53,31 @@ all-weaken p q h (a ∷ l) e =
     let k = all-head p a l e in
     all-cons q a l (h a (k .0)) (all-weaken p q h l (k .1))
 
+pub all-append : {A : Type 0} (class : A → Bool) (v w : List A) → all class v ≡ true → all class w ≡ true → all class (v ++ w) ≡ true
+all-append class [] w e f = f
+all-append class (a ∷ v) w e f = let h = all-head class a v e in all-cons class a (v ++ w) (h .0) (all-append class v w (h .1) f)
+
 pub all-map : {A B : Type 0} (f : A → B) (class : B → Bool) (l : List A) → all class (map f l) ≡ all (λ a. class (f a)) l
 unfolding all
 all-map f class [] = refl
 all-map f class (a ∷ l) = ap (λ (t : Bool). class (f a) && t) (all-map f class l)
+
+-- ---- the first byte of a class
+
+pub starts-weaken : (p q : ℕ → Bool) → ((b : ℕ) → p b ≡ true → q b ≡ true) → (w : List ℕ) → startsIn p w ≡ true → startsIn q w ≡ true
+unfolding startsIn
+starts-weaken p q h [] e = true-false (sym e)
+starts-weaken p q h (b ∷ w) e = h b e
+
+pub starts-append : (class : ℕ → Bool) (v w : List ℕ) → startsIn class v ≡ true → startsIn class (v ++ w) ≡ true
+unfolding startsIn
+starts-append class [] w e = true-false (sym e)
+starts-append class (b ∷ v) w e = e
+
+pub starts-apart : (class : ℕ → Bool) (c : ℕ) (w : List ℕ) → startsIn class w ≡ true → class c ≡ false → startsIn (λ b. eqb b c) w ≡ false
+unfolding startsIn
+starts-apart class c [] e f = refl
+starts-apart class c (b ∷ w) e f = apart class b c e f
 
 -- ---- the bytes of a class in front
 
@@ -115,9 +136,10 @@ unfolding startsWith
 starts-of [] next = refl
 starts-of (b ∷ p) next = rw (eq-eqb b b refl, startsWith) (starts-of p next)
 
-pub starts-not : (class : ℕ → Bool) (p b : ℕ) (l : List ℕ) → class b ≡ true → class p ≡ false → startsWith (p ∷ []) (b ∷ l) ≡ false
-unfolding startsWith
-starts-not class p b l e f = rw (apart class b p e f, startsWith)
+pub starts-not : (class : ℕ → Bool) (p : ℕ) (w : List ℕ) → startsIn class w ≡ true → class p ≡ false → startsWith (p ∷ []) w ≡ false
+unfolding startsWith startsIn
+starts-not class p [] e f = refl
+starts-not class p (b ∷ w) e f = rw (apart class b p e f, startsWith)
 
 -- ---- equal lists
 

@@ -145,9 +145,9 @@ unfolding spellsScalar
 hex-digits digits e = both (all isHex digits) (isScalar (hexValue 0 digits)) e .0
 
 no-brace : (digits next : List ℕ) → 0 < length digits → all isHex digits ≡ true → startsWith (bytes "{") (digits ++ next) ≡ false
-unfolding isHex isDigit
+unfolding isHex isDigit startsIn
 no-brace [] next h e = absurd (omega arith)
-no-brace (d ∷ digits) next h e = starts-not isHex (byte "{") d (digits ++ next) (all-head isHex d digits e .0) refl
+no-brace (d ∷ digits) next h e = starts-not isHex (byte "{") (d ∷ (digits ++ next)) (all-head isHex d digits e .0) refl
 
 no-hex : (next : List ℕ) → startsIn isHex (byte "}" ∷ next) ≡ false
 unfolding startsIn isHex isDigit
