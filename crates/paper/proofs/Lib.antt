@@ -7,4 +7,5 @@ pub mod Scalars
 pub mod Pieces
 pub mod Words
 pub mod WordKinds
+pub mod Leaves
 pub mod Starred

@@ -7,9 +7,9 @@ use native.Mathlib.Omega.{arith}
 use lib.ListN.{length, take, drop, replicate, take-append-drop}
 use lib.Seq.{take-append-seam, drop-append-seam}
 use lib.Dec.{eqb}
-use borrow.Author.Tests.{eqb-true, eq-eqb}
+use borrow.Author.Tests.{eqb-true, eq-eqb, not-true}
 use Rattle.paper.specs.Bytes.{all, startsIn, elem, lengthIn, front, behind, same, startsWith}
-use Rattle.paper.proofs.Tests.{split, true-false, apart}
+use Rattle.paper.proofs.Tests.{split, true-false, apart, either}
 
 -- ---- two tests
 
@@ -61,6 +61,23 @@ pub all-map : {A B : Type 0} (f : A → B) (class : B → Bool) (l : List A) →
 unfolding all
 all-map f class [] = refl
 all-map f class (a ∷ l) = ap (λ (t : Bool). class (f a) && t) (all-map f class l)
+
+-- ---- a byte that is one of these
+
+pub elem-apart : (class : ℕ → Bool) (b : ℕ) (cs : List ℕ) → class b ≡ true → all (λ c. not (class c)) cs ≡ true → elem b cs ≡ false
+unfolding elem
+elem-apart class b [] e a = refl
+elem-apart class b (c ∷ cs) e a = let h = all-head _ c cs a in rw (apart class b c e (not-true (class c) (h .0))) (elem-apart class b cs e (h .1))
+
+pub elem-more : (b : ℕ) (cs ds : List ℕ) → elem b cs ≡ true → elem b (cs ++ ds) ≡ true
+unfolding elem
+elem-more b [] ds e = true-false (sym e)
+elem-more b (c ∷ cs) ds e = either (eqb b c) (elem b cs) e (λ f. rw f) (λ f. split (eqb b c) (λ g. rw g) (λ g. rw g (elem-more b cs ds f)))
+
+pub elem-right : (b : ℕ) (cs ds : List ℕ) → elem b ds ≡ true → elem b (cs ++ ds) ≡ true
+unfolding elem
+elem-right b [] ds e = e
+elem-right b (c ∷ cs) ds e = split (eqb b c) (λ f. rw f) (λ f. rw f (elem-right b cs ds e))
 
 -- ---- the first byte of a class
 

@@ -353,7 +353,7 @@ ticks-back after (braces digits ∷ ps) left e = true-false (sym e)
 
 -- ---- one scalar value, spelt directly
 
-direct-onto : (w next : List ℕ) → piecesOnto (map direct w) next ≡ w ++ next
+pub direct-onto : (w next : List ℕ) → piecesOnto (map direct w) next ≡ w ++ next
 unfolding piecesOnto pieceOnto
 direct-onto [] next = refl
 direct-onto (b ∷ w) next = ap (λ (l : List ℕ). b ∷ l) (direct-onto w next)
@@ -417,3 +417,13 @@ one-scalar {X} quote b ps r e so = go (scalar (piecesOnto (direct b ∷ ps) []))
         let h = scalar-sound _ v [] (f ∙ rw (ends v left f)) in
         so v (h .right) (spelt-directly quote b v ps r (h .whole ∙ append-nil (encode v)))
     go (fault n left) f = true-false (sym (rw (f, oneScalar) at e))
+
+-- an escape is one scalar value
+pub one-escape : (quote : ℕ) (p : Piece) (l left : List ℕ) → byte "\\" ∷ l ≡ pieceOnto p left → pieceRule quote p ≡ true → oneScalar (p ∷ []) ≡ true
+unfolding pieceOnto oneScalar
+one-escape quote (direct b) l left e r =
+    let q : byte "\\" ≡ b = cc in
+    true-false (sym (rw (← q) at (no-backslash quote b r)))
+one-escape quote (escaped b) l left e r = refl
+one-escape quote (four digits) l left e r = refl
+one-escape quote (braces digits) l left e r = refl

@@ -11,7 +11,7 @@ use Rattle.paper.specs.Found.{pick}
 use Rattle.paper.specs.Bytes.{byte, bytes, isUpper, isLower, isDigit, isLetter, isNameByte, isHex, all, elem, same, startsIn, lengthIn, front, behind, space, tab, lf, cr}
 use Rattle.paper.specs.Values.{is, upTo, onward, past, isToken, hexGroups, isUuid, areDigits, isCount, unsigned, isInteger, isDecimal, isExponent, isScientific, isFraction, isIriBody, isScheme, isIri, wordForm, listEnders}
 use Rattle.paper.proofs.Tests.{split, true-false, apart, either}
-use Rattle.paper.proofs.Lists.{both, and, is-not, byFront, all-nil, all-cons, all-head, all-weaken, front-all, front-behind, behind-stops, all-append, starts-weaken, starts-append, starts-apart, same-is}
+use Rattle.paper.proofs.Lists.{both, and, is-not, byFront, all-nil, all-cons, all-head, all-weaken, front-all, front-behind, behind-stops, all-append, starts-weaken, starts-append, starts-apart, elem-apart, elem-more, elem-right, same-is}
 
 -- ---- the kinds in the order of their forms
 
@@ -57,21 +57,6 @@ word-form w = refl
 count : List ℕ → List ℕ → ℕ
 count cs [] = 0
 count cs (b ∷ w) = elim (elem b cs) [ true ↦ suc (count cs w) | false ↦ count cs w ]
-
-elem-apart : (class : ℕ → Bool) (b : ℕ) (cs : List ℕ) → class b ≡ true → all (λ c. not (class c)) cs ≡ true → elem b cs ≡ false
-unfolding elem
-elem-apart class b [] e a = refl
-elem-apart class b (c ∷ cs) e a = let h = all-head _ c cs a in rw (apart class b c e (not-true (class c) (h .0))) (elem-apart class b cs e (h .1))
-
-elem-more : (b : ℕ) (cs ds : List ℕ) → elem b cs ≡ true → elem b (cs ++ ds) ≡ true
-unfolding elem
-elem-more b [] ds e = true-false (sym e)
-elem-more b (c ∷ cs) ds e = either (eqb b c) (elem b cs) e (λ f. rw f) (λ f. split (eqb b c) (λ g. rw g) (λ g. rw g (elem-more b cs ds f)))
-
-elem-right : (b : ℕ) (cs ds : List ℕ) → elem b ds ≡ true → elem b (cs ++ ds) ≡ true
-unfolding elem
-elem-right b [] ds e = e
-elem-right b (c ∷ cs) ds e = split (eqb b c) (λ f. rw f) (λ f. rw f (elem-right b cs ds e))
 
 module _ (cs : List ℕ) where
   count-in : (b : ℕ) (w : List ℕ) → elem b cs ≡ true → count cs (b ∷ w) ≡ suc (count cs w)

@@ -1,0 +1,126 @@
+-- Values that are no lists: what is read of them is what is spelt. Document 01, "The grammar", Values. Assumes nothing.
+use Prim.Native.Nat.{ℕ, zero, suc, _+_, _≤_, _<_}
+use mathlib.Core.Path.{_≡_, refl, sym, ap, _∙_}
+use mathlib.Core.Bool.{Bool, true, false, not, _&&_, _||_}
+use mathlib.Core.List.{List, [], _∷_, _++_, map, append-nil, append-assoc}
+use native.Mathlib.Omega.{arith}
+use lib.ListN.{length, take, drop, take-append-drop}
+use lib.Seq.{take-append-seam, drop-append-seam}
+use lib.Dec.{leb, eqb}
+use borrow.Author.Tests.{leb-true, le-leb, eqb-true, eqb-false, eq-eqb, ne-eqb, not-true}
+use Rattle.paper.specs.Found.{Found, found, fault, andThen, manyOf}
+use Rattle.paper.specs.Bytes.{byte, bytes, all, elem, startsIn, startsWith, scalar, isScalar, encode}
+use Rattle.paper.specs.Values.{Piece, direct, escaped, four, braces, pieceOnto, piecesOnto, pieceRule, oneScalar, is, wordForm, isEnder, endsWord, endsInSlash, Leaf, string, character, backtick, word, leafOnto, leafRule, leafInSlash}
+use Rattle.paper.specs.ReadingValues.{escape, Inside, closes, escapes, breaks, itself, insideOf, pieceTurn, closeCharacter, characterOf, backtickTurn, wordLength, wordOf, wordLeaf, First, quote, apostrophe, tick, other, firstOf, leafOf}
+use Rattle.paper.proofs.Tests.{split, true-false, apart}
+use Rattle.paper.proofs.Finds.{Tail, whole, past, tail-of, tail-drop, tail-end, Fault, faults, Reads, reads-in, reads-then}
+use Rattle.paper.proofs.Lists.{both, and, byFront, all-nil, all-cons, all-head, empty-is, starts-append, elem-right}
+use Rattle.paper.proofs.Scalars.{Spelt, scalar-sound, scalar-encode}
+use Rattle.paper.proofs.Pieces.{pieces-append, Stood, escape-reads, letter-back, four-back, braces-back, inside-itself, byInside, pieces-read, pieces-back, ticks-read, ticks-back, direct-onto, scalar-rule, scalar-one, one-scalar, one-escape}
+use Rattle.paper.proofs.Words.{Cut, word-cut, word-only}
+use Rattle.paper.proofs.WordKinds.{beginsNone, beginsOther, word-begins}
+
+-- ---- the spelling in front of what follows
+
+quoted-append : (q : ℕ) (ps : List Piece) (next : List ℕ) → q ∷ piecesOnto ps (q ∷ next) ≡ (q ∷ piecesOnto ps (q ∷ [])) ++ next
+quoted-append q ps next = rw (pieces-append ps (q ∷ next), pieces-append ps (q ∷ []), append-assoc (piecesOnto ps []) (q ∷ []) next)
+
+pub leaf-append : (v : Leaf) (next : List ℕ) → leafOnto v next ≡ leafOnto v [] ++ next
+unfolding leafOnto
+leaf-append (string ps) next = quoted-append (byte "\"") ps next
+leaf-append (character ps) next = quoted-append (byte "'") ps next
+leaf-append (backtick ps) next = quoted-append (byte "`") ps next
+leaf-append (word form w) next = rw (append-nil w)
+
+-- ---- what is read, and what may follow
+
+pub record ReadLeaf (also s : List ℕ) (v : Leaf) (left : List ℕ) : Type 0 where
+  pub covers : s ≡ leafOnto v left
+  pub rule : leafRule also v ≡ true
+  pub slash : leafInSlash v ≡ true → startsIn (is (byte ">")) left ≡ false
+
+-- what may follow a value, of which it is known whether it ends in "/"
+pub record Follows (also : List ℕ) (inSlash : Bool) (next : List ℕ) : Type 0 where
+  pub ends : endsWord also next ≡ true
+  pub some : 0 < length next
+  pub slash : inSlash ≡ true → startsIn (is (byte ">")) next ≡ false
+
+-- ---- characters
+
+module _ (ps : List Piece) where
+  pub close-there : (l : List ℕ) → closeCharacter ps (byte "'" ∷ l) ≡ found (character ps) l
+  unfolding closeCharacter
+  close-there l = refl
+
+  pub close-not : (b : ℕ) (l : List ℕ) → eqb b (byte "'") ≡ false → closeCharacter ps (b ∷ l) ≡ fault 6 (b ∷ l)
+  unfolding closeCharacter
+  close-not b l e = rw (e, closeCharacter)
+
+module _ (b : ℕ) (l : List ℕ) where
+  pub character-closes : insideOf (byte "'") b ≡ closes → characterOf (b ∷ l) ≡ fault 6 (b ∷ l)
+  unfolding characterOf
+  character-closes e = rw (e, characterOf)
+
+  pub character-breaks : insideOf (byte "'") b ≡ breaks → characterOf (b ∷ l) ≡ fault 6 (b ∷ l)
+  unfolding characterOf
+  character-breaks e = rw (e, characterOf)
+
+  pub character-escapes : insideOf (byte "'") b ≡ escapes → characterOf (b ∷ l) ≡ andThen (escape (byte "'") (b ∷ l) l) (λ p left. closeCharacter (p ∷ []) left)
+  unfolding characterOf
+  character-escapes e = rw (e, characterOf)
+
+  pub character-itself : (v : ℕ) (left : List ℕ) → insideOf (byte "'") b ≡ itself → scalar (b ∷ l) ≡ found v left → characterOf (b ∷ l) ≡ closeCharacter (map direct (encode v)) left
+  unfolding characterOf
+  character-itself v left e f = rw (e, characterOf, f)
+
+  pub character-broken : (n : ℕ) (left : List ℕ) → insideOf (byte "'") b ≡ itself → scalar (b ∷ l) ≡ fault n left → characterOf (b ∷ l) ≡ fault 6 (b ∷ l)
+  unfolding characterOf
+  character-broken n left e f = rw (e, characterOf, f)
+
+module _ (also l : List ℕ) where
+  close-reads : (ps : List Piece) (mid : List ℕ) → l ≡ piecesOnto ps mid → all (pieceRule (byte "'")) ps ≡ true → oneScalar ps ≡ true → Reads mid (ReadLeaf also (byte "'" ∷ l)) (closeCharacter ps mid)
+  unfolding closeCharacter leafOnto leafRule
+  close-reads ps [] c r o = faults 9 (omega arith) whole
+  close-reads ps (b ∷ mid) c r o =
+      split (eqb b (byte "'"))
+      (λ e. rw (eqb-true b (byte "'") e, Reads) (past whole, record { covers = ap (λ (x : List ℕ). byte "'" ∷ x) (c ∙ rw (eqb-true b (byte "'") e)); rule = and r o; slash = λ z. true-false (sym z) }))
+      (λ e. rw (close-not ps b mid e, Reads) (faults 6 (omega arith) whole))
+
+direct-reads : (also : List ℕ) (b : ℕ) (l : List ℕ) → pieceRule (byte "'") (direct b) ≡ true → insideOf (byte "'") b ≡ itself → Reads (b ∷ l) (ReadLeaf also (byte "'" ∷ b ∷ l)) (characterOf (b ∷ l))
+direct-reads also b l r e = go (scalar (b ∷ l)) refl
+  where
+    go : (x : Found ℕ) → scalar (b ∷ l) ≡ x → Reads (b ∷ l) (ReadLeaf also (byte "'" ∷ b ∷ l)) (characterOf (b ∷ l))
+    go (found v left) f =
+        let h = scalar-sound (b ∷ l) v left f in
+        rw (character-itself b l v left e f)
+        (reads-in (tail-of (encode v) (h .whole)) _ (closeCharacter (map direct (encode v)) left)
+        (close-reads also (b ∷ l) (map direct (encode v)) left (h .whole ∙ sym (direct-onto (encode v) left)) (scalar-rule (byte "'") (omega arith) b v l left r (h .whole)) (scalar-one v (h .right))))
+    go (fault n left) f = rw (character-broken b l n left e f, Reads) (faults 6 (omega arith) whole)
+
+pub character-reads : (also l : List ℕ) → Reads l (ReadLeaf also (byte "'" ∷ l)) (characterOf l)
+unfolding characterOf piecesOnto
+character-reads also [] = faults 9 (omega arith) whole
+character-reads also (b ∷ l) =
+    byInside (byte "'") b
+    (λ q e. rw (character-closes b l e, Reads) (faults 6 (omega arith) whole))
+    (λ q e. rw (character-escapes b l e, q)
+    (reads-then (byte "\\" ∷ l) (Stood (byte "'") (byte "\\" ∷ l)) (ReadLeaf also (byte "'" ∷ byte "\\" ∷ l)) _ (escape (byte "'") (byte "\\" ∷ l) l) (escape-reads (byte "'") l)
+    (λ p left h. close-reads also (byte "\\" ∷ l) (p ∷ []) left (h .covers) (all-cons _ p [] (h .rule) (all-nil _)) (one-escape (byte "'") p l left (h .covers) (h .rule)))))
+    (λ e. rw (character-breaks b l e, Reads) (faults 6 (omega arith) whole))
+    (λ r e. direct-reads also b l r e)
+
+escape-back : (p : Piece) (ps : List Piece) (l next : List ℕ) → eqb (length ps) 0 ≡ true → escape (byte "'") (byte "\\" ∷ l) l ≡ found p (piecesOnto ps (byte "'" ∷ next)) → characterOf (byte "\\" ∷ l) ≡ found (character (p ∷ ps)) next
+unfolding insideOf piecesOnto
+escape-back p ps l next n e = character-escapes (byte "\\") l refl ∙ rw (e, empty-is ps n) (close-there (p ∷ []) next)
+
+pub character-back : (ps : List Piece) (next : List ℕ) → all (pieceRule (byte "'")) ps ≡ true → oneScalar ps ≡ true → characterOf (piecesOnto ps (byte "'" ∷ next)) ≡ found (character ps) next
+unfolding oneScalar piecesOnto pieceOnto pieceRule insideOf elem
+character-back [] next r o = true-false (sym o)
+character-back (direct b ∷ ps) next r o =
+    let d = all-head _ (direct b) ps r .0 in
+    one-scalar (byte "'") b ps d o
+    (λ v s q. character-itself b _ v (byte "'" ∷ next) (inside-itself (byte "'") b d) (ap (λ (x : List Piece). scalar (piecesOnto x (byte "'" ∷ next))) q ∙ rw (direct-onto (encode v) (byte "'" ∷ next)) (scalar-encode v _ s))
+    ∙ rw (← q) (close-there (direct b ∷ ps) next))
+character-back (escaped b ∷ ps) next r o = escape-back (escaped b) ps _ next o (letter-back (byte "'") _ b _ refl (all-head _ (escaped b) ps r .0))
+character-back (four digits ∷ ps) next r o = escape-back (four digits) ps _ next o (four-back (byte "'") _ digits _ (all-head _ (four digits) ps r .0))
+character-back (braces digits ∷ ps) next r o = escape-back (braces digits) ps _ next o (braces-back (byte "'") _ digits _ (all-head _ (braces digits) ps r .0))
