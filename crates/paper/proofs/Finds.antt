@@ -72,6 +72,10 @@ pub reads-then : {A B : Type 0} (s : List ℕ) (P : A → List ℕ → Type 0) (
 reads-then s P Q next (found a left) h f = reads-in (h .0) Q (next a left) (f a left (h .1))
 reads-then s P Q next (fault n left) h f = h
 
+pub reads-map : {A B : Type 0} (s : List ℕ) (P : A → List ℕ → Type 0) (Q : B → List ℕ → Type 0) (f : A → B) (x : Found A) → Reads s P x → ((a : A) (left : List ℕ) → P a left → Q (f a) left) → Reads s Q (andThen x (λ a left. found (f a) left))
+reads-map s P Q f (found a left) h k = (h .0, k a left (h .1))
+reads-map s P Q f (fault n left) h k = h
+
 -- ---- the same of a turn
 
 abbrev pub Turns : {A : Type 0} → List ℕ → (A → List ℕ → Type 0) → (List ℕ → Type 0) → Turn A → Type 0

@@ -12,11 +12,11 @@ use Rattle.paper.specs.Found.{Found, found, fault, andThen, manyOf}
 use Rattle.paper.specs.Bytes.{byte, bytes, all, elem, startsIn, startsWith, scalar, isScalar, encode}
 use Rattle.paper.specs.Values.{Piece, direct, escaped, four, braces, pieceOnto, piecesOnto, pieceRule, oneScalar, is, wordForm, isEnder, endsWord, endsInSlash, Leaf, string, character, backtick, word, leafOnto, leafRule, leafInSlash}
 use Rattle.paper.specs.ReadingValues.{escape, Inside, closes, escapes, breaks, itself, insideOf, pieceTurn, closeCharacter, characterOf, backtickTurn, wordLength, wordOf, wordLeaf, First, quote, apostrophe, tick, other, firstOf, leafOf}
-use Rattle.paper.proofs.Tests.{split, true-false, apart}
-use Rattle.paper.proofs.Finds.{Tail, whole, past, tail-of, tail-drop, tail-end, Fault, faults, Reads, reads-in, reads-then}
+use Rattle.paper.proofs.Tests.{split, true-false, apart, upTo}
+use Rattle.paper.proofs.Finds.{Tail, whole, past, tail-of, tail-drop, tail-end, Fault, faults, Reads, reads-in, reads-then, reads-map}
 use Rattle.paper.proofs.Lists.{both, and, byFront, all-nil, all-cons, all-head, empty-is, starts-append, elem-right}
 use Rattle.paper.proofs.Scalars.{Spelt, scalar-sound, scalar-encode}
-use Rattle.paper.proofs.Pieces.{pieces-append, Stood, escape-reads, letter-back, four-back, braces-back, inside-itself, byInside, pieces-read, pieces-back, ticks-read, ticks-back, direct-onto, scalar-rule, scalar-one, one-scalar, one-escape}
+use Rattle.paper.proofs.Pieces.{pieces-append, Stood, escape-reads, letter-back, four-back, braces-back, inside-itself, byInside, Quoted, pieces-read, pieces-back, Ticked, ticks-read, ticks-back, direct-onto, scalar-rule, scalar-one, one-scalar, one-escape}
 use Rattle.paper.proofs.Words.{Cut, word-cut, word-only}
 use Rattle.paper.proofs.WordKinds.{beginsNone, beginsOther, word-begins}
 
@@ -124,3 +124,112 @@ character-back (direct b ∷ ps) next r o =
 character-back (escaped b ∷ ps) next r o = escape-back (escaped b) ps _ next o (letter-back (byte "'") _ b _ refl (all-head _ (escaped b) ps r .0))
 character-back (four digits ∷ ps) next r o = escape-back (four digits) ps _ next o (four-back (byte "'") _ digits _ (all-head _ (four digits) ps r .0))
 character-back (braces digits ∷ ps) next r o = escape-back (braces digits) ps _ next o (braces-back (byte "'") _ digits _ (all-head _ (braces digits) ps r .0))
+
+-- ---- words
+
+module _ (s w : List ℕ) (b : ℕ) (l : List ℕ) where
+  pub word-none : wordForm w ≡ 0 → wordOf s w (b ∷ l) ≡ fault 6 s
+  unfolding wordOf
+  word-none e = rw (eq-eqb (wordForm w) 0 e, wordOf)
+
+  pub word-there : 1 ≤ wordForm w → wordOf s w (b ∷ l) ≡ found (word (wordForm w) w) (b ∷ l)
+  unfolding wordOf
+  word-there h = rw (ne-eqb (wordForm w) 0 (λ e. omega arith), wordOf)
+
+pub word-reads : (also s : List ℕ) → Reads s (ReadLeaf also s) (wordLeaf also s)
+unfolding wordOf leafOnto leafRule
+word-reads also s =
+    let w = take (wordLength also s) s in
+    let left = drop (wordLength also s) s in
+    let cut = word-cut also s in
+    byFront left (λ e. rw (e, Reads) (faults 9 (omega arith) (tail-end s)))
+    (λ b l e. upTo (wordForm w) 0
+    (λ h. rw (e, word-none s w b l (omega arith), Reads) (faults 6 (omega arith) whole))
+    (λ h. rw (e, word-there s w b l h, Reads) (
+      rw e at (tail-drop (wordLength also s) s),
+      record {
+        covers = rw (← e) (sym (take-append-drop (wordLength also s) s));
+        rule = and (and (eq-eqb (wordForm w) (wordForm w) refl) (le-leb 1 (wordForm w) h)) (cut .plain);
+        slash = rw e at (cut .slash);
+      },
+    )))
+
+-- what the rule of a word says
+pub record WordRule (also : List ℕ) (form : ℕ) (w : List ℕ) : Type 0 where
+  pub kind : wordForm w ≡ form
+  pub some : 1 ≤ form
+  pub plain : all (λ b. not (isEnder also b)) w ≡ true
+
+pub word-rule : (also : List ℕ) (form : ℕ) (w : List ℕ) → leafRule also (word form w) ≡ true → WordRule also form w
+unfolding leafRule
+word-rule also form w e =
+    let h = both (eqb (wordForm w) form && leb 1 form) _ e in
+    let k = both (eqb (wordForm w) form) (leb 1 form) (h .0) in
+    record { kind = eqb-true (wordForm w) form (k .0); some = leb-true 1 form (k .1); plain = h .1 }
+
+pub word-back : (also : List ℕ) (form : ℕ) (w next : List ℕ) → leafRule also (word form w) ≡ true → Follows also (endsInSlash w) next → wordLeaf also (w ++ next) ≡ found (word form w) next
+word-back also form w next r f =
+    let h = word-rule also form w r in
+    rw (word-only also w next (record { plain = h .plain; ends = f .ends; slash = f .slash }), take-append-seam w next, drop-append-seam w next)
+    (byFront next (λ e. absurd (omega (arith, ap length e, f .some)))
+    (λ b l e. rw e (word-there (w ++ (b ∷ l)) w b l (omega arith) ∙ rw (h .kind))))
+
+-- ---- by the first byte
+
+module _ (also l : List ℕ) where
+  pub leaf-string : leafOf also (byte "\"" ∷ l) ≡ andThen (manyOf (λ p. 0) pieceTurn 0 l) (λ ps left. found (string ps) left)
+  unfolding leafOf firstOf
+  leaf-string = refl
+
+  pub leaf-character : leafOf also (byte "'" ∷ l) ≡ characterOf l
+  unfolding leafOf firstOf
+  leaf-character = refl
+
+  pub leaf-backtick : leafOf also (byte "`" ∷ l) ≡ andThen (manyOf (λ p. 0) backtickTurn 0 l) (λ ps left. found (backtick ps) left)
+  unfolding leafOf firstOf
+  leaf-backtick = refl
+
+  pub leaf-word : (b : ℕ) → firstOf b ≡ other → leafOf also (b ∷ l) ≡ wordLeaf also (b ∷ l)
+  unfolding leafOf
+  leaf-word b e = rw (e, leafOf)
+
+pub byFirst : {X : Type 0} (b : ℕ) → (b ≡ byte "\"" → X) → (b ≡ byte "'" → X) → (b ≡ byte "`" → X) → (firstOf b ≡ other → X) → X
+unfolding firstOf
+byFirst b double single back on =
+    split (eqb b (byte "\"")) (λ e. double (eqb-true b (byte "\"") e))
+    (λ e. split (eqb b (byte "'")) (λ f. single (eqb-true b (byte "'") f))
+    (λ f. split (eqb b (byte "`")) (λ g. back (eqb-true b (byte "`") g)) (λ g. on (rw (e, f, g)))))
+
+pub leaf-reads : (also s : List ℕ) → Reads s (ReadLeaf also s) (leafOf also s)
+unfolding leafOf leafOnto leafRule
+leaf-reads also [] = faults 9 (omega arith) whole
+leaf-reads also (b ∷ l) =
+    byFirst b
+    (λ q. rw (q, leaf-string also l) (reads-in (past whole) _ (andThen (manyOf (λ p. 0) pieceTurn 0 l) (λ ps left. found (string ps) left))
+    (reads-map l (Quoted l) _ string (manyOf (λ p. 0) pieceTurn 0 l) (pieces-read l)
+    (λ ps left h. record { covers = ap (λ (x : List ℕ). byte "\"" ∷ x) (h .covers); rule = h .rule; slash = λ z. true-false (sym z) }))))
+    (λ q. rw (q, leaf-character also l) (reads-in (past whole) _ (characterOf l) (character-reads also l)))
+    (λ q. rw (q, leaf-backtick also l) (reads-in (past whole) _ (andThen (manyOf (λ p. 0) backtickTurn 0 l) (λ ps left. found (backtick ps) left))
+    (reads-map l (Ticked l) _ backtick (manyOf (λ p. 0) backtickTurn 0 l) (ticks-read l)
+    (λ ps left h. record { covers = ap (λ (x : List ℕ). byte "`" ∷ x) (h .covers); rule = h .rule false (λ z. true-false (sym z)); slash = λ z. true-false (sym z) }))))
+    (λ e. rw (leaf-word also l b e) (word-reads also (b ∷ l)))
+
+-- a word begins with a byte that begins no other value, and stands behind none
+pub leaf-begins : (also : List ℕ) (form : ℕ) (w : List ℕ) → leafRule also (word form w) ≡ true → startsIn (λ b. not (elem b beginsOther)) w ≡ true
+leaf-begins also form w r = let h = word-rule also form w r in word-begins w (omega arith)
+
+word-other : (b : ℕ) → not (elem b beginsOther) ≡ true → firstOf b ≡ other
+unfolding firstOf elem
+word-other b e = rw (apart (λ c. not (elem c beginsOther)) b (byte "\"") e refl, apart (λ c. not (elem c beginsOther)) b (byte "'") e refl, apart (λ c. not (elem c beginsOther)) b (byte "`") e refl)
+
+leaf-other : (also w next : List ℕ) → startsIn (λ b. not (elem b beginsOther)) w ≡ true → leafOf also (w ++ next) ≡ wordLeaf also (w ++ next)
+unfolding startsIn
+leaf-other also [] next e = true-false (sym e)
+leaf-other also (b ∷ w) next e = leaf-word also (w ++ next) b (word-other b e)
+
+pub leaf-back : (also : List ℕ) (v : Leaf) (next : List ℕ) → leafRule also v ≡ true → Follows also (leafInSlash v) next → leafOf also (leafOnto v next) ≡ found v next
+unfolding leafOnto leafRule
+leaf-back also (string ps) next r f = leaf-string also _ ∙ rw (pieces-back ps next r)
+leaf-back also (character ps) next r f = let h = both (all (pieceRule (byte "'")) ps) (oneScalar ps) r in leaf-character also _ ∙ character-back ps next (h .0) (h .1)
+leaf-back also (backtick ps) next r f = leaf-backtick also _ ∙ rw (ticks-back false ps next r)
+leaf-back also (word form w) next r f = leaf-other also w next (leaf-begins also form w r) ∙ word-back also form w next r f
