@@ -76,6 +76,17 @@ pub reads-map : {A B : Type 0} (s : List ℕ) (P : A → List ℕ → Type 0) (Q
 reads-map s P Q f (found a left) h k = (h .0, k a left (h .1))
 reads-map s P Q f (fault n left) h k = h
 
+-- two readings after one another, put together
+pub reads-two : {A B C : Type 0} (s : List ℕ) (P : A → List ℕ → Type 0) (R : List ℕ → B → List ℕ → Type 0) (Q : C → List ℕ → Type 0) (make : A → B → C) (x : Found A) (next : List ℕ → Found B)
+    → Reads s P x → ((mid : List ℕ) → Reads mid (R mid) (next mid)) → ((a : A) (mid : List ℕ) (b : B) (left : List ℕ) → P a mid → R mid b left → Q (make a b) left)
+    → Reads s Q (andThen x (λ a mid. andThen (next mid) (λ b left. found (make a b) left)))
+reads-two s P R Q make x next h k f = reads-then s P Q _ x h (λ a mid p. reads-map mid (R mid) Q (make a) (next mid) (k mid) (λ b left r. f a mid b left p r))
+
+-- what is read next matters only behind what can be found
+pub then-same : {A B : Type 0} (s : List ℕ) (P : A → List ℕ → Type 0) (x : Found A) (f g : A → List ℕ → Found B) → Reads s P x → ((a : A) (left : List ℕ) → P a left → f a left ≡ g a left) → andThen x f ≡ andThen x g
+then-same s P (found a left) f g h e = e a left (h .1)
+then-same s P (fault n left) f g h e = refl
+
 -- ---- the same of a turn
 
 abbrev pub Turns : {A : Type 0} → List ℕ → (A → List ℕ → Type 0) → (List ℕ → Type 0) → Turn A → Type 0

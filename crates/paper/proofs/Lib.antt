@@ -8,4 +8,5 @@ pub mod Pieces
 pub mod Words
 pub mod WordKinds
 pub mod Leaves
+pub mod ReadValues
 pub mod Starred

@@ -91,10 +91,18 @@ unfolding startsIn
 starts-append class [] w e = true-false (sym e)
 starts-append class (b ∷ v) w e = e
 
-pub starts-apart : (class : ℕ → Bool) (c : ℕ) (w : List ℕ) → startsIn class w ≡ true → class c ≡ false → startsIn (λ b. eqb b c) w ≡ false
+pub starts-some : (class : ℕ → Bool) (w : List ℕ) → startsIn class w ≡ true → 0 < length w
 unfolding startsIn
-starts-apart class c [] e f = refl
-starts-apart class c (b ∷ w) e f = apart class b c e f
+starts-some class [] e = true-false (sym e)
+starts-some class (b ∷ w) e = omega arith
+
+pub starts-off : (p q : ℕ → Bool) → ((b : ℕ) → p b ≡ true → q b ≡ false) → (w : List ℕ) → startsIn p w ≡ true → startsIn q w ≡ false
+unfolding startsIn
+starts-off p q h [] e = refl
+starts-off p q h (b ∷ w) e = h b e
+
+pub starts-apart : (class : ℕ → Bool) (c : ℕ) (w : List ℕ) → startsIn class w ≡ true → class c ≡ false → startsIn (λ b. eqb b c) w ≡ false
+starts-apart class c w e f = starts-off class _ (λ b h. apart class b c h f) w e
 
 -- ---- the bytes of a class in front
 

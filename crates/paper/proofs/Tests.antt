@@ -25,6 +25,13 @@ pub either : {X : Type 0} (a b : Bool) → a || b ≡ true → (a ≡ true → X
 either true b e on off = on refl
 either false b e on off = off e
 
+pub or-left : (a b : Bool) → a ≡ true → a || b ≡ true
+or-left a b e = rw e
+
+pub or-right : (a b : Bool) → b ≡ true → a || b ≡ true
+or-right true b e = refl
+or-right false b e = e
+
 -- ---- orders and ranges
 
 pub upTo : {X : Type 0} (b high : ℕ) → (b ≤ high → X) → (high < b → X) → X

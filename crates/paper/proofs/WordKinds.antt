@@ -10,7 +10,7 @@ use borrow.Author.Tests.{leb-true, le-leb, lt-leb, eqb-true, eq-eqb, not-true, n
 use Rattle.paper.specs.Found.{pick}
 use Rattle.paper.specs.Bytes.{byte, bytes, isUpper, isLower, isDigit, isLetter, isNameByte, isHex, all, elem, same, startsIn, lengthIn, front, behind, space, tab, lf, cr}
 use Rattle.paper.specs.Values.{is, upTo, onward, past, isToken, hexGroups, isUuid, areDigits, isCount, unsigned, isInteger, isDecimal, isExponent, isScientific, isFraction, isIriBody, isScheme, isIri, wordForm, listEnders}
-use Rattle.paper.proofs.Tests.{split, true-false, apart, either}
+use Rattle.paper.proofs.Tests.{split, true-false, apart, either, or-left, or-right}
 use Rattle.paper.proofs.Lists.{both, and, is-not, byFront, all-nil, all-cons, all-head, all-weaken, front-all, front-behind, behind-stops, all-append, starts-weaken, starts-append, starts-apart, elem-apart, elem-more, elem-right, same-is}
 
 -- ---- the kinds in the order of their forms
@@ -106,13 +106,6 @@ record Number (cs : List ℕ) (minus : ℕ) (w : List ℕ) : Type 0 where
   made : all (digitOr cs) w ≡ true
   first : startsIn (digitOr (bytes "+-")) w ≡ true
   few : count (bytes "-") w ≤ minus
-
-or-right : (a b : Bool) → b ≡ true → a || b ≡ true
-or-right true b e = refl
-or-right false b e = e
-
-or-left : (a b : Bool) → a ≡ true → a || b ≡ true
-or-left a b e = rw e
 
 digits-of : (w : List ℕ) → areDigits w ≡ true → (startsIn isDigit w ≡ true) × (all isDigit w ≡ true)
 unfolding areDigits
