@@ -201,3 +201,182 @@ mutual
   items-reads zero lists s = faults 9 (omega arith) whole
   items-reads (suc fuel) lists [] = faults 9 (omega arith) whole
   items-reads (suc fuel) lists (b ∷ l) = behind-reads fuel (λ n m. value-reads fuel n listEnders m) (λ n m. items-reads fuel n m) lists b l
+
+-- ---- fuel above the length does not matter
+
+abbrev pub valueOf : ℕ → List ℕ → List ℕ → Found Value
+valueOf lists also s = value (suc (length s)) lists also s
+
+abbrev pub moreOf : ℕ → List ℕ → Found More
+moreOf lists s = items (suc (length s)) lists s
+
+item-same : {A : Type 0} (lists : ℕ) (make : Value → More → A) (s : List ℕ) (x y : Found Value) (p q : List ℕ → Found More) → x ≡ y → Reads s (ReadValue lists listEnders s) y → ((left : List ℕ) → length left < length s → p left ≡ q left)
+    → andThen x (λ v left. andThen (p left) (λ more end. found (make v more) end)) ≡ andThen y (λ v left. andThen (q left) (λ more end. found (make v more) end))
+item-same lists make s x y p q e r f =
+    ap (λ (z : Found Value). andThen z (λ v left. andThen (p left) (λ more end. found (make v more) end))) e
+    ∙ then-same s (ReadValue lists listEnders s) y _ _ r (λ v left h. ap (λ (z : Found More). andThen z (λ more end. found (make v more) end)) (f left (h .shorter)))
+
+module _ (f g : ℕ) (ones : (lists : ℕ) (s : List ℕ) → length s < f → length s < g → value f lists listEnders s ≡ value g lists listEnders s) (mores : (lists : ℕ) (s : List ℕ) → length s < f → length s < g → items f lists s ≡ items g lists s) where
+  item-fuel : {A : Type 0} (lists : ℕ) (make : Value → More → A) (s : List ℕ) → length s < f → length s < g → itemThen f lists make s ≡ itemThen g lists make s
+  item-fuel lists make s h k = item-same lists make s _ _ (items f lists) (items g lists) (ones lists s h k) (value-reads g lists listEnders s) (λ left l. mores lists left (omega arith) (omega arith))
+
+  bracket-fuel : (lists : ℕ) (also l : List ℕ) → length l < f → length l < g → value (suc f) lists also (byte "[" ∷ l) ≡ value (suc g) lists also (byte "[" ∷ l)
+  bracket-fuel zero also l h k = value-deep f 0 also l ∙ sym (value-deep g 0 also l)
+  bracket-fuel (suc lists) also l h k =
+      split (startsWith (bytes "]") l)
+      (λ e. rw (starts-is (bytes "]") l e) (value-empty f lists also (drop 1 l) ∙ sym (value-empty g lists also (drop 1 l))))
+      (λ e. value-list f lists also l e ∙ item-fuel lists list l h k ∙ sym (value-list g lists also l e))
+
+  behind-fuel : (lists b : ℕ) (l : List ℕ) → length l < f → length l < g → items (suc f) lists (b ∷ l) ≡ items (suc g) lists (b ∷ l)
+  behind-fuel lists b l h k =
+      let n = tail-length (tail-drop (lengthIn isWhite l) l) in
+      split (eqb b (byte "]"))
+      (λ e. rw (eqb-true b (byte "]") e) (items-close f lists l ∙ sym (items-close g lists l)))
+      (λ e. split (eqb b (byte ","))
+      (λ c. rw (eqb-true b (byte ",") c) (items-comma f lists l ∙ item-fuel lists (comma (front isWhite l)) (behind isWhite l) (omega arith) (omega arith) ∙ sym (items-comma g lists l)))
+      (λ c. items-other f lists l b e c ∙ sym (items-other g lists l b e c)))
+
+mutual
+  unfolding value
+
+  pub value-fuel : (f g lists : ℕ) (also s : List ℕ) → length s < f → length s < g → value f lists also s ≡ value g lists also s
+  value-fuel zero g lists also s h k = absurd (omega arith)
+  value-fuel (suc f) zero lists also s h k = absurd (omega arith)
+  value-fuel (suc f) (suc g) lists also s h k =
+      split (startsWith (bytes "[") s)
+      (λ e. let q = starts-is (bytes "[") s e in let n = ap length q in
+      rw q (bracket-fuel f g (λ m l a b. value-fuel f g m listEnders l a b) (λ m l a b. items-fuel f g m l a b) lists also (drop 1 s) (omega arith) (omega arith)))
+      (λ e. value-leaf f lists also s e ∙ sym (value-leaf g lists also s e))
+
+  pub items-fuel : (f g lists : ℕ) (s : List ℕ) → length s < f → length s < g → items f lists s ≡ items g lists s
+  items-fuel zero g lists s h k = absurd (omega arith)
+  items-fuel (suc f) zero lists s h k = absurd (omega arith)
+  items-fuel (suc f) (suc g) lists [] h k = refl
+  items-fuel (suc f) (suc g) lists (b ∷ l) h k = behind-fuel f g (λ m l a c. value-fuel f g m listEnders l a c) (λ m l a c. items-fuel f g m l a c) lists b l (omega arith) (omega arith)
+
+-- ---- the steps without fuel
+
+abbrev pub itemAnd : {A : Type 0} → ℕ → (Value → More → A) → List ℕ → Found A
+itemAnd lists make s = andThen (valueOf lists listEnders s) (λ v left. andThen (moreOf lists left) (λ more end. found (make v more) end))
+
+item-free : {A : Type 0} (fuel lists : ℕ) (make : Value → More → A) (s : List ℕ) → length s < fuel → itemThen fuel lists make s ≡ itemAnd lists make s
+item-free fuel lists make s h =
+    item-same lists make s _ _ (items fuel lists) (moreOf lists) (value-fuel fuel (suc (length s)) lists listEnders s h (omega arith)) (value-reads (suc (length s)) lists listEnders s)
+    (λ left l. items-fuel fuel (suc (length left)) lists left (omega arith) (omega arith))
+
+module _ (lists : ℕ) where
+  pub value-of-leaf : (also s : List ℕ) → startsWith (bytes "[") s ≡ false → valueOf lists also s ≡ andThen (leafOf also s) (λ v left. found (leaf v) left)
+  value-of-leaf also s e = value-leaf (length s) lists also s e
+
+  module _ (also l : List ℕ) where
+    pub value-of-deep : valueOf 0 also (byte "[" ∷ l) ≡ fault 10 (byte "[" ∷ l)
+    value-of-deep = value-deep (suc (length l)) 0 also l
+
+    pub value-of-empty : valueOf (suc lists) also (byte "[" ∷ byte "]" ∷ l) ≡ found emptyList l
+    value-of-empty = value-empty (suc (suc (length l))) lists also l
+
+    pub value-of-list : startsWith (bytes "]") l ≡ false → valueOf (suc lists) also (byte "[" ∷ l) ≡ itemAnd lists list l
+    value-of-list e = value-list (suc (length l)) lists also l e ∙ item-free (suc (length l)) lists list l (omega arith)
+
+  pub more-of-end : moreOf lists [] ≡ fault 9 []
+  unfolding items
+  more-of-end = refl
+
+  module _ (l : List ℕ) where
+    pub more-of-close : moreOf lists (byte "]" ∷ l) ≡ found close l
+    more-of-close = items-close (suc (length l)) lists l
+
+    pub more-of-comma : moreOf lists (byte "," ∷ l) ≡ itemAnd lists (comma (front isWhite l)) (behind isWhite l)
+    more-of-comma = let n = tail-length (tail-drop (lengthIn isWhite l) l) in items-comma (suc (length l)) lists l ∙ item-free (suc (length l)) lists (comma (front isWhite l)) (behind isWhite l) (omega arith)
+
+    pub more-of-other : (b : ℕ) → eqb b (byte "]") ≡ false → eqb b (byte ",") ≡ false → moreOf lists (b ∷ l) ≡ fault 6 (b ∷ l)
+    more-of-other b e f = items-other (suc (length l)) lists l b e f
+
+-- ---- a trait's whole value
+
+module _ (lists : ℕ) (s : List ℕ) where
+  pub whole-found : (v : Value) (left : List ℕ) → valueOf lists [] s ≡ found v left → wholeValue lists s ≡ found v left
+  unfolding wholeValue
+  whole-found v left e = rw (e, wholeValue)
+
+  pub whole-fault : (n : ℕ) (left : List ℕ) → valueOf lists [] s ≡ fault n left → wholeValue lists s ≡ fault n (pick (eqb n 6) s left)
+  unfolding wholeValue
+  whole-fault n left e = rw (e, wholeValue)
+
+  pub whole-reads : Reads s (ReadValue lists [] s) (wholeValue lists s)
+  whole-reads = go (valueOf lists [] s) refl (value-reads (suc (length s)) lists [] s)
+    where
+      go : (x : Found Value) → valueOf lists [] s ≡ x → Reads s (ReadValue lists [] s) x → Reads s (ReadValue lists [] s) (wholeValue lists s)
+      go (found v left) e h = rw (whole-found v left e, Reads) h
+      go (fault n left) e h = rw (whole-fault n left e, Reads) (split (eqb n 6) (λ f. rw f (faults n (h .least, h .most) whole)) (λ f. rw f h))
+
+-- ---- a spelt value is read back
+
+leaf-no-list : (also : List ℕ) (v : Leaf) (next : List ℕ) → leafRule also v ≡ true → startsWith (bytes "[") (leafOnto v next) ≡ false
+unfolding leafOnto startsWith elem
+leaf-no-list also (string ps) next r = refl
+leaf-no-list also (character ps) next r = refl
+leaf-no-list also (backtick ps) next r = refl
+leaf-no-list also (word form w) next r = starts-not (λ b. not (elem b beginsOther)) (byte "[") (w ++ next) (starts-append _ w next (leaf-begins also form w r)) refl
+
+no-close : (also : List ℕ) (v : Value) (next : List ℕ) → valueRule also v ≡ true → startsWith (bytes "]") (valueOnto v next) ≡ false
+unfolding elem
+no-close also v next r = starts-not mayBegin (byte "]") (valueOnto v next) (value-begins also v next r) refl
+
+follows-more : (inSlash : Bool) (more : More) (next : List ℕ) → Follows listEnders inSlash (moreOnto more next)
+unfolding moreOnto elem
+follows-more inSlash close next = follows-ender listEnders inSlash (byte "]") next refl refl
+follows-more inSlash (comma white v more) next = follows-ender listEnders inSlash (byte ",") _ refl refl
+
+mutual
+  unfolding valueOnto valueRule listDepth
+
+  pub value-back : (v : Value) (lists : ℕ) (also next : List ℕ) → valueRule also v ≡ true → listDepth v ≤ lists → Follows also (valueInSlash v) next → valueOf lists also (valueOnto v next) ≡ found v next
+  value-back (leaf v) lists also next r d f = value-of-leaf lists also (leafOnto v next) (leaf-no-list also v next r) ∙ rw (leaf-back also v next r f)
+  value-back emptyList zero also next r d f = absurd (omega arith)
+  value-back emptyList (suc lists) also next r d f = value-of-empty lists also next
+  value-back (list v more) zero also next r d f = absurd (omega arith)
+  value-back (list v more) (suc lists) also next r d f =
+      let h = both (valueRule listEnders v) (moreRule more) r in
+      value-of-list lists also _ (no-close listEnders v (moreOnto more next) (h .0))
+      ∙ rw (value-back v lists listEnders (moreOnto more next) (h .0) (omega arith) (follows-more (valueInSlash v) more next), more-back more lists next (h .1) (omega arith))
+
+  pub more-back : (more : More) (lists : ℕ) (next : List ℕ) → moreRule more ≡ true → moreDepth more ≤ lists → moreOf lists (moreOnto more next) ≡ found more next
+  more-back close lists next r d = more-of-close lists next
+  more-back (comma white v more) lists next r d =
+      let h = both (all isWhite white && valueRule listEnders v) (moreRule more) r in
+      let k = both (all isWhite white) (valueRule listEnders v) (h .0) in
+      more-of-comma lists (white ++ valueOnto v (moreOnto more next))
+      ∙ rw (
+        white-front listEnders v white (moreOnto more next) (k .1) (k .0),
+        white-behind listEnders v white (moreOnto more next) (k .1) (k .0),
+        value-back v lists listEnders (moreOnto more next) (k .1) (omega arith) (follows-more (valueInSlash v) more next),
+        more-back more lists next (h .1) (omega arith),
+      )
+
+pub value-complete : (fuel lists : ℕ) (also : List ℕ) (v : Value) (next : List ℕ) → valueRule also v ≡ true → listDepth v ≤ lists → Follows also (valueInSlash v) next → length (valueOnto v next) < fuel → value fuel lists also (valueOnto v next) ≡ found v next
+value-complete fuel lists also v next r d f h = value-fuel fuel (suc (length (valueOnto v next))) lists also (valueOnto v next) h (omega arith) ∙ value-back v lists also next r d f
+
+pub whole-complete : (lists : ℕ) (v : Value) (next : List ℕ) → valueRule [] v ≡ true → listDepth v ≤ lists → Follows [] (valueInSlash v) next → wholeValue lists (valueOnto v next) ≡ found v next
+whole-complete lists v next r d f = whole-found lists (valueOnto v next) v next (value-back v lists [] next r d f)
+
+-- ---- a spelling is that of one value
+
+-- a space may follow any value
+pub follows-space : (also : List ℕ) (inSlash : Bool) (next : List ℕ) → Follows also inSlash (space ∷ next)
+unfolding endsWord isEnder isWhite isBlank startsIn
+follows-space also inSlash next = record { ends = refl; some = omega arith; slash = λ z. refl }
+
+pub spelling-only : (also : List ℕ) (v w : Value) → valueRule also v ≡ true → valueRule also w ≡ true → spelling v ≡ spelling w → v ≡ w
+spelling-only also v w p q e =
+    let lists = max (listDepth v) (listDepth w) in
+    let next = space ∷ [] in
+    let same : valueOnto v next ≡ valueOnto w next = value-append v next ∙ rw e (sym (value-append w next)) in
+    let a = value-back v lists also next p (omega arith) (follows-space also (valueInSlash v) []) in
+    let b = value-back w lists also next q (omega arith) (follows-space also (valueInSlash w) []) in
+    let c : found v next ≡ found w next = sym a ∙ ap (valueOf lists also) same ∙ b in
+    cc
+
+-- so what it means is a function of the spelling
+pub sense-only : (also : List ℕ) (v w : Value) → valueRule also v ≡ true → valueRule also w ≡ true → spelling v ≡ spelling w → valueSense v ≡ valueSense w
+sense-only also v w p q e = ap valueSense (spelling-only also v w p q e)
