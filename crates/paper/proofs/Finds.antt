@@ -1,6 +1,6 @@
 -- What holds of all that a reading finds, and of the faults that it meets. Assumes nothing.
 use Prim.Native.Nat.{ℕ, suc, _≤_, _<_}
-use mathlib.Core.Path.{_≡_, refl, ap}
+use mathlib.Core.Path.{_≡_, refl, ap, _∙_}
 use mathlib.Core.List.{List, [], _∷_, _++_}
 use native.Mathlib.Omega.{arith}
 use lib.ListN.{length, drop}
@@ -86,6 +86,13 @@ reads-two s P R Q make x next h k f = reads-then s P Q _ x h (λ a mid p. reads-
 pub then-same : {A B : Type 0} (s : List ℕ) (P : A → List ℕ → Type 0) (x : Found A) (f g : A → List ℕ → Found B) → Reads s P x → ((a : A) (left : List ℕ) → P a left → f a left ≡ g a left) → andThen x f ≡ andThen x g
 then-same s P (found a left) f g h e = e a left (h .1)
 then-same s P (fault n left) f g h e = refl
+
+pub two-same : {A B C : Type 0} (s : List ℕ) (P : A → List ℕ → Type 0) (make : A → B → C) (x y : Found A) (p q : List ℕ → Found B)
+    → x ≡ y → Reads s P y → ((a : A) (mid : List ℕ) → P a mid → p mid ≡ q mid)
+    → andThen x (λ a mid. andThen (p mid) (λ b left. found (make a b) left)) ≡ andThen y (λ a mid. andThen (q mid) (λ b left. found (make a b) left))
+two-same {A} {B} s P make x y p q e r f =
+    ap (λ (z : Found A). andThen z (λ a mid. andThen (p mid) (λ b left. found (make a b) left))) e
+    ∙ then-same s P y _ _ r (λ a mid h. ap (λ (z : Found B). andThen z (λ b left. found (make a b) left)) (f a mid h))
 
 -- ---- the same of a turn
 

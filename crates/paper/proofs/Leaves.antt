@@ -1,24 +1,24 @@
 -- Values that are no lists: what is read of them is what is spelt. Document 01, "The grammar", Values. Assumes nothing.
-use Prim.Native.Nat.{ℕ, zero, suc, _+_, _≤_, _<_}
+use Prim.Native.Nat.{ℕ, _≤_, _<_}
 use mathlib.Core.Path.{_≡_, refl, sym, ap, _∙_}
-use mathlib.Core.Bool.{Bool, true, false, not, _&&_, _||_}
+use mathlib.Core.Bool.{Bool, true, false, not, _&&_}
 use mathlib.Core.List.{List, [], _∷_, _++_, map, append-nil, append-assoc}
 use native.Mathlib.Omega.{arith}
 use lib.ListN.{length, take, drop, take-append-drop}
 use lib.Seq.{take-append-seam, drop-append-seam}
 use lib.Dec.{leb, eqb}
-use borrow.Author.Tests.{leb-true, le-leb, eqb-true, eqb-false, eq-eqb, ne-eqb, not-true}
+use borrow.Author.Tests.{leb-true, le-leb, eqb-true, eq-eqb, ne-eqb}
 use Rattle.paper.specs.Found.{Found, found, fault, andThen, manyOf}
-use Rattle.paper.specs.Bytes.{byte, bytes, all, elem, startsIn, startsWith, scalar, isScalar, encode}
+use Rattle.paper.specs.Bytes.{byte, bytes, all, elem, startsIn, scalar, encode}
 use Rattle.paper.specs.Values.{Piece, direct, escaped, four, braces, pieceOnto, piecesOnto, pieceRule, oneScalar, is, wordForm, isEnder, endsWord, endsInSlash, Leaf, string, character, backtick, word, leafOnto, leafRule, leafInSlash}
-use Rattle.paper.specs.ReadingValues.{escape, Inside, closes, escapes, breaks, itself, insideOf, pieceTurn, closeCharacter, characterOf, backtickTurn, wordLength, wordOf, wordLeaf, First, quote, apostrophe, tick, other, firstOf, leafOf}
+use Rattle.paper.specs.ReadingValues.{escape, closes, escapes, breaks, itself, insideOf, pieceTurn, closeCharacter, characterOf, backtickTurn, wordLength, wordOf, wordLeaf, other, firstOf, leafOf}
 use Rattle.paper.proofs.Tests.{split, true-false, apart, upTo}
-use Rattle.paper.proofs.Finds.{Tail, whole, past, tail-of, tail-drop, tail-end, Fault, faults, Reads, reads-in, reads-then, reads-map}
-use Rattle.paper.proofs.Lists.{both, and, byFront, all-nil, all-cons, all-head, empty-is, starts-append, elem-right}
-use Rattle.paper.proofs.Scalars.{Spelt, scalar-sound, scalar-encode}
+use Rattle.paper.proofs.Finds.{whole, past, tail-of, tail-drop, tail-end, faults, Reads, reads-in, reads-then, reads-map}
+use Rattle.paper.proofs.Lists.{both, and, byFront, all-nil, all-cons, all-head, without, without-less, starts-weaken, starts-append, empty-is}
+use Rattle.paper.proofs.Scalars.{scalar-sound, scalar-encode}
 use Rattle.paper.proofs.Pieces.{pieces-append, Stood, escape-reads, letter-back, four-back, braces-back, inside-itself, byInside, Quoted, pieces-read, pieces-back, Ticked, ticks-read, ticks-back, direct-onto, scalar-rule, scalar-one, one-scalar, one-escape}
-use Rattle.paper.proofs.Words.{Cut, word-cut, word-only}
-use Rattle.paper.proofs.WordKinds.{beginsNone, beginsOther, word-begins}
+use Rattle.paper.proofs.Words.{word-cut, word-only}
+use Rattle.paper.proofs.WordKinds.{beginsNoLeaf, beginsNoWord, word-begins}
 
 -- ---- the spelling in front of what follows
 
@@ -214,15 +214,22 @@ leaf-reads also (b ∷ l) =
     (λ ps left h. record { covers = ap (λ (x : List ℕ). byte "`" ∷ x) (h .covers); rule = h .rule false (λ z. true-false (sym z)); slash = λ z. true-false (sym z) }))))
     (λ e. rw (leaf-word also l b e) (word-reads also (b ∷ l)))
 
--- a word begins with a byte that begins no other value, and stands behind none
-pub leaf-begins : (also : List ℕ) (form : ℕ) (w : List ℕ) → leafRule also (word form w) ≡ true → startsIn (λ b. not (elem b beginsOther)) w ≡ true
-leaf-begins also form w r = let h = word-rule also form w r in word-begins w (omega arith)
+-- a word, and any other value that is no list, begins with a byte that begins no value of another sort and stands behind none
+word-first : (also : List ℕ) (form : ℕ) (w : List ℕ) → leafRule also (word form w) ≡ true → startsIn (without beginsNoWord) w ≡ true
+word-first also form w r = let h = word-rule also form w r in word-begins w (omega arith)
 
-word-other : (b : ℕ) → not (elem b beginsOther) ≡ true → firstOf b ≡ other
+pub leaf-begins : (also : List ℕ) (v : Leaf) (next : List ℕ) → leafRule also v ≡ true → startsIn (without beginsNoLeaf) (leafOnto v next) ≡ true
+unfolding leafOnto startsIn elem
+leaf-begins also (string ps) next r = refl
+leaf-begins also (character ps) next r = refl
+leaf-begins also (backtick ps) next r = refl
+leaf-begins also (word form w) next r = starts-append _ w next (starts-weaken _ _ (without-less (bytes "\"'`") beginsNoLeaf) w (word-first also form w r))
+
+word-other : (b : ℕ) → without beginsNoWord b ≡ true → firstOf b ≡ other
 unfolding firstOf elem
-word-other b e = rw (apart (λ c. not (elem c beginsOther)) b (byte "\"") e refl, apart (λ c. not (elem c beginsOther)) b (byte "'") e refl, apart (λ c. not (elem c beginsOther)) b (byte "`") e refl)
+word-other b e = rw (apart (without beginsNoWord) b (byte "\"") e refl, apart (without beginsNoWord) b (byte "'") e refl, apart (without beginsNoWord) b (byte "`") e refl)
 
-leaf-other : (also w next : List ℕ) → startsIn (λ b. not (elem b beginsOther)) w ≡ true → leafOf also (w ++ next) ≡ wordLeaf also (w ++ next)
+leaf-other : (also w next : List ℕ) → startsIn (without beginsNoWord) w ≡ true → leafOf also (w ++ next) ≡ wordLeaf also (w ++ next)
 unfolding startsIn
 leaf-other also [] next e = true-false (sym e)
 leaf-other also (b ∷ w) next e = leaf-word also (w ++ next) b (word-other b e)
@@ -232,4 +239,4 @@ unfolding leafOnto leafRule
 leaf-back also (string ps) next r f = leaf-string also _ ∙ rw (pieces-back ps next r)
 leaf-back also (character ps) next r f = let h = both (all (pieceRule (byte "'")) ps) (oneScalar ps) r in leaf-character also _ ∙ character-back ps next (h .0) (h .1)
 leaf-back also (backtick ps) next r f = leaf-backtick also _ ∙ rw (ticks-back false ps next r)
-leaf-back also (word form w) next r f = leaf-other also w next (leaf-begins also form w r) ∙ word-back also form w next r f
+leaf-back also (word form w) next r f = leaf-other also w next (word-first also form w r) ∙ word-back also form w next r f

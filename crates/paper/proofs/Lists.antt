@@ -79,6 +79,13 @@ unfolding elem
 elem-right b [] ds e = e
 elem-right b (c ∷ cs) ds e = split (eqb b c) (λ f. rw f) (λ f. rw f (elem-right b cs ds e))
 
+-- a byte that is none of these is none of some of them
+abbrev pub without : List ℕ → ℕ → Bool
+without cs b = not (elem b cs)
+
+pub without-less : (cs ds : List ℕ) (b : ℕ) → without (cs ++ ds) b ≡ true → without ds b ≡ true
+without-less cs ds b e = split (elem b ds) (λ f. true-false (sym e ∙ ap not (elem-right b cs ds f))) (λ f. is-not f)
+
 -- ---- the first byte of a class
 
 pub starts-weaken : (p q : ℕ → Bool) → ((b : ℕ) → p b ≡ true → q b ≡ true) → (w : List ℕ) → startsIn p w ≡ true → startsIn q w ≡ true

@@ -1,21 +1,21 @@
 -- Pieces of strings, characters and backticks: what is read of them is what is spelt. Document 01, "The grammar", Values. Assumes nothing.
-use Prim.Native.Nat.{ℕ, zero, suc, _+_, _≤_, _<_}
+use Prim.Native.Nat.{ℕ, suc, _≤_, _<_}
 use mathlib.Core.Path.{_≡_, refl, sym, ap, _∙_}
-use mathlib.Core.Bool.{Bool, true, false, not, _&&_, _||_}
+use mathlib.Core.Bool.{Bool, true, false, not, _&&_}
 use mathlib.Core.List.{List, [], _∷_, _++_, map, append-nil, append-assoc}
 use native.Mathlib.Omega.{arith}
 use lib.ListN.{length, take, drop, length-append, take-append-drop}
 use lib.Seq.{take-at, drop-at}
 use lib.Dec.{leb, eqb}
-use borrow.Author.Tests.{leb-true, leb-false, le-leb, lt-leb, eqb-true, eq-eqb, ne-eqb, not-true}
-use Rattle.paper.specs.Found.{Found, found, fault, andThen, Turn, more, over, stop, turnOf, manyOf, pick}
+use borrow.Author.Tests.{leb-true, le-leb, lt-leb, eqb-true, not-true}
+use Rattle.paper.specs.Found.{Found, found, fault, more, over, stop, turnOf, manyOf}
 use Rattle.paper.specs.Bytes.{byte, bytes, isDigit, isHex, isLineEnd, all, elem, startsIn, startsWith, lengthIn, front, behind, scalar, isScalar, encode}
 use Rattle.paper.specs.Values.{Piece, direct, escaped, four, braces, pieceOnto, piecesOnto, spellsScalar, hexValue, pieceRule, oneScalar, backtickRule, is}
-use Rattle.paper.specs.ReadingValues.{judged, fourDigits, bracedDigits, escape, Inside, closes, escapes, breaks, itself, insideOf, pieceTurn, backtickTurn}
-use Rattle.paper.proofs.Tests.{split, true-false, apart, either, upTo}
-use Rattle.paper.proofs.Finds.{Tail, whole, past, tail-of, tail-end, Fault, faults, Reads, Turns, turns-of}
-use Rattle.paper.proofs.Scalars.{Spelt, scalar-sound, scalar-encode, encode-high}
-use Rattle.paper.proofs.Runs.{Says, many-reads, Shorter, turns-shorter, run-more, run-over}
+use Rattle.paper.specs.ReadingValues.{judged, fourDigits, bracedDigits, escape, closes, escapes, breaks, itself, insideOf, pieceTurn, backtickTurn}
+use Rattle.paper.proofs.Tests.{split, true-false, apart, upTo}
+use Rattle.paper.proofs.Finds.{whole, past, tail-of, tail-end, faults, Reads, Turns, turns-of}
+use Rattle.paper.proofs.Scalars.{scalar-sound, scalar-encode, encode-high}
+use Rattle.paper.proofs.Runs.{many-reads, Shorter, turns-shorter, run-more, run-over}
 use Rattle.paper.proofs.Lists.{both, and, is-not, byFront, all-nil, all-cons, starts-is, front-behind, front-length, front-of, behind-of, front-least, all-head, starts-not, all-weaken, all-map, empty-is}
 
 -- ---- the spelling in front of what follows

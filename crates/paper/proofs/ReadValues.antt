@@ -1,21 +1,21 @@
 -- All values: what is read of them is what is spelt, and each spelling is that of one value. Document 01, "The grammar", Values. Assumes nothing.
 use Prim.Native.Nat.{ℕ, zero, suc, _+_, _≤_, _<_, max}
 use mathlib.Core.Path.{_≡_, refl, sym, ap, _∙_}
-use mathlib.Core.Bool.{Bool, true, false, not, _&&_, _||_}
+use mathlib.Core.Bool.{Bool, true, false, not, _&&_}
 use mathlib.Core.List.{List, [], _∷_, _++_, append-assoc}
 use native.Mathlib.Omega.{arith}
 use lib.ListN.{length, drop, length-append}
 use lib.Dec.{eqb}
-use borrow.Author.Tests.{eqb-true, not-true}
+use borrow.Author.Tests.{eqb-true}
 use Rattle.paper.specs.Found.{Found, found, fault, andThen, pick}
 use Rattle.paper.specs.Bytes.{byte, bytes, isWhite, isBlank, isLineEnd, all, elem, startsIn, startsWith, front, behind, lengthIn, space, tab, lf, cr}
-use Rattle.paper.specs.Values.{is, isEnder, endsWord, listEnders, Leaf, string, character, backtick, word, leafOnto, leafRule, Value, leaf, emptyList, list, More, close, comma, valueOnto, moreOnto, spelling, valueRule, moreRule, valueInSlash, listDepth, moreDepth}
+use Rattle.paper.specs.Values.{is, isEnder, endsWord, listEnders, Leaf, leafOnto, leafRule, Value, leaf, emptyList, list, More, close, comma, valueOnto, moreOnto, spelling, valueRule, moreRule, valueInSlash, listDepth, moreDepth}
 use Rattle.paper.specs.ReadingValues.{leafOf, value, items, wholeValue}
-use Rattle.paper.specs.Canonical.{ValueSense, valueSense}
-use Rattle.paper.proofs.Tests.{split, true-false, apart, or-left, or-right}
-use Rattle.paper.proofs.Finds.{Tail, whole, past, tail-drop, tail-length, Fault, faults, Reads, reads-in, reads-map, reads-two, then-same}
-use Rattle.paper.proofs.Lists.{both, and, is-not, elem-right, starts-weaken, starts-append, starts-some, starts-off, starts-is, starts-of, starts-not, front-of, behind-of, front-all, front-behind}
-use Rattle.paper.proofs.WordKinds.{beginsNone, beginsOther}
+use Rattle.paper.specs.Canonical.{valueSense}
+use Rattle.paper.proofs.Tests.{split, true-false, apart, or-left}
+use Rattle.paper.proofs.Finds.{whole, past, tail-drop, tail-length, faults, Reads, reads-in, reads-map, reads-two, two-same}
+use Rattle.paper.proofs.Lists.{both, and, without, without-less, starts-weaken, starts-some, starts-off, starts-is, starts-not, front-of, behind-of, front-all, front-behind}
+use Rattle.paper.proofs.WordKinds.{beginsNone, beginsNoLeaf}
 use Rattle.paper.proofs.Leaves.{leaf-append, ReadLeaf, Follows, leaf-reads, leaf-begins, leaf-back}
 
 -- ---- the spelling in front of what follows
@@ -37,43 +37,36 @@ value-length v next = ap length (value-append v next) ∙ length-append (spellin
 
 -- ---- how a value begins
 
-abbrev pub mayBegin : ℕ → Bool
-mayBegin b = not (elem b beginsNone)
-
-other-may : (b : ℕ) → not (elem b beginsOther) ≡ true → mayBegin b ≡ true
-other-may b e = split (elem b beginsNone) (λ f. true-false (sym e ∙ ap not (elem-right b (bytes "\"'`[") beginsNone f))) (λ f. is-not f)
-
-leaf-may : (also : List ℕ) (v : Leaf) (next : List ℕ) → leafRule also v ≡ true → startsIn mayBegin (leafOnto v next) ≡ true
-unfolding leafOnto startsIn elem
-leaf-may also (string ps) next r = refl
-leaf-may also (character ps) next r = refl
-leaf-may also (backtick ps) next r = refl
-leaf-may also (word form w) next r = starts-append mayBegin w next (starts-weaken _ mayBegin other-may w (leaf-begins also form w r))
-
-pub value-begins : (also : List ℕ) (v : Value) (next : List ℕ) → valueRule also v ≡ true → startsIn mayBegin (valueOnto v next) ≡ true
+-- no value begins with white space, or with a byte that stands behind an item
+pub value-begins : (also : List ℕ) (v : Value) (next : List ℕ) → valueRule also v ≡ true → startsIn (without beginsNone) (valueOnto v next) ≡ true
 unfolding valueOnto valueRule startsIn elem
-value-begins also (leaf v) next r = leaf-may also v next r
+value-begins also (leaf v) next r = starts-weaken _ _ (without-less (bytes "[") beginsNone) (leafOnto v next) (leaf-begins also v next r)
 value-begins also emptyList next r = refl
 value-begins also (list v more) next r = refl
 
+-- so a value has one byte at least
 pub value-longer : (also : List ℕ) (v : Value) (next : List ℕ) → valueRule also v ≡ true → length next < length (valueOnto v next)
-value-longer also v next r = omega (arith, value-length v next, starts-some mayBegin (spelling v) (value-begins also v [] r))
+value-longer also v next r = omega (arith, value-length v next, starts-some _ (spelling v) (value-begins also v [] r))
 
 -- ---- what separates items and closes a list, whichever bytes these are
 
--- a byte that ends a word here may follow any value
-pub follows-ender : (also : List ℕ) (inSlash : Bool) (b : ℕ) (next : List ℕ) → elem b also ≡ true → eqb b (byte ">") ≡ false → Follows also inSlash (b ∷ next)
-unfolding endsWord isEnder startsIn
-follows-ender also inSlash b next e f = record { ends = or-left (isEnder also b) _ (or-right (isWhite b || eqb b (byte ">")) (elem b also) e); some = omega arith; slash = λ z. f }
+-- a byte that ends a word may follow any value, but ">" one in "/"
+pub follows-ender : (also : List ℕ) (inSlash : Bool) (b : ℕ) (next : List ℕ) → isEnder also b ≡ true → eqb b (byte ">") ≡ false → Follows also inSlash (b ∷ next)
+unfolding endsWord startsIn
+follows-ender also inSlash b next e f = record { ends = or-left (isEnder also b) _ e; some = omega arith; slash = λ z. f }
 
-not-white : (b : ℕ) → mayBegin b ≡ true → isWhite b ≡ false
+-- a value does not begin with what closes or separates
+pub no-closer : (also : List ℕ) (v : Value) (next : List ℕ) (c : ℕ) → valueRule also v ≡ true → elem c beginsNone ≡ true → startsWith (c ∷ []) (valueOnto v next) ≡ false
+no-closer also v next c r e = starts-not (without beginsNone) c (valueOnto v next) (value-begins also v next r) (ap not e)
+
+not-white : (b : ℕ) → without beginsNone b ≡ true → isWhite b ≡ false
 unfolding isWhite isBlank isLineEnd elem
-not-white b e = rw (apart mayBegin b space e refl, apart mayBegin b tab e refl, apart mayBegin b lf e refl, apart mayBegin b cr e refl)
+not-white b e = rw (apart (without beginsNone) b space e refl, apart (without beginsNone) b tab e refl, apart (without beginsNone) b lf e refl, apart (without beginsNone) b cr e refl)
 
 -- white space before a value ends where the value begins
 module _ (also : List ℕ) (v : Value) (white next : List ℕ) (r : valueRule also v ≡ true) (a : all isWhite white ≡ true) where
   stops : startsIn isWhite (valueOnto v next) ≡ false
-  stops = starts-off mayBegin isWhite not-white (valueOnto v next) (value-begins also v next r)
+  stops = starts-off (without beginsNone) isWhite not-white (valueOnto v next) (value-begins also v next r)
 
   pub white-front : front isWhite (white ++ valueOnto v next) ≡ white
   white-front = front-of isWhite white (valueOnto v next) a stops
@@ -84,39 +77,37 @@ module _ (also : List ℕ) (v : Value) (white next : List ℕ) (r : valueRule al
 -- ---- step by step
 
 -- an item, and what stands behind it
-abbrev pub itemThen : {A : Type 0} → ℕ → ℕ → (Value → More → A) → List ℕ → Found A
+abbrev itemThen : {A : Type 0} → ℕ → ℕ → (Value → More → A) → List ℕ → Found A
 itemThen fuel lists make s = andThen (value fuel lists listEnders s) (λ v left. andThen (items fuel lists left) (λ more end. found (make v more) end))
 
-module _ (fuel lists : ℕ) where
-  pub value-leaf : (also s : List ℕ) → startsWith (bytes "[") s ≡ false → value (suc fuel) lists also s ≡ andThen (leafOf also s) (λ v left. found (leaf v) left)
+module _ (fuel : ℕ) where
+  value-leaf : (lists : ℕ) (also s : List ℕ) → startsWith (bytes "[") s ≡ false → value (suc fuel) lists also s ≡ andThen (leafOf also s) (λ v left. found (leaf v) left)
   unfolding value
-  value-leaf also s e = rw (e, value)
+  value-leaf lists also s e = rw (e, value)
 
-  module _ (also l : List ℕ) where
-    pub value-deep : value (suc fuel) zero also (byte "[" ∷ l) ≡ fault 10 (byte "[" ∷ l)
-    unfolding value startsWith
-    value-deep = refl
+  value-deep : (also l : List ℕ) → value (suc fuel) 0 also (byte "[" ∷ l) ≡ fault 10 (byte "[" ∷ l)
+  unfolding value startsWith
+  value-deep also l = refl
 
-    pub value-empty : value (suc fuel) (suc lists) also (byte "[" ∷ byte "]" ∷ l) ≡ found emptyList l
-    unfolding value startsWith
-    value-empty = refl
+  value-empty : (lists : ℕ) (also l : List ℕ) → value (suc fuel) (suc lists) also (byte "[" ∷ byte "]" ∷ l) ≡ found emptyList l
+  unfolding value startsWith
+  value-empty lists also l = refl
 
-    pub value-list : startsWith (bytes "]") l ≡ false → value (suc fuel) (suc lists) also (byte "[" ∷ l) ≡ itemThen fuel lists list l
-    unfolding value startsWith
-    value-list e = rw (e, value)
+  value-list : (lists : ℕ) (also l : List ℕ) → startsWith (bytes "]") l ≡ false → value (suc fuel) (suc lists) also (byte "[" ∷ l) ≡ itemThen fuel lists list l
+  unfolding value startsWith
+  value-list lists also l e = rw (e, value)
 
-  module _ (l : List ℕ) where
-    pub items-close : items (suc fuel) lists (byte "]" ∷ l) ≡ found close l
-    unfolding items
-    items-close = refl
+  items-close : (lists : ℕ) (l : List ℕ) → items (suc fuel) lists (byte "]" ∷ l) ≡ found close l
+  unfolding items
+  items-close lists l = refl
 
-    pub items-comma : items (suc fuel) lists (byte "," ∷ l) ≡ itemThen fuel lists (comma (front isWhite l)) (behind isWhite l)
-    unfolding items
-    items-comma = refl
+  items-comma : (lists : ℕ) (l : List ℕ) → items (suc fuel) lists (byte "," ∷ l) ≡ itemThen fuel lists (comma (front isWhite l)) (behind isWhite l)
+  unfolding items
+  items-comma lists l = refl
 
-    pub items-other : (b : ℕ) → eqb b (byte "]") ≡ false → eqb b (byte ",") ≡ false → items (suc fuel) lists (b ∷ l) ≡ fault 6 (b ∷ l)
-    unfolding items
-    items-other b e f = rw (e, items, f)
+  items-other : (lists : ℕ) (l : List ℕ) (b : ℕ) → eqb b (byte "]") ≡ false → eqb b (byte ",") ≡ false → items (suc fuel) lists (b ∷ l) ≡ fault 6 (b ∷ l)
+  unfolding items
+  items-other lists l b e f = rw (e, items, f)
 
 -- ---- what is read
 
@@ -172,7 +163,7 @@ module _ (fuel : ℕ) (ones : (lists : ℕ) (s : List ℕ) → Reads s (ReadValu
   item-reads lists make s Q so = reads-two s (ReadValue lists listEnders s) (ReadMore lists) Q make (value fuel lists listEnders s) (items fuel lists) (ones lists s) (mores lists) so
 
   bracket-reads : (lists : ℕ) (also l : List ℕ) → Reads (byte "[" ∷ l) (ReadValue lists also (byte "[" ∷ l)) (value (suc fuel) lists also (byte "[" ∷ l))
-  bracket-reads zero also l = rw (value-deep fuel 0 also l, Reads) (faults 10 (omega arith) whole)
+  bracket-reads zero also l = rw (value-deep fuel also l, Reads) (faults 10 (omega arith) whole)
   bracket-reads (suc lists) also l =
       split (startsWith (bytes "]") l)
       (λ e. rw (starts-is (bytes "]") l e, value-empty fuel lists also (drop 1 l), Reads) (past (past whole), empty-read lists also (drop 1 l)))
@@ -210,18 +201,12 @@ valueOf lists also s = value (suc (length s)) lists also s
 abbrev pub moreOf : ℕ → List ℕ → Found More
 moreOf lists s = items (suc (length s)) lists s
 
-item-same : {A : Type 0} (lists : ℕ) (make : Value → More → A) (s : List ℕ) (x y : Found Value) (p q : List ℕ → Found More) → x ≡ y → Reads s (ReadValue lists listEnders s) y → ((left : List ℕ) → length left < length s → p left ≡ q left)
-    → andThen x (λ v left. andThen (p left) (λ more end. found (make v more) end)) ≡ andThen y (λ v left. andThen (q left) (λ more end. found (make v more) end))
-item-same lists make s x y p q e r f =
-    ap (λ (z : Found Value). andThen z (λ v left. andThen (p left) (λ more end. found (make v more) end))) e
-    ∙ then-same s (ReadValue lists listEnders s) y _ _ r (λ v left h. ap (λ (z : Found More). andThen z (λ more end. found (make v more) end)) (f left (h .shorter)))
-
 module _ (f g : ℕ) (ones : (lists : ℕ) (s : List ℕ) → length s < f → length s < g → value f lists listEnders s ≡ value g lists listEnders s) (mores : (lists : ℕ) (s : List ℕ) → length s < f → length s < g → items f lists s ≡ items g lists s) where
   item-fuel : {A : Type 0} (lists : ℕ) (make : Value → More → A) (s : List ℕ) → length s < f → length s < g → itemThen f lists make s ≡ itemThen g lists make s
-  item-fuel lists make s h k = item-same lists make s _ _ (items f lists) (items g lists) (ones lists s h k) (value-reads g lists listEnders s) (λ left l. mores lists left (omega arith) (omega arith))
+  item-fuel lists make s h k = two-same s (ReadValue lists listEnders s) make _ _ (items f lists) (items g lists) (ones lists s h k) (value-reads g lists listEnders s) (λ v left r. mores lists left (omega (arith, r .shorter)) (omega (arith, r .shorter)))
 
   bracket-fuel : (lists : ℕ) (also l : List ℕ) → length l < f → length l < g → value (suc f) lists also (byte "[" ∷ l) ≡ value (suc g) lists also (byte "[" ∷ l)
-  bracket-fuel zero also l h k = value-deep f 0 also l ∙ sym (value-deep g 0 also l)
+  bracket-fuel zero also l h k = value-deep f also l ∙ sym (value-deep g also l)
   bracket-fuel (suc lists) also l h k =
       split (startsWith (bytes "]") l)
       (λ e. rw (starts-is (bytes "]") l e) (value-empty f lists also (drop 1 l) ∙ sym (value-empty g lists also (drop 1 l))))
@@ -261,36 +246,38 @@ itemAnd lists make s = andThen (valueOf lists listEnders s) (λ v left. andThen 
 
 item-free : {A : Type 0} (fuel lists : ℕ) (make : Value → More → A) (s : List ℕ) → length s < fuel → itemThen fuel lists make s ≡ itemAnd lists make s
 item-free fuel lists make s h =
-    item-same lists make s _ _ (items fuel lists) (moreOf lists) (value-fuel fuel (suc (length s)) lists listEnders s h (omega arith)) (value-reads (suc (length s)) lists listEnders s)
-    (λ left l. items-fuel fuel (suc (length left)) lists left (omega arith) (omega arith))
+    two-same s (ReadValue lists listEnders s) make _ _ (items fuel lists) (moreOf lists) (value-fuel fuel (suc (length s)) lists listEnders s h (omega arith)) (value-reads (suc (length s)) lists listEnders s)
+    (λ v left r. items-fuel fuel (suc (length left)) lists left (omega (arith, r .shorter)) (omega arith))
+
+-- too many lists in one another
+pub value-of-deep : (also l : List ℕ) → valueOf 0 also (byte "[" ∷ l) ≡ fault 10 (byte "[" ∷ l)
+value-of-deep also l = value-deep (suc (length l)) also l
 
 module _ (lists : ℕ) where
+  -- no list
   pub value-of-leaf : (also s : List ℕ) → startsWith (bytes "[") s ≡ false → valueOf lists also s ≡ andThen (leafOf also s) (λ v left. found (leaf v) left)
   value-of-leaf also s e = value-leaf (length s) lists also s e
 
-  module _ (also l : List ℕ) where
-    pub value-of-deep : valueOf 0 also (byte "[" ∷ l) ≡ fault 10 (byte "[" ∷ l)
-    value-of-deep = value-deep (suc (length l)) 0 also l
+  -- a list without items, and one with items
+  pub value-of-empty : (also l : List ℕ) → valueOf (suc lists) also (byte "[" ∷ byte "]" ∷ l) ≡ found emptyList l
+  value-of-empty also l = value-empty (suc (suc (length l))) lists also l
 
-    pub value-of-empty : valueOf (suc lists) also (byte "[" ∷ byte "]" ∷ l) ≡ found emptyList l
-    value-of-empty = value-empty (suc (suc (length l))) lists also l
+  pub value-of-list : (also l : List ℕ) → startsWith (bytes "]") l ≡ false → valueOf (suc lists) also (byte "[" ∷ l) ≡ itemAnd lists list l
+  value-of-list also l e = value-list (suc (length l)) lists also l e ∙ item-free (suc (length l)) lists list l (omega arith)
 
-    pub value-of-list : startsWith (bytes "]") l ≡ false → valueOf (suc lists) also (byte "[" ∷ l) ≡ itemAnd lists list l
-    value-of-list e = value-list (suc (length l)) lists also l e ∙ item-free (suc (length l)) lists list l (omega arith)
-
+  -- behind an item: the end of input, what closes, what separates, any other byte
   pub more-of-end : moreOf lists [] ≡ fault 9 []
   unfolding items
   more-of-end = refl
 
-  module _ (l : List ℕ) where
-    pub more-of-close : moreOf lists (byte "]" ∷ l) ≡ found close l
-    more-of-close = items-close (suc (length l)) lists l
+  pub more-of-close : (l : List ℕ) → moreOf lists (byte "]" ∷ l) ≡ found close l
+  more-of-close l = items-close (suc (length l)) lists l
 
-    pub more-of-comma : moreOf lists (byte "," ∷ l) ≡ itemAnd lists (comma (front isWhite l)) (behind isWhite l)
-    more-of-comma = let n = tail-length (tail-drop (lengthIn isWhite l) l) in items-comma (suc (length l)) lists l ∙ item-free (suc (length l)) lists (comma (front isWhite l)) (behind isWhite l) (omega arith)
+  pub more-of-comma : (l : List ℕ) → moreOf lists (byte "," ∷ l) ≡ itemAnd lists (comma (front isWhite l)) (behind isWhite l)
+  more-of-comma l = let n = tail-length (tail-drop (lengthIn isWhite l) l) in items-comma (suc (length l)) lists l ∙ item-free (suc (length l)) lists (comma (front isWhite l)) (behind isWhite l) (omega arith)
 
-    pub more-of-other : (b : ℕ) → eqb b (byte "]") ≡ false → eqb b (byte ",") ≡ false → moreOf lists (b ∷ l) ≡ fault 6 (b ∷ l)
-    more-of-other b e f = items-other (suc (length l)) lists l b e f
+  pub more-of-other : (b : ℕ) (l : List ℕ) → eqb b (byte "]") ≡ false → eqb b (byte ",") ≡ false → moreOf lists (b ∷ l) ≡ fault 6 (b ∷ l)
+  more-of-other b l e f = items-other (suc (length l)) lists l b e f
 
 -- ---- a trait's whole value
 
@@ -312,19 +299,16 @@ module _ (lists : ℕ) (s : List ℕ) where
 
 -- ---- a spelt value is read back
 
-leaf-no-list : (also : List ℕ) (v : Leaf) (next : List ℕ) → leafRule also v ≡ true → startsWith (bytes "[") (leafOnto v next) ≡ false
-unfolding leafOnto startsWith elem
-leaf-no-list also (string ps) next r = refl
-leaf-no-list also (character ps) next r = refl
-leaf-no-list also (backtick ps) next r = refl
-leaf-no-list also (word form w) next r = starts-not (λ b. not (elem b beginsOther)) (byte "[") (w ++ next) (starts-append _ w next (leaf-begins also form w r)) refl
-
-no-close : (also : List ℕ) (v : Value) (next : List ℕ) → valueRule also v ≡ true → startsWith (bytes "]") (valueOnto v next) ≡ false
+no-list : (also : List ℕ) (v : Leaf) (next : List ℕ) → leafRule also v ≡ true → startsWith (bytes "[") (leafOnto v next) ≡ false
 unfolding elem
-no-close also v next r = starts-not mayBegin (byte "]") (valueOnto v next) (value-begins also v next r) refl
+no-list also v next r = starts-not (without beginsNoLeaf) (byte "[") (leafOnto v next) (leaf-begins also v next r) refl
+
+no-close : (v : Value) (next : List ℕ) → valueRule listEnders v ≡ true → startsWith (bytes "]") (valueOnto v next) ≡ false
+unfolding elem
+no-close v next r = no-closer listEnders v next (byte "]") r refl
 
 follows-more : (inSlash : Bool) (more : More) (next : List ℕ) → Follows listEnders inSlash (moreOnto more next)
-unfolding moreOnto elem
+unfolding moreOnto isEnder isWhite isBlank isLineEnd elem
 follows-more inSlash close next = follows-ender listEnders inSlash (byte "]") next refl refl
 follows-more inSlash (comma white v more) next = follows-ender listEnders inSlash (byte ",") _ refl refl
 
@@ -332,13 +316,13 @@ mutual
   unfolding valueOnto valueRule listDepth
 
   pub value-back : (v : Value) (lists : ℕ) (also next : List ℕ) → valueRule also v ≡ true → listDepth v ≤ lists → Follows also (valueInSlash v) next → valueOf lists also (valueOnto v next) ≡ found v next
-  value-back (leaf v) lists also next r d f = value-of-leaf lists also (leafOnto v next) (leaf-no-list also v next r) ∙ rw (leaf-back also v next r f)
+  value-back (leaf v) lists also next r d f = value-of-leaf lists also (leafOnto v next) (no-list also v next r) ∙ rw (leaf-back also v next r f)
   value-back emptyList zero also next r d f = absurd (omega arith)
   value-back emptyList (suc lists) also next r d f = value-of-empty lists also next
   value-back (list v more) zero also next r d f = absurd (omega arith)
   value-back (list v more) (suc lists) also next r d f =
       let h = both (valueRule listEnders v) (moreRule more) r in
-      value-of-list lists also _ (no-close listEnders v (moreOnto more next) (h .0))
+      value-of-list lists also _ (no-close v (moreOnto more next) (h .0))
       ∙ rw (value-back v lists listEnders (moreOnto more next) (h .0) (omega arith) (follows-more (valueInSlash v) more next), more-back more lists next (h .1) (omega arith))
 
   pub more-back : (more : More) (lists : ℕ) (next : List ℕ) → moreRule more ≡ true → moreDepth more ≤ lists → moreOf lists (moreOnto more next) ≡ found more next
@@ -364,8 +348,8 @@ whole-complete lists v next r d f = whole-found lists (valueOnto v next) v next 
 
 -- a space may follow any value
 pub follows-space : (also : List ℕ) (inSlash : Bool) (next : List ℕ) → Follows also inSlash (space ∷ next)
-unfolding endsWord isEnder isWhite isBlank startsIn
-follows-space also inSlash next = record { ends = refl; some = omega arith; slash = λ z. refl }
+unfolding isEnder isWhite isBlank
+follows-space also inSlash next = follows-ender also inSlash space next refl refl
 
 pub spelling-only : (also : List ℕ) (v w : Value) → valueRule also v ≡ true → valueRule also w ≡ true → spelling v ≡ spelling w → v ≡ w
 spelling-only also v w p q e =

@@ -1,17 +1,17 @@
 -- The kinds of words: how each begins, and that a word has one kind at most. Document 01, "The grammar", Values; 001 §12 to §14. Assumes nothing.
-use Prim.Native.Nat.{ℕ, zero, suc, _+_, _≤_, _<_}
+use Prim.Native.Nat.{ℕ, suc, _+_, _≤_}
 use mathlib.Core.Path.{_≡_, refl, sym, ap, _∙_}
 use mathlib.Core.Bool.{Bool, true, false, not, _&&_, _||_}
 use mathlib.Core.List.{List, [], _∷_, _++_, List·Memᴰ as Among, List·Memᴰ·head as here, List·Memᴰ·tail as there}
 use native.Mathlib.Omega.{arith}
-use lib.ListN.{length, take, drop}
+use lib.ListN.{length}
 use lib.Dec.{leb, eqb}
-use borrow.Author.Tests.{leb-true, le-leb, lt-leb, eqb-true, eq-eqb, not-true, not-false}
+use borrow.Author.Tests.{leb-true, le-leb, lt-leb, eqb-true, not-false}
 use Rattle.paper.specs.Found.{pick}
-use Rattle.paper.specs.Bytes.{byte, bytes, isUpper, isLower, isDigit, isLetter, isNameByte, isHex, all, elem, same, startsIn, lengthIn, front, behind, space, tab, lf, cr}
-use Rattle.paper.specs.Values.{is, upTo, onward, past, isToken, hexGroups, isUuid, areDigits, isCount, unsigned, isInteger, isDecimal, isExponent, isScientific, isFraction, isIriBody, isScheme, isIri, wordForm, listEnders}
-use Rattle.paper.proofs.Tests.{split, true-false, apart, either, or-left, or-right}
-use Rattle.paper.proofs.Lists.{both, and, is-not, byFront, all-nil, all-cons, all-head, all-weaken, front-all, front-behind, behind-stops, all-append, starts-weaken, starts-append, starts-apart, elem-apart, elem-more, elem-right, same-is}
+use Rattle.paper.specs.Bytes.{byte, bytes, isUpper, isLower, isDigit, isLetter, isHex, all, elem, same, startsIn, lengthIn, space, tab, lf, cr}
+use Rattle.paper.specs.Values.{is, upTo, onward, past, isToken, hexGroups, isUuid, areDigits, isCount, unsigned, isInteger, isDecimal, isExponent, isScientific, isFraction, isScheme, isIri, wordForm, listEnders}
+use Rattle.paper.proofs.Tests.{split, true-false, either, or-left, or-right}
+use Rattle.paper.proofs.Lists.{both, is-not, byFront, all-nil, all-cons, all-head, all-weaken, front-behind, behind-stops, all-append, starts-weaken, starts-append, starts-apart, elem-apart, elem-more, elem-right, without, same-is}
 
 -- ---- the kinds in the order of their forms
 
@@ -359,14 +359,18 @@ any-order ks a w = word-form w ∙ byKind kinds w (λ k e q. q ∙ sym (first-fo
 abbrev pub beginsNone : List ℕ
 beginsNone = listEnders ++ (space ∷ tab ∷ lf ∷ cr ∷ [])
 
--- those that begin no word: they begin other values
-abbrev pub beginsOther : List ℕ
-beginsOther = bytes "\"'`[" ++ beginsNone
+-- those, and the bracket of a list
+abbrev pub beginsNoLeaf : List ℕ
+beginsNoLeaf = bytes "[" ++ beginsNone
 
-begins : (class : ℕ → Bool) (w : List ℕ) → all (λ c. not (class c)) beginsOther ≡ true → startsIn class w ≡ true → startsIn (λ b. not (elem b beginsOther)) w ≡ true
-begins class w n e = starts-weaken class _ (λ b f. is-not (elem-apart class b beginsOther f n)) w e
+-- those, and the quotes of the other values
+abbrev pub beginsNoWord : List ℕ
+beginsNoWord = bytes "\"'`" ++ beginsNoLeaf
 
-kind-begins : (k : Kind) (w : List ℕ) → fits k w ≡ true → startsIn (λ b. not (elem b beginsOther)) w ≡ true
+begins : (class : ℕ → Bool) (w : List ℕ) → all (λ c. not (class c)) beginsNoWord ≡ true → startsIn class w ≡ true → startsIn (without beginsNoWord) w ≡ true
+begins class w n e = starts-weaken class _ (λ b f. is-not (elem-apart class b beginsNoWord f n)) w e
+
+kind-begins : (k : Kind) (w : List ℕ) → fits k w ≡ true → startsIn (without beginsNoWord) w ≡ true
 unfolding elem all isDigit isHex isUpper isLower isLetter startsIn
 kind-begins boolean w e = either (same w (bytes "true")) (same w (bytes "false")) e (λ f. rw (same-is w (bytes "true") f)) (λ f. rw (same-is w (bytes "false") f))
 kind-begins integer w e = begins _ w refl (integer-number w e .first)
@@ -378,5 +382,5 @@ kind-begins camel w e = token-sign (byte "~") isLower w e (λ l q. rw q)
 kind-begins uuid w e = begins _ w refl (uuid-first w e)
 kind-begins iri w e = begins _ w refl (iri-first w e)
 
-pub word-begins : (w : List ℕ) → 1 ≤ wordForm w → startsIn (λ b. not (elem b beginsOther)) w ≡ true
+pub word-begins : (w : List ℕ) → 1 ≤ wordForm w → startsIn (without beginsNoWord) w ≡ true
 word-begins w h = byKind kinds w (λ k e q. kind-begins k w e) (λ z. absurd (omega (arith, word-form w, z)))

@@ -1,19 +1,16 @@
--- Words: where a word ends, how it begins, and that it has one kind at most. Document 01, "The grammar", Values. Assumes nothing.
-use Prim.Native.Nat.{ℕ, zero, suc, _+_, _≤_, _<_}
+-- Words: where a word ends. Document 01, "The grammar", Values. Assumes nothing.
+use Prim.Native.Nat.{ℕ, suc}
 use mathlib.Core.Path.{_≡_, refl, sym, ap, _∙_}
-use mathlib.Core.Bool.{Bool, true, false, not, _&&_, _||_}
+use mathlib.Core.Bool.{true, false, not}
 use mathlib.Core.List.{List, [], _∷_, _++_}
-use native.Mathlib.Omega.{arith}
 use lib.ListN.{length, take, drop, take-append-drop}
-use lib.Dec.{leb, eqb}
-use borrow.Author.Tests.{leb-true, le-leb, lt-leb, eqb-true, not-true}
-use Rattle.paper.specs.Bytes.{byte, bytes, isDigit, isNameByte, isWhite, all, elem, startsIn}
+use lib.Dec.{eqb}
+use borrow.Author.Tests.{not-true}
+use Rattle.paper.specs.Bytes.{byte, isWhite, all, startsIn}
 use Rattle.paper.specs.Values.{is, isEnder, endsWord, endsInSlash}
 use Rattle.paper.specs.ReadingValues.{wordLength}
-use Rattle.paper.proofs.Tests.{split, true-false, apart, either}
-use Rattle.paper.proofs.Lists.{both, byFront, all-nil, all-cons, all-head, is-not}
-
--- ---- where a word ends
+use Rattle.paper.proofs.Tests.{split, true-false}
+use Rattle.paper.proofs.Lists.{all-nil, all-cons, all-head, is-not}
 
 module _ (also : List ℕ) where
   pub word-ends : (s : List ℕ) → endsWord also s ≡ true → wordLength also s ≡ 0
