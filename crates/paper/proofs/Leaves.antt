@@ -34,6 +34,7 @@ leaf-append (word form w) next = rw (append-nil w)
 
 -- ---- what is read, and what may follow
 
+-- the value stood in front, keeps the rule, and is not cut before "/>"
 pub record ReadLeaf (also s : List ℕ) (v : Leaf) (left : List ℕ) : Type 0 where
   pub covers : s ≡ leafOnto v left
   pub rule : leafRule also v ≡ true
@@ -47,7 +48,12 @@ pub record Follows (also : List ℕ) (inSlash : Bool) (next : List ℕ) : Type 0
 
 -- ---- characters
 
+-- the closing quote: cut by the end of input, there, or another byte
 module _ (ps : List Piece) where
+  pub close-end : closeCharacter ps [] ≡ fault 9 []
+  unfolding closeCharacter
+  close-end = refl
+
   pub close-there : (l : List ℕ) → closeCharacter ps (byte "'" ∷ l) ≡ found (character ps) l
   unfolding closeCharacter
   close-there l = refl
@@ -56,6 +62,11 @@ module _ (ps : List Piece) where
   unfolding closeCharacter
   close-not b l e = rw (e, closeCharacter)
 
+pub character-end : characterOf [] ≡ fault 9 []
+unfolding characterOf
+character-end = refl
+
+-- what stands behind the opening quote, by what its first byte is
 module _ (b : ℕ) (l : List ℕ) where
   pub character-closes : insideOf (byte "'") b ≡ closes → characterOf (b ∷ l) ≡ fault 6 (b ∷ l)
   unfolding characterOf
@@ -97,6 +108,7 @@ direct-reads also b l r e = go (scalar (b ∷ l)) refl
         (close-reads also (b ∷ l) (map direct (encode v)) left (h .whole ∙ sym (direct-onto (encode v) left)) (scalar-rule (byte "'") (omega arith) b v l left r (h .whole)) (scalar-one v (h .right))))
     go (fault n left) f = rw (character-broken b l n left e f, Reads) (faults 6 (omega arith) whole)
 
+-- what is read of a character stood there, and keeps the rule
 pub character-reads : (also l : List ℕ) → Reads l (ReadLeaf also (byte "'" ∷ l)) (characterOf l)
 unfolding characterOf piecesOnto
 character-reads also [] = faults 9 (omega arith) whole
@@ -113,6 +125,7 @@ escape-back : (p : Piece) (ps : List Piece) (l next : List ℕ) → eqb (length 
 unfolding insideOf piecesOnto
 escape-back p ps l next n e = character-escapes (byte "\\") l refl ∙ rw (e, empty-is ps n) (close-there (p ∷ []) next)
 
+-- a spelt character is read back
 pub character-back : (ps : List Piece) (next : List ℕ) → all (pieceRule (byte "'")) ps ≡ true → oneScalar ps ≡ true → characterOf (piecesOnto ps (byte "'" ∷ next)) ≡ found (character ps) next
 unfolding oneScalar piecesOnto pieceOnto pieceRule insideOf elem
 character-back [] next r o = true-false (sym o)
@@ -127,6 +140,11 @@ character-back (braces digits ∷ ps) next r o = escape-back (braces digits) ps 
 
 -- ---- words
 
+-- a word: cut by the end of input, of no kind, or of one
+pub word-end : (s w : List ℕ) → wordOf s w [] ≡ fault 9 []
+unfolding wordOf
+word-end s w = refl
+
 module _ (s w : List ℕ) (b : ℕ) (l : List ℕ) where
   pub word-none : wordForm w ≡ 0 → wordOf s w (b ∷ l) ≡ fault 6 s
   unfolding wordOf
@@ -136,6 +154,7 @@ module _ (s w : List ℕ) (b : ℕ) (l : List ℕ) where
   unfolding wordOf
   word-there h = rw (ne-eqb (wordForm w) 0 (λ e. omega arith), wordOf)
 
+-- what is read as a word stood there, and keeps the rule
 pub word-reads : (also s : List ℕ) → Reads s (ReadLeaf also s) (wordLeaf also s)
 unfolding wordOf leafOnto leafRule
 word-reads also s =
@@ -167,6 +186,7 @@ word-rule also form w e =
     let k = both (eqb (wordForm w) form) (leb 1 form) (h .0) in
     record { kind = eqb-true (wordForm w) form (k .0); some = leb-true 1 form (k .1); plain = h .1 }
 
+-- a spelt word is read back
 pub word-back : (also : List ℕ) (form : ℕ) (w next : List ℕ) → leafRule also (word form w) ≡ true → Follows also (endsInSlash w) next → wordLeaf also (w ++ next) ≡ found (word form w) next
 word-back also form w next r f =
     let h = word-rule also form w r in
@@ -175,6 +195,10 @@ word-back also form w next r f =
     (λ b l e. rw e (word-there (w ++ (b ∷ l)) w b l (omega arith) ∙ rw (h .kind))))
 
 -- ---- by the first byte
+
+pub leaf-end : (also : List ℕ) → leafOf also [] ≡ fault 9 []
+unfolding leafOf
+leaf-end also = refl
 
 module _ (also l : List ℕ) where
   pub leaf-string : leafOf also (byte "\"" ∷ l) ≡ andThen (manyOf (λ p. 0) pieceTurn 0 l) (λ ps left. found (string ps) left)
@@ -200,6 +224,7 @@ byFirst b double single back on =
     (λ e. split (eqb b (byte "'")) (λ f. single (eqb-true b (byte "'") f))
     (λ f. split (eqb b (byte "`")) (λ g. back (eqb-true b (byte "`") g)) (λ g. on (rw (e, f, g)))))
 
+-- what is read stood there, and keeps the rule
 pub leaf-reads : (also s : List ℕ) → Reads s (ReadLeaf also s) (leafOf also s)
 unfolding leafOf leafOnto leafRule
 leaf-reads also [] = faults 9 (omega arith) whole
@@ -234,6 +259,7 @@ unfolding startsIn
 leaf-other also [] next e = true-false (sym e)
 leaf-other also (b ∷ w) next e = leaf-word also (w ++ next) b (word-other b e)
 
+-- a spelt value is read back
 pub leaf-back : (also : List ℕ) (v : Leaf) (next : List ℕ) → leafRule also v ≡ true → Follows also (leafInSlash v) next → leafOf also (leafOnto v next) ≡ found v next
 unfolding leafOnto leafRule
 leaf-back also (string ps) next r f = leaf-string also _ ∙ rw (pieces-back ps next r)

@@ -25,6 +25,7 @@ is-not e = rw e
 
 -- ---- an empty list or its first element
 
+-- what holds of an empty list and of any other holds
 pub byFront : {A X : Type 0} (l : List A) → (l ≡ [] → X) → ((a : A) (m : List A) → l ≡ a ∷ m → X) → X
 byFront [] none some = none refl
 byFront (a ∷ m) none some = some a m refl

@@ -32,6 +32,7 @@ unfolding piecesOnto
 pieces-append [] next = refl
 pieces-append (p ∷ ps) next = rw (pieces-append ps next, piece-append p (piecesOnto ps [] ++ next), piece-append p (piecesOnto ps [])) (sym (append-assoc (pieceOnto p []) (piecesOnto ps []) next))
 
+-- a piece has one byte at least
 pub piece-longer : (p : Piece) (next : List ℕ) → length next < length (pieceOnto p next)
 unfolding pieceOnto
 piece-longer (direct b) next = omega arith
@@ -42,6 +43,7 @@ piece-longer (braces digits) next = omega (arith, length-append digits (byte "}"
 -- ---- an escape, step by step
 
 module _ (quote : ℕ) (back : List ℕ) where
+  -- a piece that is spelt out, by its rule
   pub judged-keeps : (p : Piece) (left : List ℕ) → pieceRule quote p ≡ true → judged quote back p left ≡ found p left
   unfolding judged
   judged-keeps p left e = rw (e, judged)
@@ -51,6 +53,7 @@ module _ (quote : ℕ) (back : List ℕ) where
   judged-breaks p left e = rw (e, judged)
 
   module _ (s : List ℕ) where
+    -- four hex digits: there, cut by the end of input, or another byte among them
     pub four-there : 4 ≤ lengthIn isHex s → fourDigits quote back s ≡ judged quote back (four (take 4 s)) (drop 4 s)
     unfolding fourDigits
     four-there h = rw (le-leb 4 (lengthIn isHex s) h, fourDigits)
@@ -63,6 +66,7 @@ module _ (quote : ℕ) (back : List ℕ) where
     unfolding fourDigits
     four-not b l h e = rw (lt-leb 4 (lengthIn isHex s) h, fourDigits, e)
 
+    -- hex digits and "}": too many digits, cut, closed, or another byte
     pub braced-long : 6 < lengthIn isHex s → bracedDigits quote back s ≡ fault 6 back
     unfolding bracedDigits
     braced-long h = rw (le-leb 7 (lengthIn isHex s) h, bracedDigits)
@@ -78,6 +82,11 @@ module _ (quote : ℕ) (back : List ℕ) where
     pub braced-not : (b : ℕ) (l : List ℕ) → lengthIn isHex s ≤ 6 → behind isHex s ≡ b ∷ l → eqb b (byte "}") ≡ false → bracedDigits quote back s ≡ fault 6 back
     unfolding bracedDigits
     braced-not b l h e f = rw (lt-leb 7 (lengthIn isHex s) (omega arith), bracedDigits, e, f)
+
+  -- by what follows the backslash: nothing, "u" and digits, "u{", or a letter
+  pub escape-end : escape quote back [] ≡ fault 9 []
+  unfolding escape
+  escape-end = refl
 
   pub escape-four : (l : List ℕ) → startsWith (bytes "{") l ≡ false → escape quote back (byte "u" ∷ l) ≡ fourDigits quote back l
   unfolding escape
@@ -128,6 +137,7 @@ module _ (quote : ℕ) where
       rw (braced-closed quote back s l (omega arith) g) (judged-reads back (braces (front isHex s)) l (rw (← g, front-behind isHex s))))
       (λ f. rw (braced-not quote back s b l (omega arith) e f, Reads) (faults 6 (omega arith) whole))))
 
+  -- what is read behind a backslash stood there, and keeps the rule
   pub escape-reads : (l : List ℕ) → let back = byte "\\" ∷ l in Reads back (Stood quote back) (escape quote back l)
   unfolding escape pieceOnto
   escape-reads [] = faults 9 (omega arith) (tail-end _)
@@ -154,6 +164,7 @@ unfolding startsIn isHex isDigit
 no-hex next = refl
 
 module _ (quote : ℕ) (back : List ℕ) where
+  -- a letter, four digits, digits in braces
   pub letter-back : (b : ℕ) (next : List ℕ) → pieceRule quote (escaped (byte "u")) ≡ false → pieceRule quote (escaped b) ≡ true → escape quote back (b ∷ next) ≡ found (escaped b) next
   letter-back b next u e = escape-letter quote back b next (apart (λ c. pieceRule quote (escaped c)) b (byte "u") e u) ∙ judged-keeps quote back (escaped b) next e
 
@@ -188,6 +199,7 @@ module _ (quote : ℕ) (back : List ℕ) where
 -- ---- what a byte is between two quotes
 
 module _ (quote b : ℕ) where
+  -- a byte that may stand for itself does
   pub inside-itself : pieceRule quote (direct b) ≡ true → insideOf quote b ≡ itself
   unfolding insideOf pieceRule
   inside-itself e =
@@ -195,6 +207,7 @@ module _ (quote b : ℕ) where
       (λ f. split (eqb b (byte "\\")) (λ g. true-false (sym e ∙ rw (f, g)))
       (λ g. split (isLineEnd b) (λ h. true-false (sym e ∙ rw (f, g, h))) (λ h. rw (f, g, h))))
 
+  -- the closing quote, a backslash, a line end, or a byte that may stand for itself
   pub byInside : {X : Type 0} → (b ≡ quote → insideOf quote b ≡ closes → X) → (b ≡ byte "\\" → insideOf quote b ≡ escapes → X) → (insideOf quote b ≡ breaks → X)
       → (pieceRule quote (direct b) ≡ true → insideOf quote b ≡ itself → X) → X
   unfolding insideOf pieceRule
@@ -205,6 +218,11 @@ module _ (quote b : ℕ) where
 
 -- ---- strings
 
+pub turn-end : (room : ℕ) → pieceTurn room [] ≡ stop 9 []
+unfolding pieceTurn
+turn-end room = refl
+
+-- one turn by what its first byte is
 module _ (room b : ℕ) (l : List ℕ) where
   pub turn-closes : insideOf (byte "\"") b ≡ closes → pieceTurn room (b ∷ l) ≡ over l
   unfolding pieceTurn
@@ -237,6 +255,7 @@ piece-turns room (b ∷ l) =
     (λ e. rw (turn-breaks room b l e, Turns) (faults 6 (omega arith) whole))
     (λ r e. rw (turn-itself room b l e, Turns) (past whole, record { covers = refl; rule = r }))
 
+-- what is read of a string stood there, and keeps the rule
 pub pieces-read : (s : List ℕ) → Reads s (Quoted s) (manyOf (λ p. 0) pieceTurn 0 s)
 unfolding piecesOnto
 pieces-read s =
@@ -247,7 +266,8 @@ pieces-read s =
     (λ room s p mid ps left h k. record { covers = h .covers ∙ ap (pieceOnto p) (k .covers); rule = all-cons _ p ps (h .rule) (k .rule) })
     (suc (length s)) 0 s
 
-turn-shorter : (room : ℕ) (s : List ℕ) → Shorter s (pieceTurn room s)
+-- a turn takes a byte at least
+pub turn-shorter : (room : ℕ) (s : List ℕ) → Shorter s (pieceTurn room s)
 turn-shorter room s = turns-shorter s (Stood (byte "\"") s) _ (λ p left h. rw (h .covers) (piece-longer p left)) (pieceTurn room s) (piece-turns room s)
 
 turn-back : (room : ℕ) (p : Piece) (next : List ℕ) → pieceRule (byte "\"") p ≡ true → pieceTurn room (pieceOnto p next) ≡ more p next
@@ -257,6 +277,7 @@ turn-back room (escaped b) next e = turn-escapes room (byte "\\") (b ∷ next) r
 turn-back room (four digits) next e = turn-escapes room (byte "\\") (byte "u" ∷ (digits ++ next)) refl ∙ ap turnOf (four-back (byte "\"") _ digits next e)
 turn-back room (braces digits) next e = turn-escapes room (byte "\\") (byte "u" ∷ byte "{" ∷ (digits ++ (byte "}" ∷ next))) refl ∙ ap turnOf (braces-back (byte "\"") _ digits next e)
 
+-- spelt pieces and their closing quote are read back
 pub pieces-back : (ps : List Piece) (left : List ℕ) → all (pieceRule (byte "\"")) ps ≡ true → manyOf (λ p. 0) pieceTurn 0 (piecesOnto ps (byte "\"" ∷ left)) ≡ found ps left
 unfolding piecesOnto insideOf
 pieces-back [] left e = run-over (λ p. 0) pieceTurn turn-shorter 0 _ left (turn-closes 0 (byte "\"") left refl)
@@ -266,6 +287,11 @@ pieces-back (p ∷ ps) left e =
 
 -- ---- backticks
 
+pub tick-end : (room : ℕ) → backtickTurn room [] ≡ stop 9 []
+unfolding backtickTurn
+tick-end room = refl
+
+-- one turn: the closing backtick, the one escape, or a byte that is itself
 module _ (room : ℕ) (l : List ℕ) where
   pub tick-closes : backtickTurn room (byte "`" ∷ l) ≡ over l
   unfolding backtickTurn
@@ -300,9 +326,9 @@ record Tick (s : List ℕ) (p : Piece) (left : List ℕ) : Type 0 where
   covers : s ≡ pieceOnto p left
   rule : (ps : List Piece) → ((after : Bool) → (after ≡ true → startsIn (is (byte "`")) left ≡ false) → backtickRule after ps ≡ true) → (after : Bool) → backtickRule after (p ∷ ps) ≡ true
 
-tick-end : (s left : List ℕ) → s ≡ byte "`" ∷ left → Ticked s [] left
+ticked-end : (s left : List ℕ) → s ≡ byte "`" ∷ left → Ticked s [] left
 unfolding piecesOnto backtickRule startsIn
-tick-end s left e = record { covers = e; rule = λ after h. split after (λ f. true-false (rw e at (h f))) (λ f. rw f) }
+ticked-end s left e = record { covers = e; rule = λ after h. split after (λ f. true-false (rw e at (h f))) (λ f. rw f) }
 
 tick-turns : (room : ℕ) (s : List ℕ) → Turns s (Tick s) (λ left. s ≡ byte "`" ∷ left) (backtickTurn room s)
 unfolding backtickTurn pieceOnto backtickRule startsWith
@@ -314,17 +340,19 @@ tick-turns room (b ∷ l) =
     (λ f. rw (starts-is (bytes "\\`") (b ∷ l) f) (past (past whole), record { covers = refl; rule = λ ps h after. h false (λ z. true-false (sym z)) }))
     (λ f. rw (tick-itself room l b e f, Turns) (past whole, record { covers = refl; rule = λ ps h after. and (is-not e) (h (eqb b (byte "\\")) (tick-behind b l f)) })))
 
+-- what is read between backticks stood there, and keeps the rule
 pub ticks-read : (s : List ℕ) → Reads s (Ticked s) (manyOf (λ p. 0) backtickTurn 0 s)
 unfolding piecesOnto
 ticks-read s =
     many-reads (λ p. 0) backtickTurn
     (record { of-turn = λ room s p left. Tick s p left; of-end = λ room s left. s ≡ byte "`" ∷ left; of-run = λ room s ps left. Ticked s ps left })
     tick-turns
-    (λ room s left e. tick-end s left e)
+    (λ room s left e. ticked-end s left e)
     (λ room s p mid ps left h k. record { covers = h .covers ∙ ap (pieceOnto p) (k .covers); rule = λ after z. h .rule ps (k .rule) after })
     (suc (length s)) 0 s
 
-tick-shorter : (room : ℕ) (s : List ℕ) → Shorter s (backtickTurn room s)
+-- a turn takes a byte at least
+pub tick-shorter : (room : ℕ) (s : List ℕ) → Shorter s (backtickTurn room s)
 tick-shorter room s = turns-shorter s (Tick s) _ (λ p left h. rw (h .covers) (piece-longer p left)) (backtickTurn room s) (tick-turns room s)
 
 -- what may stand behind a backslash that is itself does not begin with a backtick
@@ -336,6 +364,7 @@ not-tick (escaped b ∷ ps) left e = refl
 not-tick (four digits ∷ ps) left e = refl
 not-tick (braces digits ∷ ps) left e = refl
 
+-- spelt pieces and their closing backtick are read back
 pub ticks-back : (after : Bool) (ps : List Piece) (left : List ℕ) → backtickRule after ps ≡ true → manyOf (λ p. 0) backtickTurn 0 (piecesOnto ps (byte "`" ∷ left)) ≡ found ps left
 unfolding backtickRule piecesOnto pieceOnto
 ticks-back after [] left e = run-over (λ p. 0) backtickTurn tick-shorter 0 _ left (tick-closes 0 left)
@@ -353,6 +382,7 @@ ticks-back after (braces digits ∷ ps) left e = true-false (sym e)
 
 -- ---- one scalar value, spelt directly
 
+-- direct pieces are spelt as their bytes
 pub direct-onto : (w next : List ℕ) → piecesOnto (map direct w) next ≡ w ++ next
 unfolding piecesOnto pieceOnto
 direct-onto [] next = refl
@@ -388,6 +418,7 @@ scalar-some : {X : Type 0} (v : ℕ) → scalar [] ≡ found v [] → X
 unfolding scalar
 scalar-some v e = let z : true ≡ false = cc in true-false z
 
+-- and are one scalar value
 pub scalar-one : (v : ℕ) → isScalar v ≡ true → oneScalar (map direct (encode v)) ≡ true
 unfolding oneScalar
 scalar-one v r = go (encode v) (scalar-encode v [] r)

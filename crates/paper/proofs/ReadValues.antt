@@ -111,6 +111,7 @@ module _ (fuel : ℕ) where
 
 -- ---- what is read
 
+-- the value stood in front, keeps the rules, has no more lists in one another, and is not cut before "/>"
 pub record ReadValue (lists : ℕ) (also s : List ℕ) (v : Value) (left : List ℕ) : Type 0 where
   pub covers : s ≡ valueOnto v left
   pub rule : valueRule also v ≡ true
@@ -118,6 +119,7 @@ pub record ReadValue (lists : ℕ) (also s : List ℕ) (v : Value) (left : List 
   pub slash : valueInSlash v ≡ true → startsIn (is (byte ">")) left ≡ false
   pub shorter : length left < length s
 
+-- the same of what stands behind an item
 pub record ReadMore (lists : ℕ) (s : List ℕ) (more : More) (left : List ℕ) : Type 0 where
   pub covers : s ≡ moreOnto more left
   pub rule : moreRule more ≡ true
@@ -195,6 +197,7 @@ mutual
 
 -- ---- fuel above the length does not matter
 
+-- with fuel enough
 abbrev pub valueOf : ℕ → List ℕ → List ℕ → Found Value
 valueOf lists also s = value (suc (length s)) lists also s
 
@@ -241,6 +244,7 @@ mutual
 
 -- ---- the steps without fuel
 
+-- an item, and what stands behind it
 abbrev pub itemAnd : {A : Type 0} → ℕ → (Value → More → A) → List ℕ → Found A
 itemAnd lists make s = andThen (valueOf lists listEnders s) (λ v left. andThen (moreOf lists left) (λ more end. found (make v more) end))
 
@@ -281,6 +285,7 @@ module _ (lists : ℕ) where
 
 -- ---- a trait's whole value
 
+-- as the value is, but a 6 is at the first byte
 module _ (lists : ℕ) (s : List ℕ) where
   pub whole-found : (v : Value) (left : List ℕ) → valueOf lists [] s ≡ found v left → wholeValue lists s ≡ found v left
   unfolding wholeValue
@@ -338,6 +343,7 @@ mutual
         more-back more lists next (h .1) (omega arith),
       )
 
+-- with any fuel above the length
 pub value-complete : (fuel lists : ℕ) (also : List ℕ) (v : Value) (next : List ℕ) → valueRule also v ≡ true → listDepth v ≤ lists → Follows also (valueInSlash v) next → length (valueOnto v next) < fuel → value fuel lists also (valueOnto v next) ≡ found v next
 value-complete fuel lists also v next r d f h = value-fuel fuel (suc (length (valueOnto v next))) lists also (valueOnto v next) h (omega arith) ∙ value-back v lists also next r d f
 
@@ -351,6 +357,7 @@ pub follows-space : (also : List ℕ) (inSlash : Bool) (next : List ℕ) → Fol
 unfolding isEnder isWhite isBlank
 follows-space also inSlash next = follows-ender also inSlash space next refl refl
 
+-- two values that keep the rules and are spelt alike are one
 pub spelling-only : (also : List ℕ) (v w : Value) → valueRule also v ≡ true → valueRule also w ≡ true → spelling v ≡ spelling w → v ≡ w
 spelling-only also v w p q e =
     let lists = max (listDepth v) (listDepth w) in

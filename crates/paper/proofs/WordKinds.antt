@@ -18,6 +18,7 @@ use Rattle.paper.proofs.Lists.{both, is-not, byFront, all-nil, all-cons
 pub data Kind : Type 0 where
   boolean integer decimal scientific fraction pascal camel uuid iri : Kind
 
+-- the test of a kind, and its form
 abbrev pub fits : Kind → List ℕ → Bool
 fits boolean w = same w (bytes "true") || same w (bytes "false")
 fits integer w = isInteger w
@@ -48,6 +49,7 @@ firstForm (k ∷ ks) w = pick (fits k w) (formOf k) (firstForm ks w)
 unfoldable pub kinds : List Kind
 kinds = boolean ∷ integer ∷ decimal ∷ scientific ∷ fraction ∷ pascal ∷ camel ∷ uuid ∷ iri ∷ []
 
+-- the form of a word is so defined
 pub word-form : (w : List ℕ) → wordForm w ≡ firstForm kinds w
 unfolding wordForm firstForm kinds
 word-form w = refl
@@ -318,6 +320,7 @@ kind-is iri w e =
     let f = iri-first w e in
     rw (one-of (bytes "$~:/st") w (omega (arith, count-single (byte ":") (bytes "$~:/st") w refl)), starts-apart isLetter (byte "$") w f refl, starts-apart isLetter (byte "~") w f refl, one-of (bytes ":") w h)
 
+-- two kinds that fit one word are the same
 pub word-kinds : (j k : Kind) (w : List ℕ) → fits j w ≡ true → fits k w ≡ true → j ≡ k
 word-kinds j k w e f = sym (kind-is j w e) ∙ kind-is k w f
 
@@ -329,6 +332,7 @@ unfolding firstForm
 first-form w {k} (here q) e = rw (← q, e)
 first-form w {k} (there {x = j} m) e = split (fits j w) (λ f. rw f (ap formOf (word-kinds j k w f e))) (λ f. rw f (first-form w m e))
 
+-- one of these kinds fits and gives the form, or none does
 pub byKind : {X : Type 0} (ks : List Kind) (w : List ℕ) → ((k : Kind) → fits k w ≡ true → firstForm ks w ≡ formOf k → X) → (firstForm ks w ≡ 0 → X) → X
 unfolding firstForm
 byKind [] w on off = off refl
@@ -346,10 +350,11 @@ all-kinds camel = there (there (there (there (there (there (here refl))))))
 all-kinds uuid = there (there (there (there (there (there (there (here refl)))))))
 all-kinds iri = there (there (there (there (there (there (there (there (here refl))))))))
 
--- the form of a word is that of any kind that fits, and the one that the tests give in any other order
+-- the form of a word is that of the kind that fits
 pub form-of : (k : Kind) (w : List ℕ) → fits k w ≡ true → wordForm w ≡ formOf k
 form-of k w e = word-form w ∙ first-form w (all-kinds k) e
 
+-- and the one that the same tests give in any other order
 pub any-order : (ks : List Kind) → ((k : Kind) → Among k ks) → (w : List ℕ) → wordForm w ≡ firstForm ks w
 any-order ks a w = word-form w ∙ byKind kinds w (λ k e q. q ∙ sym (first-form w (a k) e)) (λ z. byKind ks w (λ k e q. first-form w (all-kinds k) e ∙ sym q) (λ y. z ∙ sym y))
 
@@ -382,5 +387,6 @@ kind-begins camel w e = token-sign (byte "~") isLower w e (λ l q. rw q)
 kind-begins uuid w e = begins _ w refl (uuid-first w e)
 kind-begins iri w e = begins _ w refl (iri-first w e)
 
+-- a word of some kind begins with none of these bytes
 pub word-begins : (w : List ℕ) → 1 ≤ wordForm w → startsIn (without beginsNoWord) w ≡ true
 word-begins w h = byKind kinds w (λ k e q. kind-begins k w e) (λ z. absurd (omega (arith, word-form w, z)))

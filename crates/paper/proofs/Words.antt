@@ -13,6 +13,7 @@ use Rattle.paper.proofs.Tests.{split, true-false}
 use Rattle.paper.proofs.Lists.{all-nil, all-cons, all-head, is-not}
 
 module _ (also : List ℕ) where
+  -- the length of a word: none where it ends, else a byte and the rest
   pub word-ends : (s : List ℕ) → endsWord also s ≡ true → wordLength also s ≡ 0
   unfolding wordLength
   word-ends [] e = refl
