@@ -29,6 +29,7 @@ tail-drop ℕ.zero s = whole
 tail-drop (ℕ.suc n) [] = whole
 tail-drop (ℕ.suc n) (b ∷ s) = past (tail-drop n s)
 
+-- what is left behind these bytes, and the end, are tails
 pub tail-of : (w : List ℕ) {s left : List ℕ} → s ≡ w ++ left → Tail s left
 tail-of w {s} {left} e = rw e (tail-append w left)
 
@@ -53,6 +54,7 @@ pub record Fault (s : List ℕ) (n : ℕ) (left : List ℕ) : Type 0 where
   pub most : n ≤ 11
   pub tail : Tail s left
 
+-- a fault of this number at a tail
 pub faults : {s left : List ℕ} (n : ℕ) → (4 ≤ n) × (n ≤ 11) → Tail s left → Fault s n left
 faults n h t = record { least = h .0; most = h .1; tail = t }
 
@@ -72,6 +74,7 @@ pub reads-then : {A B : Type 0} (s : List ℕ) (P : A → List ℕ → Type 0) (
 reads-then s P Q next (found a left) h f = reads-in (h .0) Q (next a left) (f a left (h .1))
 reads-then s P Q next (fault n left) h f = h
 
+-- something made of what is found
 pub reads-map : {A B : Type 0} (s : List ℕ) (P : A → List ℕ → Type 0) (Q : B → List ℕ → Type 0) (f : A → B) (x : Found A) → Reads s P x → ((a : A) (left : List ℕ) → P a left → Q (f a) left) → Reads s Q (andThen x (λ a left. found (f a) left))
 reads-map s P Q f (found a left) h k = (h .0, k a left (h .1))
 reads-map s P Q f (fault n left) h k = h
@@ -87,6 +90,7 @@ pub then-same : {A B : Type 0} (s : List ℕ) (P : A → List ℕ → Type 0) (x
 then-same s P (found a left) f g h e = e a left (h .1)
 then-same s P (fault n left) f g h e = refl
 
+-- two readings after one another that find the same, put together
 pub two-same : {A B C : Type 0} (s : List ℕ) (P : A → List ℕ → Type 0) (make : A → B → C) (x y : Found A) (p q : List ℕ → Found B)
     → x ≡ y → Reads s P y → ((a : A) (mid : List ℕ) → P a mid → p mid ≡ q mid)
     → andThen x (λ a mid. andThen (p mid) (λ b left. found (make a b) left)) ≡ andThen y (λ a mid. andThen (q mid) (λ b left. found (make a b) left))

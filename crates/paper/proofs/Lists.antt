@@ -30,6 +30,7 @@ pub byFront : {A X : Type 0} (l : List A) → (l ≡ [] → X) → ((a : A) (m :
 byFront [] none some = none refl
 byFront (a ∷ m) none some = some a m refl
 
+-- a list of no length is empty
 pub empty-is : {A : Type 0} (l : List A) → eqb (length l) 0 ≡ true → l ≡ []
 empty-is [] e = refl
 empty-is (a ∷ l) e = absurd (omega (arith, eqb-true (length (a ∷ l)) 0 e))
@@ -48,6 +49,7 @@ pub all-cons : {A : Type 0} (class : A → Bool) (a : A) (l : List A) → class 
 unfolding all
 all-cons class a l e f = rw (e, f)
 
+-- of a wider class too; of two lists in one; of the images
 pub all-weaken : {A : Type 0} (p q : A → Bool) → ((a : A) → p a ≡ true → q a ≡ true) → (l : List A) → all p l ≡ true → all q l ≡ true
 all-weaken p q h [] e = all-nil q
 all-weaken p q h (a ∷ l) e =
@@ -65,11 +67,13 @@ all-map f class (a ∷ l) = ap (λ (t : Bool). class (f a) && t) (all-map f clas
 
 -- ---- a byte that is one of these
 
+-- a byte of a class is none of these if none of these is of the class
 pub elem-apart : (class : ℕ → Bool) (b : ℕ) (cs : List ℕ) → class b ≡ true → all (λ c. not (class c)) cs ≡ true → elem b cs ≡ false
 unfolding elem
 elem-apart class b [] e a = refl
 elem-apart class b (c ∷ cs) e a = let h = all-head _ c cs a in rw (apart class b c e (not-true (class c) (h .0))) (elem-apart class b cs e (h .1))
 
+-- one of these is one of more
 pub elem-more : (b : ℕ) (cs ds : List ℕ) → elem b cs ≡ true → elem b (cs ++ ds) ≡ true
 unfolding elem
 elem-more b [] ds e = true-false (sym e)
@@ -89,6 +93,7 @@ without-less cs ds b e = split (elem b ds) (λ f. true-false (sym e ∙ ap not (
 
 -- ---- the first byte of a class
 
+-- of a wider class too; of more bytes
 pub starts-weaken : (p q : ℕ → Bool) → ((b : ℕ) → p b ≡ true → q b ≡ true) → (w : List ℕ) → startsIn p w ≡ true → startsIn q w ≡ true
 unfolding startsIn
 starts-weaken p q h [] e = true-false (sym e)
@@ -99,6 +104,7 @@ unfolding startsIn
 starts-append class [] w e = true-false (sym e)
 starts-append class (b ∷ v) w e = e
 
+-- then there is one; and it is of no class apart, and no byte outside the class
 pub starts-some : (class : ℕ → Bool) (w : List ℕ) → startsIn class w ≡ true → 0 < length w
 unfolding startsIn
 starts-some class [] e = true-false (sym e)
@@ -139,6 +145,7 @@ front-of class w next a e = rw (front-length class w next a e) (take-append-seam
 pub behind-of : (class : ℕ → Bool) (w next : List ℕ) → all class w ≡ true → startsIn class next ≡ false → behind class (w ++ next) ≡ next
 behind-of class w next a e = rw (front-length class w next a e) (drop-append-seam w next)
 
+-- at least those that are known to be
 pub front-least : (class : ℕ → Bool) (w next : List ℕ) → all class w ≡ true → length w ≤ lengthIn class (w ++ next)
 unfolding lengthIn
 front-least class [] next a = omega arith
@@ -169,6 +176,7 @@ unfolding startsWith
 starts-of [] next = refl
 starts-of (b ∷ p) next = rw (eq-eqb b b refl, startsWith) (starts-of p next)
 
+-- a byte that is not of the class does not stand before a list that begins in it
 pub starts-not : (class : ℕ → Bool) (p : ℕ) (w : List ℕ) → startsIn class w ≡ true → class p ≡ false → startsWith (p ∷ []) w ≡ false
 unfolding startsWith startsIn
 starts-not class p [] e f = refl

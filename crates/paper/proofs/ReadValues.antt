@@ -12,7 +12,7 @@ use Rattle.paper.specs.Bytes.{byte, bytes, isWhite, isBlank, isLineEnd, 
 use Rattle.paper.specs.Values.{is, isEnder, endsWord, listEnders, Leaf, leafOnto, leafRule, Value, leaf, emptyList, list, More, close, comma, valueOnto, moreOnto, spelling, valueRule, moreRule, valueInSlash, listDepth, moreDepth}
 use Rattle.paper.specs.ReadingValues.{leafOf, value, items, wholeValue}
 use Rattle.paper.specs.Canonical.{valueSense}
-use Rattle.paper.proofs.Tests.{split, true-false, apart, or-left}
+use Rattle.paper.proofs.Tests.{split, true-false, apart, or-left, or-right}
 use Rattle.paper.proofs.Finds.{whole, past, tail-drop, tail-length, faults, Reads, reads-in, reads-map, reads-two, two-same}
 use Rattle.paper.proofs.Lists.{both, and, without, without-less, starts-weaken, starts-some, starts-off, starts-is, starts-not, front-of, behind-of, front-all, front-behind}
 use Rattle.paper.proofs.WordKinds.{beginsNone, beginsNoLeaf}
@@ -54,6 +54,20 @@ value-longer also v next r = omega (arith, value-length v next, starts-some _ (s
 pub follows-ender : (also : List ℕ) (inSlash : Bool) (b : ℕ) (next : List ℕ) → isEnder also b ≡ true → eqb b (byte ">") ≡ false → Follows also inSlash (b ∷ next)
 unfolding endsWord startsIn
 follows-ender also inSlash b next e f = record { ends = or-left (isEnder also b) _ e; some = omega arith; slash = λ z. f }
+
+-- a space may follow any value
+pub follows-space : (also : List ℕ) (inSlash : Bool) (next : List ℕ) → Follows also inSlash (space ∷ next)
+unfolding isEnder isWhite isBlank
+follows-space also inSlash next = follows-ender also inSlash space next refl refl
+
+-- ">" may follow a value that does not end in "/", and "/>" any value
+pub follows-greater : (also next : List ℕ) → Follows also false (byte ">" ∷ next)
+unfolding endsWord isEnder isWhite isBlank isLineEnd startsIn
+follows-greater also next = record { ends = refl; some = omega arith; slash = λ z. true-false (sym z) }
+
+pub follows-slash : (also : List ℕ) (inSlash : Bool) (next : List ℕ) → Follows also inSlash (byte "/" ∷ byte ">" ∷ next)
+unfolding endsWord startsIn
+follows-slash also inSlash next = record { ends = or-right (isEnder also (byte "/")) true refl; some = omega arith; slash = λ z. refl }
 
 -- a value does not begin with what closes or separates
 pub no-closer : (also : List ℕ) (v : Value) (next : List ℕ) (c : ℕ) → valueRule also v ≡ true → elem c beginsNone ≡ true → startsWith (c ∷ []) (valueOnto v next) ≡ false
@@ -351,11 +365,6 @@ pub whole-complete : (lists : ℕ) (v : Value) (next : List ℕ) → valueRule [
 whole-complete lists v next r d f = whole-found lists (valueOnto v next) v next (value-back v lists [] next r d f)
 
 -- ---- a spelling is that of one value
-
--- a space may follow any value
-pub follows-space : (also : List ℕ) (inSlash : Bool) (next : List ℕ) → Follows also inSlash (space ∷ next)
-unfolding isEnder isWhite isBlank
-follows-space also inSlash next = follows-ender also inSlash space next refl refl
 
 -- two values that keep the rules and are spelt alike are one
 pub spelling-only : (also : List ℕ) (v w : Value) → valueRule also v ≡ true → valueRule also w ≡ true → spelling v ≡ spelling w → v ≡ w

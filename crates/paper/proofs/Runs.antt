@@ -43,6 +43,7 @@ Shorter s (more a left) = length left < length s
 Shorter s (over left) = Unit {0}
 Shorter s (stop n left) = Unit {0}
 
+-- it does if what is said of it says so
 pub turns-shorter : {A : Type 0} (s : List ℕ) (P : A → List ℕ → Type 0) (E : List ℕ → Type 0) → ((a : A) (left : List ℕ) → P a left → length left < length s) → (x : Turn A) → Turns s P E x → Shorter s x
 turns-shorter s P E f (more a left) h = f a left (h .1)
 turns-shorter s P E f (over left) h = tt

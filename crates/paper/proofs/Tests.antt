@@ -25,6 +25,7 @@ pub either : {X : Type 0} (a b : Bool) → a || b ≡ true → (a ≡ true → X
 either true b e on off = on refl
 either false b e on off = off e
 
+-- either of two tests is enough
 pub or-left : (a b : Bool) → a ≡ true → a || b ≡ true
 or-left a b e = rw e
 
