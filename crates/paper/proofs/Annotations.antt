@@ -109,7 +109,7 @@ turn-reads room s =
     go e (fault n left) h = record { least = h .least; most = h .most; tail = tail-then (tail-then (tail-drop (lengthIn isTab s) s) (tail-drop 1 (behind isTab s))) (h .tail) }
 
 pub annotation-shorter : (room : ℕ) (s : List ℕ) → Shorter s (annotationTurn room s)
-annotation-shorter room s = turns-shorter s _ _ (annotationTurn room s) (λ a left h. h .shorter) (turn-reads room s)
+annotation-shorter room s = turns-shorter s _ _ (λ a left h. h .shorter) (annotationTurn room s) (turn-reads room s)
 
 -- ---- the annotations of a Concept
 

@@ -19,14 +19,14 @@ use Rattle.paper.specs.Grammar.{lineEndOnto, blankOnto, tabsOnto, annota
 use Rattle.paper.specs.Limits.{traitFits, markerFits, conceptFits, bodyFits, conceptDepth, bodyDepth}
 use Rattle.paper.specs.Entries.{traitsSize, conceptSize, bodySize}
 use Rattle.paper.specs.Reading.{Bounds, lineRest, isBlankLine, isTab, tabsOnly, name, due, makes, annotations, Opened, opened, admitted, closing, atLineEnd, contentOf, concept, childrenOf, body}
-use Rattle.paper.proofs.Tests.{split, true-false, when-true, when-false}
+use Rattle.paper.proofs.Tests.{split, true-false, apart, when-true, when-false}
 use Rattle.paper.proofs.Lists.{both, and, is-not, all-head, behind-of}
 use Rattle.paper.proofs.Finds.{Tail, whole, past, tail-length, tail-then, tail-drop, Fault, Reads, reads-as, reads-on, reads-in}
 use Rattle.paper.proofs.Lines.{fault-here, fault-end, ReadBlank, rest-reads, rest-complete, ends-blank, blank-line, tabs-covers, tabs-length, tabs-behind, marked-line, only-reads, only-complete, rule-name, ReadName, name-reads, name-found, due-reads, due-complete, makes-reads, makes-complete}
 use Rattle.paper.proofs.Widths.{append-wide, tabs-wide, blank-wide, annotations-wide, traits-wide, ending-wide, marker-wide, concept-wide}
 use Rattle.paper.proofs.Annotations.{ReadAnnotations, annotations-reads, annotations-complete}
 use Rattle.paper.proofs.Content.{ReadContent, content-reads, content-complete}
-use Rattle.paper.proofs.Markers.{trait-parts, name-byte, name-white, ReadOpened, opened-reads, opened-complete, closing-reads, closing-complete}
+use Rattle.paper.proofs.Markers.{trait-parts, name-white, ReadOpened, opened-reads, opened-complete, closing-reads, closing-complete}
 
 -- ---- what reading finds
 
@@ -358,7 +358,7 @@ name-front k rest r = let n = rule-name isUpper (k .name) (both (nameRule isUppe
   where
     go : (w : List ℕ) → all isNameByte w ≡ true → 0 < length w → startsWith (bytes "/") (w ++ rest) ≡ false
     go [] a l = absurd (omega arith)
-    go (b ∷ w) a l = rw (name-byte b (byte "/") (all-head isNameByte b w a .0) refl, startsWith)
+    go (b ∷ w) a l = rw (apart isNameByte b (byte "/") (all-head isNameByte b w a .0) refl, startsWith)
 
 -- a Concept begins with "<" and its name
 concept-front : (m : Modes) (tabs : ℕ) (c : Concept) (next : List ℕ) → conceptRule m c ≡ true → (rest : List ℕ) × (conceptOnto tabs c next ≡ byte "<" ∷ rest) × (startsWith (bytes "/") rest ≡ false)

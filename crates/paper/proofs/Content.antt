@@ -149,7 +149,7 @@ line-reads tabs w room s =
     go (fault n left) h = h
 
 line-shorter : (tabs : ℕ) (w : List ℕ) (room : ℕ) (s : List ℕ) → Shorter s (lineTurn tabs w room s)
-line-shorter tabs w room s = turns-shorter s _ _ (lineTurn tabs w room s) (λ l left h. h .shorter) (line-reads tabs w room s)
+line-shorter tabs w room s = turns-shorter s _ _ (λ l left h. h .shorter) (lineTurn tabs w room s) (line-reads tabs w room s)
 
 -- the first byte of text that is no blank
 pub record Inked (t : List ℕ) : Type 0 where

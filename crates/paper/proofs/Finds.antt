@@ -1,6 +1,6 @@
 -- What holds of all that a reading finds, and of the faults that it meets. Assumes nothing.
 use Prim.Native.Nat.{ℕ, suc, _≤_, _<_}
-use mathlib.Core.Path.{_≡_, refl, ap}
+use mathlib.Core.Path.{_≡_, refl, ap, _∙_}
 use mathlib.Core.List.{List, [], _∷_, _++_}
 use native.Mathlib.Omega.{arith}
 use lib.ListN.{length, drop}
@@ -29,6 +29,14 @@ tail-drop ℕ.zero s = whole
 tail-drop (ℕ.suc n) [] = whole
 tail-drop (ℕ.suc n) (b ∷ s) = past (tail-drop n s)
 
+-- what is left behind these bytes, and the end, are tails
+pub tail-of : (w : List ℕ) {s left : List ℕ} → s ≡ w ++ left → Tail s left
+tail-of w {s} {left} e = rw e (tail-append w left)
+
+pub tail-end : (s : List ℕ) → Tail s []
+tail-end [] = whole
+tail-end (b ∷ s) = past (tail-end s)
+
 -- ---- what a reading finds, or its fault
 
 -- whatever is found has the property; of a fault nothing is said
@@ -45,6 +53,10 @@ pub record Fault (s : List ℕ) (n : ℕ) (left : List ℕ) : Type 0 where
   pub least : 4 ≤ n
   pub most : n ≤ 11
   pub tail : Tail s left
+
+-- a fault of this number at a tail
+pub faults : {s left : List ℕ} (n : ℕ) → (4 ≤ n) × (n ≤ 11) → Tail s left → Fault s n left
+faults n h t = record { least = h .0; most = h .1; tail = t }
 
 pub fault-in : {s mid left : List ℕ} {n : ℕ} → Tail s mid → Fault mid n left → Fault s n left
 fault-in t f = record { least = f .least; most = f .most; tail = tail-then t (f .tail) }
@@ -74,6 +86,25 @@ reads-then s P Q next x h f = reads-on s P Q next x h (λ a left t p. reads-in t
 pub then-same : {A B : Type 0} (s : List ℕ) (P : A → List ℕ → Type 0) (x : Found A) (f g : A → List ℕ → Found B) → Reads s P x → ((a : A) (left : List ℕ) → Tail s left → P a left → f a left ≡ g a left) → andThen x f ≡ andThen x g
 then-same s P (found a left) f g h e = e a left (h .0) (h .1)
 then-same s P (fault n left) f g h e = refl
+
+-- something made of what is found
+pub reads-map : {A B : Type 0} (s : List ℕ) (P : A → List ℕ → Type 0) (Q : B → List ℕ → Type 0) (f : A → B) (x : Found A) → Reads s P x → ((a : A) (left : List ℕ) → P a left → Q (f a) left) → Reads s Q (andThen x (λ a left. found (f a) left))
+reads-map s P Q f (found a left) h k = (h .0, k a left (h .1))
+reads-map s P Q f (fault n left) h k = h
+
+-- two readings after one another, put together
+pub reads-two : {A B C : Type 0} (s : List ℕ) (P : A → List ℕ → Type 0) (R : List ℕ → B → List ℕ → Type 0) (Q : C → List ℕ → Type 0) (make : A → B → C) (x : Found A) (next : List ℕ → Found B)
+    → Reads s P x → ((mid : List ℕ) → Reads mid (R mid) (next mid)) → ((a : A) (mid : List ℕ) (b : B) (left : List ℕ) → P a mid → R mid b left → Q (make a b) left)
+    → Reads s Q (andThen x (λ a mid. andThen (next mid) (λ b left. found (make a b) left)))
+reads-two s P R Q make x next h k f = reads-then s P Q _ x h (λ a mid p. reads-map mid (R mid) Q (make a) (next mid) (k mid) (λ b left r. f a mid b left p r))
+
+-- two readings after one another that find the same, put together
+pub two-same : {A B C : Type 0} (s : List ℕ) (P : A → List ℕ → Type 0) (make : A → B → C) (x y : Found A) (p q : List ℕ → Found B)
+    → x ≡ y → Reads s P y → ((a : A) (mid : List ℕ) → P a mid → p mid ≡ q mid)
+    → andThen x (λ a mid. andThen (p mid) (λ b left. found (make a b) left)) ≡ andThen y (λ a mid. andThen (q mid) (λ b left. found (make a b) left))
+two-same {A} {B} s P make x y p q e r f =
+    ap (λ (z : Found A). andThen z (λ a mid. andThen (p mid) (λ b left. found (make a b) left))) e
+    ∙ then-same s P y _ _ r (λ a mid t h. ap (λ (z : Found B). andThen z (λ b left. found (make a b) left)) (f a mid h))
 
 -- ---- the same of a turn
 

@@ -30,6 +30,7 @@ marker-shorter by room rule deeper outer s named w mid start mode o left d n a r
 
 mutual
   unfolding concept
+
   pub concept-fuel : (by : Bounds) (f g deeper room tabs : ℕ) (s : List ℕ) → length s < f → length s < g → concept by f deeper room tabs s ≡ concept by g deeper room tabs s
   concept-fuel by zero g deeper room tabs s h k = absurd (omega arith)
   concept-fuel by (suc f) zero deeper room tabs s h k = absurd (omega arith)
@@ -39,9 +40,9 @@ mutual
       (λ w mid u n. then-same s (λ mode start. Admits by deeper room w mid mode start) (admitted by deeper room s named w mid) _ _ (admitted-reads by deeper room s named w mid t (tail-then t u))
       (λ mode start v a. then-same start (λ o left. ReadOpened by (room - 1) w start o left) (opened by (room - 1) w start) _ _ (opened-reads by (room - 1) w start)
       (λ o left x r.
-        let l = marker-shorter by (room - 1) (isName isUpper (by .names)) deeper room s named w mid start mode o left d n a r in
-        ap (λ (x : Found Concept). elim (o .ends) [ self ↦ found (selfClosed (o .marker)) left | block ↦ elim mode [ Children ↦ x | Content ↦ contentOf tabs (room - 1 - traitsSize (o .marker .traits)) (o .marker) left | Absent ↦ fault 5 named ] ])
-        (children-fuel by f g (deeper - 1) (room - 1 - traitsSize (o .marker .traits)) (o .marker) left (omega arith) (omega arith))))))
+      let l = marker-shorter by (room - 1) (isName isUpper (by .names)) deeper room s named w mid start mode o left d n a r in
+      ap (λ (x : Found Concept). elim (o .ends) [ self ↦ found (selfClosed (o .marker)) left | block ↦ elim mode [ Children ↦ x | Content ↦ contentOf tabs (room - 1 - traitsSize (o .marker .traits)) (o .marker) left | Absent ↦ fault 5 named ] ])
+      (children-fuel by f g (deeper - 1) (room - 1 - traitsSize (o .marker .traits)) (o .marker) left (omega arith) (omega arith))))))
 
   pub children-fuel : (by : Bounds) (f g deeper room : ℕ) (k : Marker) (s : List ℕ) → length s + 2 < f → length s + 2 < g → childrenOf by f deeper room k s ≡ childrenOf by g deeper room k s
   children-fuel by zero g deeper room k s h l = absurd (omega arith)
@@ -49,7 +50,7 @@ mutual
   children-fuel by (suc f) (suc g) deeper room k s h l =
       then-same s (λ b left. ReadBlank s b left) (lineRest s) _ _ (rest-reads s)
       (λ rest start t r. ap (λ (x : Found Body). andThen x (λ inner left. andThen (closing (k .name) (behind isTab left)) (λ b end. found (children k rest inner (lengthIn isTab left)) end)))
-        (body-fuel by f g deeper room start (omega (arith, r .shorter)) (omega (arith, r .shorter))))
+      (body-fuel by f g deeper room start (omega (arith, r .shorter)) (omega (arith, r .shorter))))
 
   pub body-fuel : (by : Bounds) (f g deeper room : ℕ) (s : List ℕ) → length s + 1 < f → length s + 1 < g → body by f deeper room s ≡ body by g deeper room s
   body-fuel by zero g deeper room s h l = absurd (omega arith)
@@ -62,10 +63,10 @@ mutual
       (λ tabs mark t m. split (startsWith (bytes "</") mark) (λ c. rw c)
       (λ c. rw c (then-same s (λ notes line. ReadAnnotations room s notes line) (annotations room s) _ _ (annotations-reads room s)
       (λ notes line u a.
-        let short = tail-length (tail-then u (tail-drop (lengthIn isTab line) line)) in
-        ap (λ (x : Found Concept). andThen x (λ c left. andThen (lineRest left) (λ rest left. andThen (body by f deeper (room - length notes - conceptSize c) left) (λ inner end. found (element notes (lengthIn isTab line) c rest inner) end))))
-        (concept-fuel by f g deeper (room - length notes) (lengthIn isTab line) (behind isTab line) (omega (arith, short)) (omega (arith, short)))
-        ∙ then-same (behind isTab line) (λ c left. ReadConcept by deeper (room - length notes) (lengthIn isTab line) (behind isTab line) c left) (concept by g deeper (room - length notes) (lengthIn isTab line) (behind isTab line)) _ _ (concept-reads by g deeper (room - length notes) (lengthIn isTab line) (behind isTab line))
-        (λ c left v k. then-same left (λ b next. ReadBlank left b next) (lineRest left) _ _ (rest-reads left)
-        (λ rest next x r. ap (λ (y : Found Body). andThen y (λ inner end. found (element notes (lengthIn isTab line) c rest inner) end))
-          (body-fuel by f g deeper (room - length notes - conceptSize c) next (omega (arith, r .shorter, tail-length v, short)) (omega (arith, r .shorter, tail-length v, short)))))))))))
+      let short = tail-length (tail-then u (tail-drop (lengthIn isTab line) line)) in
+      ap (λ (x : Found Concept). andThen x (λ c left. andThen (lineRest left) (λ rest left. andThen (body by f deeper (room - length notes - conceptSize c) left) (λ inner end. found (element notes (lengthIn isTab line) c rest inner) end))))
+      (concept-fuel by f g deeper (room - length notes) (lengthIn isTab line) (behind isTab line) (omega (arith, short)) (omega (arith, short)))
+      ∙ then-same (behind isTab line) (λ c left. ReadConcept by deeper (room - length notes) (lengthIn isTab line) (behind isTab line) c left) (concept by g deeper (room - length notes) (lengthIn isTab line) (behind isTab line)) _ _ (concept-reads by g deeper (room - length notes) (lengthIn isTab line) (behind isTab line))
+      (λ c left v k. then-same left (λ b next. ReadBlank left b next) (lineRest left) _ _ (rest-reads left)
+      (λ rest next x r. ap (λ (y : Found Body). andThen y (λ inner end. found (element notes (lengthIn isTab line) c rest inner) end))
+      (body-fuel by f g deeper (room - length notes - conceptSize c) next (omega (arith, r .shorter, tail-length v, short)) (omega (arith, r .shorter, tail-length v, short)))))))))))

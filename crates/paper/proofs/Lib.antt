@@ -5,6 +5,10 @@ pub mod Finds
 pub mod Lists
 pub mod Runs
 pub mod Scalars
+pub mod Pieces
+pub mod Words
+pub mod WordKinds
+pub mod Leaves
 pub mod Lines
 pub mod Annotations
 pub mod Content

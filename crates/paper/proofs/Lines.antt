@@ -116,7 +116,7 @@ blanks-reads s =
     (suc (length s)) 0 s
 
 pub blank-shorter : (room : ℕ) (s : List ℕ) → Shorter s (blankTurn room s)
-blank-shorter room s = turns-shorter s (λ b left. ReadBlank s b left) (λ left. (s ≡ left) × (isBlankLine s ≡ false)) (blankTurn room s) (λ b left h. h .shorter) (blank-turns room s)
+blank-shorter room s = turns-shorter s (λ b left. ReadBlank s b left) (λ left. (s ≡ left) × (isBlankLine s ≡ false)) (λ b left h. h .shorter) (blankTurn room s) (blank-turns room s)
 
 pub blanks-complete : (bs : List Blank) (next : List ℕ) → all blankRule bs ≡ true → isBlankLine next ≡ false → blankLines (blanksOnto bs next) ≡ found bs next
 unfolding blanksOnto blankTurn

@@ -17,12 +17,13 @@ use Rattle.paper.specs.Limits.{traitFits}
 use Rattle.paper.specs.Entries.{itemEntries, traitSize, traitsSize}
 use Rattle.paper.specs.ReadingValues.{wholeValue}
 use Rattle.paper.specs.Reading.{Bounds, name, due, enters, trait, traitDue, traitTurn, ending, Opened, opened, closing}
-use Rattle.paper.proofs.Tests.{split, true-false}
+use Rattle.paper.proofs.Tests.{split, true-false, apart}
 use Rattle.paper.proofs.Lists.{both, and, all-head, front-all, front-behind, behind-stops, front-of, behind-of, same-is, same-of}
 use Rattle.paper.proofs.Finds.{Tail, whole, past, tail-length, tail-then, tail-drop, Fault, Reads, reads-as, reads-on, reads-in, Turns, turns-of}
 use Rattle.paper.proofs.Runs.{Says, many-reads, Shorter, turns-shorter, run-more, run-over}
 use Rattle.paper.proofs.Lines.{fault-here, fault-end, rule-name, ReadName, name-reads, name-complete, due-reads, due-complete}
-use Rattle.paper.proofs.ReadValues.{ReadValue, Follows, whole-reads, whole-complete}
+use Rattle.paper.proofs.Leaves.{Follows}
+use Rattle.paper.proofs.ReadValues.{ReadValue, whole-reads, whole-complete}
 
 -- ---- one trait
 
@@ -112,7 +113,7 @@ turn-reads by room s = go (behind isWhite s) refl
         (λ g. rw (f, traitDue, g) (record { least = omega arith; most = omega arith; tail = u })))
 
 trait-shorter : (by : Bounds) (room : ℕ) (s : List ℕ) → Shorter s (traitTurn by room s)
-trait-shorter by room s = turns-shorter s _ _ (traitTurn by room s) (λ t left h. h .shorter) (turn-reads by room s)
+trait-shorter by room s = turns-shorter s _ _ (λ t left h. h .shorter) (traitTurn by room s) (turn-reads by room s)
 
 pub record ReadTraits (by : Bounds) (room : ℕ) (s : List ℕ) (ts : List Trait) (left : List ℕ) : Type 0 where
   pub covers : s ≡ traitsOnto ts left
@@ -202,13 +203,9 @@ opened-reads by room w s =
 
 -- ---- traits are found where they stand
 
--- a byte of a name is none that no name has
-pub name-byte : (b n : ℕ) → isNameByte b ≡ true → isNameByte n ≡ false → eqb b n ≡ false
-name-byte b n e f = ne-eqb b n (λ q. true-false (sym e ∙ ap isNameByte q ∙ f))
-
 pub name-white : (b : ℕ) → isNameByte b ≡ true → isWhite b ≡ false
 unfolding isWhite isBlank isLineEnd isNameByte isLetter isUpper isLower isDigit
-name-white b e = rw (name-byte b 32 e refl, name-byte b 9 e refl, name-byte b 10 e refl, name-byte b 13 e refl)
+name-white b e = rw (apart isNameByte b 32 e refl, apart isNameByte b 9 e refl, apart isNameByte b 10 e refl, apart isNameByte b 13 e refl)
 
 -- what stands behind the last trait
 pub record Closes (ts : List Trait) (next : List ℕ) : Type 0 where
@@ -256,7 +253,7 @@ turn-over by room s e = go (behind isWhite s) e
     go (b ∷ l) e = rw (e, traitDue)
 
 -- a trait stands in front of more traits
-follows-more : (ts : List Trait) (t : Trait) (next : List ℕ) → all traitRule ts ≡ true → Closes (t ∷ ts) next → Follows [] (t .value) (traitsOnto ts next)
+follows-more : (ts : List Trait) (t : Trait) (next : List ℕ) → all traitRule ts ≡ true → Closes (t ∷ ts) next → Follows [] (valueInSlash (t .value)) (traitsOnto ts next)
 unfolding traitsOnto slashLast
 follows-more [] t next r c = record { ends = c .ends; some = c .some; slash = c .slash }
 follows-more (u ∷ ts) t next r c =
@@ -273,7 +270,7 @@ enters-complete : (room : ℕ) (named valued : List ℕ) (t : Trait) (left : Lis
 unfolding enters
 enters-complete room named valued t left f = rw (le-leb (traitSize t) room f, enters)
 
-trait-complete : (by : Bounds) (room : ℕ) (t : Trait) (next : List ℕ) → traitRule t ≡ true → traitFits (by .names) (by .lists) t ≡ true → traitSize t ≤ room → Follows [] (t .value) next → trait by room (t .white) (t .name ++ (byte "=" ∷ valueOnto (t .value) next)) ≡ found t next
+trait-complete : (by : Bounds) (room : ℕ) (t : Trait) (next : List ℕ) → traitRule t ≡ true → traitFits (by .names) (by .lists) t ≡ true → traitSize t ≤ room → Follows [] (valueInSlash (t .value)) next → trait by room (t .white) (t .name ++ (byte "=" ∷ valueOnto (t .value) next)) ≡ found t next
 unfolding trait traitFits isName isNameByte isLetter isUpper isLower isDigit
 trait-complete by room t next r w f k =
     let p = trait-parts t r in
@@ -289,9 +286,9 @@ name-due by room white [] rest l r k n = absurd (omega arith)
 name-due by room white (b ∷ w) rest l r k n =
     let h = all-head isNameByte b w n .0 in
     let a = front-of isWhite white (b ∷ (w ++ rest)) r (name-white b h) in
-    rw (behind-of isWhite white (b ∷ (w ++ rest)) r (name-white b h), traitDue, name-byte b (byte ">") h refl, name-byte b (byte "/") h refl, a, le-leb 1 (length white) l, a)
+    rw (behind-of isWhite white (b ∷ (w ++ rest)) r (name-white b h), traitDue, apart isNameByte b (byte ">") h refl, apart isNameByte b (byte "/") h refl, a, le-leb 1 (length white) l, a)
 
-turn-complete : (by : Bounds) (room : ℕ) (t : Trait) (next : List ℕ) → traitRule t ≡ true → traitFits (by .names) (by .lists) t ≡ true → traitSize t ≤ room → Follows [] (t .value) next → traitTurn by room (traitOnto t next) ≡ more t next
+turn-complete : (by : Bounds) (room : ℕ) (t : Trait) (next : List ℕ) → traitRule t ≡ true → traitFits (by .names) (by .lists) t ≡ true → traitSize t ≤ room → Follows [] (valueInSlash (t .value)) next → traitTurn by room (traitOnto t next) ≡ more t next
 turn-complete by room t next r w f k =
     let p = trait-parts t r in
     let n = rule-name isLower (t .name) (p .2) in

@@ -43,10 +43,11 @@ Shorter s (more a left) = length left < length s
 Shorter s (over left) = Unit {0}
 Shorter s (stop n left) = Unit {0}
 
-pub turns-shorter : {A : Type 0} (s : List ℕ) (P : A → List ℕ → Type 0) (E : List ℕ → Type 0) (x : Turn A) → ((a : A) (left : List ℕ) → P a left → length left < length s) → Turns s P E x → Shorter s x
-turns-shorter s P E (more a left) f h = f a left (h .1)
-turns-shorter s P E (over left) f h = tt
-turns-shorter s P E (stop n left) f h = tt
+-- it does if what is said of it says so
+pub turns-shorter : {A : Type 0} (s : List ℕ) (P : A → List ℕ → Type 0) (E : List ℕ → Type 0) → ((a : A) (left : List ℕ) → P a left → length left < length s) → (x : Turn A) → Turns s P E x → Shorter s x
+turns-shorter s P E f (more a left) h = f a left (h .1)
+turns-shorter s P E f (over left) h = tt
+turns-shorter s P E f (stop n left) h = tt
 
 go-on : {A : Type 0} (s : List ℕ) (x : Turn A) (f g : A → List ℕ → Found (List A)) → Shorter s x → ((a : A) (left : List ℕ) → length left < length s → f a left ≡ g a left) → goOn f x ≡ goOn g x
 go-on s (more a left) f g h e = ap (λ y. andThen y (λ things end. found (a ∷ things) end)) (e a left h)

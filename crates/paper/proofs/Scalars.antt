@@ -5,7 +5,7 @@ use mathlib.Core.Path.{_≡_, refl, sym, ap, _∙_}
 use mathlib.Core.Bool.{true, false}
 use mathlib.Core.List.{List, [], _∷_, _++_}
 use native.Mathlib.Omega.{arith}
-use lib.ListN.{length, length-append}
+use lib.ListN.{length, drop, length-append}
 use lib.Dec.{leb}
 use borrow.Author.Tests.{leb-true, le-leb, lt-leb, ne-eqb}
 use Rattle.paper.specs.Found.{Found, found, fault, andThen}
@@ -299,6 +299,18 @@ encode-some v =
     upTo v 0x7F (λ h. rw (encode-one v h) (omega arith))
     (λ l. upTo v 0x7FF (λ h. rw (encode-two v l h) (omega arith))
     (λ l. upTo v 0xFFFF (λ h. rw (encode-three v l h) (omega arith)) (λ l. rw (encode-four v l) (omega arith))))
+
+-- the bytes behind the first one are those of no character of ASCII
+pub encode-high : (v : ℕ) → all (leb 0x80) (drop 1 (encode v)) ≡ true
+unfolding all
+encode-high v =
+    upTo v 0x7F (λ h. rw (encode-one v h))
+    (λ l. upTo v 0x7FF (λ h. rw (encode-two v l h, high (v % 64)))
+    (λ l. upTo v 0xFFFF (λ h. rw (encode-three v l h, high (v / 64 % 64), high (v % 64)))
+    (λ l. rw (encode-four v l, high (v / 64 / 64 % 64), high (v / 64 % 64), high (v % 64)))))
+  where
+    high : (c : ℕ) → leb 0x80 (0x80 + c) ≡ true
+    high c = le-leb 0x80 (0x80 + c) (omega arith)
 
 pub spelt-shorter : {s : List ℕ} {v : ℕ} {left : List ℕ} → Spelt s v left → length left < length s
 spelt-shorter {s} {v} {left} h = rw (h .whole, length-append) (omega (arith, encode-some v))

@@ -1,11 +1,11 @@
 -- Tests by their two cases, and ranges as two orders. Assumes nothing.
 -- Document 01, "The grammar": its classes of bytes are such ranges.
 use Prim.Native.Nat.{ℕ, _≤_, _<_}
-use mathlib.Core.Path.{_≡_, refl, sym}
-use mathlib.Core.Bool.{Bool, true, false}
+use mathlib.Core.Path.{_≡_, refl, sym, ap, _∙_}
+use mathlib.Core.Bool.{Bool, true, false, _||_}
 use native.Mathlib.Omega.{arith}
-use lib.Dec.{leb}
-use borrow.Author.Tests.{leb-true, leb-false, le-leb, lt-leb}
+use lib.Dec.{leb, eqb}
+use borrow.Author.Tests.{leb-true, leb-false, le-leb, lt-leb, ne-eqb}
 use Rattle.paper.specs.Bytes.{within}
 
 -- what holds in both cases of a test holds
@@ -25,6 +25,23 @@ when-true false a b e = true-false (sym e)
 pub when-false : {A : Type 0} (test : Bool) (a b : A) → test ≡ false → elim test [ true ↦ a | false ↦ b ] ≡ b
 when-false true a b e = true-false e
 when-false false a b e = refl
+
+-- a number that passes a test is none that fails it
+pub apart : (test : ℕ → Bool) (b c : ℕ) → test b ≡ true → test c ≡ false → eqb b c ≡ false
+apart test b c e f = ne-eqb b c (λ q. true-false (sym e ∙ ap test q ∙ f))
+
+-- one of two tests
+pub either : {X : Type 0} (a b : Bool) → a || b ≡ true → (a ≡ true → X) → (b ≡ true → X) → X
+either true b e on off = on refl
+either false b e on off = off e
+
+-- either of two tests is enough
+pub or-left : (a b : Bool) → a ≡ true → a || b ≡ true
+or-left a b e = rw e
+
+pub or-right : (a b : Bool) → b ≡ true → a || b ≡ true
+or-right true b e = refl
+or-right false b e = e
 
 -- ---- orders and ranges
 
