@@ -50,7 +50,7 @@ value-longer also v next r = omega (arith, value-length v next, starts-some _ (s
 
 -- ---- what separates items and closes a list, whichever bytes these are
 
--- a byte that ends a word may follow any value, but ">" one in "/"
+-- a byte that ends a word, and is not ">", may follow any value
 pub follows-ender : (also : List ℕ) (inSlash : Bool) (b : ℕ) (next : List ℕ) → isEnder also b ≡ true → eqb b (byte ">") ≡ false → Follows also inSlash (b ∷ next)
 unfolding endsWord startsIn
 follows-ender also inSlash b next e f = record { ends = or-left (isEnder also b) _ e; some = omega arith; slash = λ z. f }
