@@ -1,6 +1,8 @@
 // Names: the run of letters and digits that stands somewhere, and the rule for Concepts and traits.
 // Document 01, "The grammar", Names, and "Sizes".
 use text::classes;
+use text::runs;
+use text::runs::Class;
 ghost use mathlib.Core.Path.{_≡_};
 ghost use mathlib.Core.Bool.{_&&_};
 ghost use Prim.Native.Nat.{_+_, _≤_};
@@ -19,14 +21,7 @@ pub fn run_end(s: &[u8], at: usize) -> usize
     requires { ⌜ at ≤ length (now s) ⌝ }
     ensures { λ r. ⌜ (r ≡ at + runLength (drop at (now (s .entry)))) × (at ≤ r) × (r ≤ length (now (s .entry))) ⌝ }
 {
-    let mut i = at;
-    while i < s.len() {
-        if !classes::is_name_byte(s[i]) {
-            return i;
-        }
-        i += 1;
-    }
-    i
+    runs::end(s, at, Class::Name)
 }
 
 // Whether the name keeps to the rule of a Concept's name.

@@ -11,6 +11,7 @@ use borrow.Author.Tests.{leb-true, le-leb, lt-leb, ne-eqb}
 use Rattle.paper.specs.Found.{Found, found, fault, andThen}
 use Rattle.paper.specs.Bytes.{Row, one, two, three, four, none, rowOf, follower, scalar, mayStand, scalars, sheetBytes, isScalar, encode, all, encodeAll, startsWith, byteOrderMark}
 use Rattle.paper.proofs.Tests.{split, true-false, upTo, inside, below, above, byRange}
+use Rattle.paper.proofs.Lists.{all-head}
 use Rattle.paper.proofs.Finds.{Finds, finds-then}
 
 -- ---- scalar values
@@ -402,10 +403,6 @@ sheet-made s vs left e = rw e at (finds s)
     finds : (s : List ℕ) → Finds (Made s) (sheetBytes s)
     finds s = split (startsWith byteOrderMark s) (λ m. rw (m, Finds) tt) (λ m. rw (m, sheetBytes) (made (length s) s (omega arith)))
 
-all-both : (v : ℕ) (vs : List ℕ) → all isScalar (v ∷ vs) ≡ true → (isScalar v ≡ true) × (all isScalar vs ≡ true)
-unfolding all
-all-both v vs e = split (isScalar v) (λ t. (t, rw (t, all) at e)) (λ t. true-false (sym e ∙ rw (t, all)))
-
 no-bytes : {X : Type 0} (v : ℕ) (vs : List ℕ) → encodeAll (v ∷ vs) ≡ [] → X
 unfolding encodeAll
 no-bytes v vs e = absurd (omega (arith, ap length e, length-append (encode v) (encodeAll vs), encode-some v))
@@ -422,7 +419,7 @@ encode-only [] [] p q e = refl
 encode-only [] (w ∷ ws) p q e = no-bytes w ws (sym e)
 encode-only (v ∷ vs) [] p q e = no-bytes v vs e
 encode-only (v ∷ vs) (w ∷ ws) p q e =
-    let a = all-both v vs p in
-    let b = all-both w ws q in
+    let a = all-head isScalar v vs p in
+    let b = all-head isScalar w ws q in
     let same = first-same v w (encodeAll vs) (encodeAll ws) (a .0) (b .0) e in
     rw (same .0) (ap (λ (l : List ℕ). w ∷ l) (encode-only vs ws (a .1) (b .1) (same .1)))

@@ -1,7 +1,7 @@
 // Classes of ASCII bytes: letters, digits, and what names and white space are made of.
 // Document 01, "The grammar", Bytes and Names.
 ghost use mathlib.Core.Path.{_≡_};
-ghost use Rattle.paper.specs.Bytes.{within, isUpper, isLower, isDigit, isLetter, isNameByte, isHex, isBlank};
+ghost use Rattle.paper.specs.Bytes.{within, isUpper, isLower, isDigit, isLetter, isNameByte, isHex, isBlank, isLineEnd, isWhite};
 
 // Whether the byte lies from `low` to `high`, both counted.
 pub fn is_within(low: u8, high: u8, b: u8) -> bool
@@ -53,4 +53,18 @@ pub fn is_blank(b: u8) -> bool
     ensures { λ r. ⌜ r ≡ isBlank b ⌝ }
 {
     b == b' ' || b == b'\t'
+}
+
+// Whether the byte is LF, or CR, which stands only before LF.
+pub fn is_line_end(b: u8) -> bool
+    ensures { λ r. ⌜ r ≡ isLineEnd b ⌝ }
+{
+    b == b'\n' || b == b'\r'
+}
+
+// Whether the byte is white space: a space, a tab, or of a line end.
+pub fn is_white(b: u8) -> bool
+    ensures { λ r. ⌜ r ≡ isWhite b ⌝ }
+{
+    is_blank(b) || is_line_end(b)
 }
