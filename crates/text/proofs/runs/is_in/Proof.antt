@@ -1,53 +1,38 @@
+-- Each class is tested by its own function.
 use borrow.Author.Needs.{needs}
 use Rattle.text.proofs.runs.is_in.Statement.{statement}
 use Rattle.text.proofs.runs.is_in.Tie as tie
-use Rattle.text.proofs.runs.is_in.Reads as reads
-use Rattle.text.proofs.runs.is_in.Lts as lts
-use Rattle.text.proofs.classes.is_blank.Reads as is-blank-reads
-use Rattle.text.proofs.classes.is_name_byte.Reads as is-name-byte-reads
-use Rattle.text.proofs.classes.is_white.Reads as is-white-reads
 
--- src/runs.rt:23:24
 enum-told : tie.Need-enum-told
 enum-told c = search needs
 
--- src/runs.rt:23:24
 is-name-byte-requires : tie.Need-is-name-byte-requires
 is-name-byte-requires c κs = search needs
 
--- src/runs.rt:24:25
 enum-told-2 : tie.Need-enum-told-2
 enum-told-2 c = search needs
 
--- src/runs.rt:24:25
 is-blank-requires : tie.Need-is-blank-requires
 is-blank-requires c κs = search needs
 
--- src/runs.rt:25:23
 enum-told-3 : tie.Need-enum-told-3
 enum-told-3 c = search needs
 
--- src/runs.rt:26:25
 enum-told-4 : tie.Need-enum-told-4
 enum-told-4 c = search needs
 
--- src/runs.rt:26:25
 is-white-requires : tie.Need-is-white-requires
 is-white-requires c κs = search needs
 
--- src/runs.rt:19:1
 returns : tie.Need-returns
 returns c = rw (c .before .enum-told .given .1) (c .is-name-byte .ensures)
 
--- src/runs.rt:19:1
 returns-2 : tie.Need-returns-2
 returns-2 c = rw (c .before .enum-told2 .given .1) (c .is-blank .ensures)
 
--- src/runs.rt:19:1
 returns-3 : tie.Need-returns-3
 returns-3 c = rw (c .enum-told3 .given .1)
 
--- src/runs.rt:19:1
 returns-4 : tie.Need-returns-4
 returns-4 c = rw (c .before .enum-told4 .given .1) (c .is-white .ensures)
 

@@ -1,0 +1,3 @@
+-- Laws of cells and the entries that are laid in them.
+pub mod Zeros
+pub mod Laying

@@ -1,0 +1,41 @@
+-- Entries laid into cells from a number on.
+-- Document 01, "Entries".
+use Prim.Native.Nat.{ℕ, _+_, _*_, _≤_}
+use mathlib.Core.List.{List}
+use lib.ListN.{length}
+use lib.Seq.{sets}
+use Rattle.paper.specs.Limits.{entryLimit}
+use Rattle.paper.specs.Entries.{Entry, entryCells, allCells}
+use Rattle.entries.specs.declared.Entry.{Entry as Written}
+use Rattle.entries.specs.declared.Slot.{Slot}
+
+-- the paper's entry that the code's is
+abbrev pub entryOf : Written → Entry
+entryOf e =
+    record {
+      kind = e .kind;
+      form = e .form;
+      parent = e .parent;
+      count = e .count;
+      nameStart = e .«name_start»;
+      nameEnd = e .«name_end»;
+      start = e .start;
+      end = e .end;
+    }
+
+-- the cells with these entries in them, the first of which has number n
+unfoldable pub lay : List ℕ → ℕ → List Entry → List ℕ
+lay cells n es = sets cells (n * entryCells) (allCells es)
+
+-- the slot so many entries on, and the one behind the next entry for those that it is the parent of
+abbrev pub slotAfter : Slot → ℕ → Slot
+slotAfter at made = record { next = at .next + made; room = at .room; parent = at .parent }
+
+abbrev pub slotUnder : Slot → Slot
+slotUnder at = record { next = at .next + 1; room = at .room; parent = at .next }
+
+-- the slot's room is one of the cells, and it is not past it
+pub record Fits (cells : List ℕ) (at : Slot) : Type 0 where
+  pub held : at .room * entryCells ≤ length cells
+  pub few : at .room ≤ entryLimit
+  pub inside : at .next ≤ at .room

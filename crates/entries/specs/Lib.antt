@@ -1,0 +1,2 @@
+-- What the functions of this crate write, over the definitions of the paper.
+pub mod Laid
