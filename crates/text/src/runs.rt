@@ -7,12 +7,13 @@ ghost use lib.ListN.{length, drop};
 ghost use Rattle.paper.specs.Bytes.{lengthIn};
 ghost use Rattle.text.specs.Runs.{inClass};
 
-// What a run is made of: letters and digits, spaces and tabs, tabs, or white space.
+// What a run is made of: letters and digits, spaces and tabs, tabs, white space, or what is no line end.
 pub enum Class {
     Name,
     Blank,
     Tab,
     White,
+    Text,
 }
 
 // Whether the byte is of the class.
@@ -24,6 +25,7 @@ pub fn is_in(class: Class, b: u8) -> bool
         Class::Blank => classes::is_blank(b),
         Class::Tab => b == b'\t',
         Class::White => classes::is_white(b),
+        Class::Text => !classes::is_line_end(b),
     }
 }
 

@@ -1,4 +1,5 @@
 -- Each class is tested by its own function.
+use mathlib.Core.Path.{_≡_}
 use borrow.Author.Needs.{needs}
 use Rattle.text.proofs.runs.is_in.Statement.{statement}
 use Rattle.text.proofs.runs.is_in.Tie as tie
@@ -24,6 +25,12 @@ enum-told-4 c = search needs
 is-white-requires : tie.Need-is-white-requires
 is-white-requires c κs = search needs
 
+enum-told-5 : tie.Need-enum-told-5
+enum-told-5 c = search needs
+
+is-line-end-requires : tie.Need-is-line-end-requires
+is-line-end-requires c κs = search needs
+
 returns : tie.Need-returns
 returns c = rw (c .before .enum-told .given .1) (c .is-name-byte .ensures)
 
@@ -36,6 +43,9 @@ returns-3 c = rw (c .enum-told3 .given .1)
 returns-4 : tie.Need-returns-4
 returns-4 c = rw (c .before .enum-told4 .given .1) (c .is-white .ensures)
 
+returns-5 : tie.Need-returns-5
+returns-5 c = rw (c .before .enum-told5 .given .1, c .is-line-end .ensures)
+
 pub is-in-spec : {M : Type 1} → statement M
 is-in-spec =
     tie.close
@@ -47,7 +57,10 @@ is-in-spec =
     enum-told-3
     enum-told-4
     is-white-requires
+    enum-told-5
+    is-line-end-requires
     returns
     returns-2
     returns-3
-    returns-4)
+    returns-4
+    returns-5)
