@@ -10,7 +10,7 @@ use borrow.Author.Tests.{eqb-true}
 use Rattle.paper.specs.Found.{Found, found, fault, andThen, pick}
 use Rattle.paper.specs.Bytes.{byte, bytes, isWhite, isBlank, isLineEnd, all, elem, startsIn, startsWith, front, behind, lengthIn, space, tab, lf, cr}
 use Rattle.paper.specs.Values.{is, isEnder, endsWord, listEnders, Leaf, leafOnto, leafRule, Value, leaf, emptyList, list, More, close, comma, valueOnto, moreOnto, spelling, valueRule, moreRule, valueInSlash, listDepth, moreDepth}
-use Rattle.paper.specs.ReadingValues.{leafOf, value, items, wholeValue}
+use Rattle.paper.specs.ReadingValues.{valueOf, moreOf, itemAnd, leafOf, value, items, wholeValue}
 use Rattle.paper.specs.Canonical.{valueSense}
 use Rattle.paper.proofs.Tests.{split, true-false, apart, or-left, or-right}
 use Rattle.paper.proofs.Finds.{whole, past, tail-drop, tail-length, faults, Reads, reads-in, reads-map, reads-two, two-same}
@@ -211,13 +211,6 @@ mutual
 
 -- ---- fuel above the length does not matter
 
--- with fuel enough
-abbrev pub valueOf : ℕ → List ℕ → List ℕ → Found Value
-valueOf lists also s = value (suc (length s)) lists also s
-
-abbrev pub moreOf : ℕ → List ℕ → Found More
-moreOf lists s = items (suc (length s)) lists s
-
 module _ (f g : ℕ) (ones : (lists : ℕ) (s : List ℕ) → length s < f → length s < g → value f lists listEnders s ≡ value g lists listEnders s) (mores : (lists : ℕ) (s : List ℕ) → length s < f → length s < g → items f lists s ≡ items g lists s) where
   item-fuel : {A : Type 0} (lists : ℕ) (make : Value → More → A) (s : List ℕ) → length s < f → length s < g → itemThen f lists make s ≡ itemThen g lists make s
   item-fuel lists make s h k = two-same s (ReadValue lists listEnders s) make _ _ (items f lists) (items g lists) (ones lists s h k) (value-reads g lists listEnders s) (λ v left r. mores lists left (omega (arith, r .shorter)) (omega (arith, r .shorter)))
@@ -257,10 +250,6 @@ mutual
   items-fuel (suc f) (suc g) lists (b ∷ l) h k = behind-fuel f g (λ m l a c. value-fuel f g m listEnders l a c) (λ m l a c. items-fuel f g m l a c) lists b l (omega arith) (omega arith)
 
 -- ---- the steps without fuel
-
--- an item, and what stands behind it
-abbrev pub itemAnd : {A : Type 0} → ℕ → (Value → More → A) → List ℕ → Found A
-itemAnd lists make s = andThen (valueOf lists listEnders s) (λ v left. andThen (moreOf lists left) (λ more end. found (make v more) end))
 
 item-free : {A : Type 0} (fuel lists : ℕ) (make : Value → More → A) (s : List ℕ) → length s < fuel → itemThen fuel lists make s ≡ itemAnd lists make s
 item-free fuel lists make s h =

@@ -149,6 +149,16 @@ unfoldable mutual
         ]
       ]
 
+-- the same with fuel that is enough; an item and what stands behind it, made into something
+abbrev pub valueOf : ℕ → List ℕ → List ℕ → Found Value
+valueOf lists also s = value (suc (length s)) lists also s
+
+abbrev pub moreOf : ℕ → List ℕ → Found More
+moreOf lists s = items (suc (length s)) lists s
+
+abbrev pub itemAnd : {A : Type 0} → ℕ → (Value → More → A) → List ℕ → Found A
+itemAnd lists make s = andThen (valueOf lists listEnders s) (λ v left. andThen (moreOf lists left) (λ more end. found (make v more) end))
+
 -- a trait's whole value: a 6 is at its first byte
 unfoldable pub wholeValue : ℕ → List ℕ → Found Value
-wholeValue lists s = elim (value (suc (length s)) lists [] s) [ found v left ↦ found v left | fault n left ↦ fault n (pick (eqb n 6) s left) ]
+wholeValue lists s = elim (valueOf lists [] s) [ found v left ↦ found v left | fault n left ↦ fault n (pick (eqb n 6) s left) ]
