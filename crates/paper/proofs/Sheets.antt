@@ -11,13 +11,12 @@ use Rattle.paper.specs.Tree.{Blank, Annotation, Concept, Sheet}
 use Rattle.paper.specs.Grammar.{blankOnto, blanksOnto, tabsOnto, annotationsOnto, conceptOnto, sheetOnto, blankRule, annotationRule, conceptRule, sheetRule}
 use Rattle.paper.specs.Limits.{conceptFits, conceptDepth}
 use Rattle.paper.specs.Entries.{conceptSize, sheetSize}
-use Rattle.paper.specs.Reading.{Bounds, isBlankLine, blankLines, isTab, tabsOnly, annotations, concept, atLineEnd, lastBlanks, sheetTree}
+use Rattle.paper.specs.Reading.{Bounds, isBlankLine, blankLines, isTab, tabsOnly, annotations, conceptOf, atLineEnd, lastBlanks, sheetTree}
 use Rattle.paper.proofs.Tests.{split, true-false}
 use Rattle.paper.proofs.Lists.{both, and, all-head, front-all, front-behind, front-of, behind-of}
 use Rattle.paper.proofs.Finds.{Tail, whole, past, tail-length, tail-then, tail-drop, Fault, Reads, reads-as, reads-on, reads-in}
 use Rattle.paper.proofs.Lines.{fault-here, fault-end, ReadBlanks, blanks-reads, blanks-complete, tabs-covers, only-reads}
 use Rattle.paper.proofs.Annotations.{ReadAnnotations, annotations-reads, annotations-complete}
-use Rattle.paper.proofs.Widths.{tabs-wide}
 use Rattle.paper.proofs.Concepts.{ReadConcept, concept-reads, concept-complete, Begins, begins-element, concept-tabs, concept-behind, no-annotation, blank-ends, element-parts}
 
 pub record ReadSheet (by : Bounds) (deeper room : ℕ) (s : List ℕ) (t : Sheet) (left : List ℕ) : Type 0 where
@@ -47,8 +46,8 @@ sheet-reads by deeper room s =
     reads-on s (λ bs left. ReadBlanks s bs left) _ _ (blankLines s) (blanks-reads s)
     (λ before first t b. reads-on s (λ tabs mark. mark ≡ behind isTab first) _ _ (tabsOnly first) (reads-in t _ (tabsOnly first) (only-reads first))
     (λ tabs mark u l. reads-on s (λ notes line. ReadAnnotations room first notes line) _ _ (annotations room first) (reads-in t _ (annotations room first) (annotations-reads room first))
-    (λ notes line u a. reads-on s (λ c left. ReadConcept by deeper (room - length notes) (lengthIn isTab line) (behind isTab line) c left) _ _ (concept by (suc (length line)) deeper (room - length notes) (lengthIn isTab line) (behind isTab line))
-    (reads-in (tail-then u (tail-drop (lengthIn isTab line) line)) _ (concept by (suc (length line)) deeper (room - length notes) (lengthIn isTab line) (behind isTab line)) (concept-reads by (suc (length line)) deeper (room - length notes) (lengthIn isTab line) (behind isTab line)))
+    (λ notes line u a. reads-on s (λ c left. ReadConcept by deeper (room - length notes) (lengthIn isTab line) (behind isTab line) c left) _ _ (conceptOf by deeper (room - length notes) (lengthIn isTab line) (behind isTab line))
+    (reads-in (tail-then u (tail-drop (lengthIn isTab line) line)) _ (conceptOf by deeper (room - length notes) (lengthIn isTab line) (behind isTab line)) (concept-reads by (length (behind isTab line) + 1) deeper (room - length notes) (lengthIn isTab line) (behind isTab line)))
     (λ c left u k. reads-on s (λ bs end. ReadBlanks left bs end) _ _ (blankLines left) (reads-in u _ (blankLines left) (blanks-reads left))
     (λ after rest u q. reads-on s (λ last end. (end ≡ []) × (rest ≡ last ++ []) × (all isBlank last ≡ true)) _ _ (lastBlanks (front isBlank rest) (behind isBlank rest)) (reads-in u _ (lastBlanks (front isBlank rest) (behind isBlank rest)) (last-reads rest))
     (λ last end u e. (
@@ -86,4 +85,4 @@ sheet-complete by deeper room t k =
     let line = tabsOnto (t .tabs) (conceptOnto (t .tabs) (t .root) left) in
     let first = annotationsOnto (t .annotations) line in
     let g = begins-element m (t .annotations) (t .tabs) (t .root) left (q .2) in
-    rw (blanks-complete (t .before) first (q .0) (g .filled), g .only, annotations-complete room (t .annotations) line (q .1) (omega (arith, k .fits)) (no-annotation m (t .tabs) (t .root) left (q .2)), concept-behind m (t .tabs) (t .root) left (q .2), concept-tabs m (t .tabs) (t .root) left (q .2), concept-complete by (t .root) (suc (length line)) deeper (room - length (t .annotations)) (t .tabs) left (q .2) (k .within) (k .depth) (omega (arith, k .fits)) (ends-root (t .after) (t .last) (q .3) (p .1)) (omega (arith, tabs-wide (t .tabs) (conceptOnto (t .tabs) (t .root) left))), blanks-complete (t .after) end (q .3) (ap (startsIn isLineEnd) (behind-of isBlank (t .last) [] (p .1) refl)), last-complete (t .last) (p .1))
+    rw (blanks-complete (t .before) first (q .0) (g .filled), g .only, annotations-complete room (t .annotations) line (q .1) (omega (arith, k .fits)) (no-annotation m (t .tabs) (t .root) left (q .2)), concept-behind m (t .tabs) (t .root) left (q .2), concept-tabs m (t .tabs) (t .root) left (q .2), concept-complete by (t .root) (length (conceptOnto (t .tabs) (t .root) left) + 1) deeper (room - length (t .annotations)) (t .tabs) left (q .2) (k .within) (k .depth) (omega (arith, k .fits)) (ends-root (t .after) (t .last) (q .3) (p .1)) (omega arith), blanks-complete (t .after) end (q .3) (ap (startsIn isLineEnd) (behind-of isBlank (t .last) [] (p .1) refl)), last-complete (t .last) (p .1))

@@ -241,6 +241,16 @@ unfoldable mutual
             ])
       ]
 
+-- the same with fuel that is enough
+abbrev pub conceptOf : Bounds → ℕ → ℕ → ℕ → List ℕ → Found Concept
+conceptOf by deeper room tabs s = concept by (length s + 1) deeper room tabs s
+
+abbrev pub blockOf : Bounds → ℕ → ℕ → Marker → List ℕ → Found Concept
+blockOf by deeper room k s = childrenOf by (length s + 3) deeper room k s
+
+abbrev pub bodyOf : Bounds → ℕ → ℕ → List ℕ → Found Body
+bodyOf by deeper room s = body by (length s + 2) deeper room s
+
 -- ---- a whole sheet
 
 -- behind the root only blank lines stand, the last of which the end of input may cut
@@ -251,7 +261,7 @@ lastBlanks blanks (b ∷ l) = fault 7 (b ∷ l)
 unfoldable pub sheetTree : Bounds → ℕ → ℕ → List ℕ → Found Sheet
 sheetTree by deeper room s =
     andThen (blankLines s) (λ before first. andThen (tabsOnly first) (λ tabs mark. andThen (annotations room first) (λ notes line.
-    andThen (concept by (suc (length line)) deeper (room - length notes) (lengthIn isTab line) (behind isTab line)) (λ c left.
+    andThen (conceptOf by deeper (room - length notes) (lengthIn isTab line) (behind isTab line)) (λ c left.
     andThen (blankLines left) (λ after left. andThen (lastBlanks (front isBlank left) (behind isBlank left)) (λ last end.
     found (record { before = before; annotations = notes; tabs = lengthIn isTab line; root = c; after = after; last = last }) end))))))
 
