@@ -1,0 +1,3 @@
+-- Laws of the vectors' own form.
+pub mod Digits
+pub mod Spelling
