@@ -83,7 +83,7 @@ pub record ReadBehind (room tabs : ℕ) (s : List ℕ) (a : Annotation) (left : 
   pub at : a .tabs ≡ tabs
   pub shorter : length left < length s
 
-annotation-reads : (room tabs : ℕ) (s : List ℕ) → Reads s (λ a left. ReadBehind room tabs s a left) (annotation room tabs s)
+pub annotation-reads : (room tabs : ℕ) (s : List ℕ) → Reads s (λ a left. ReadBehind room tabs s a left) (annotation room tabs s)
 unfolding annotation annotationRule
 annotation-reads room tabs s =
     reads-on s (λ t left. ReadText s t left) _ _ (textOf s) (text-reads s)

@@ -137,7 +137,7 @@ other-reads tabs s E e (b ∷ r) u =
         let n : all isBlank (k .written) ≡ false = split (all isBlank (k .written)) (λ a. true-false (sym (blanks-line tabs (k .written) (k .end) left a) ∙ ap isBlankLine (sym c) ∙ e)) (λ a. a) in
         (tail-then (tail-drop (suc tabs) s) (h .0), rw (k .is-text) (record { covers = c; rule = and (is-not n) (k .no-ends); shorter = omega (arith, ap length (starts-tabs (suc tabs) s f), length-append (replicate (suc tabs) tab) (drop (suc tabs) s), length-replicate (suc tabs) tab, tail-length (h .0)) }))
 
-line-reads : (tabs : ℕ) (w : List ℕ) (room : ℕ) (s : List ℕ) → Turns s (λ l left. ReadLine tabs s l left) (λ left. (s ≡ left) × (closesLine tabs w s ≡ true)) (lineTurn tabs w room s)
+pub line-reads : (tabs : ℕ) (w : List ℕ) (room : ℕ) (s : List ℕ) → Turns s (λ l left. ReadLine tabs s l left) (λ left. (s ≡ left) × (closesLine tabs w s ≡ true)) (lineTurn tabs w room s)
 unfolding lineTurn
 line-reads tabs w room s =
     split (closesLine tabs w s) (λ e. rw (e, lineTurn) (whole, (refl, refl)))
@@ -148,7 +148,7 @@ line-reads tabs w room s =
     go (found b left) h = (h .0, record { covers = h .1 .covers; rule = h .1 .rule; shorter = h .1 .shorter })
     go (fault n left) h = h
 
-line-shorter : (tabs : ℕ) (w : List ℕ) (room : ℕ) (s : List ℕ) → Shorter s (lineTurn tabs w room s)
+pub line-shorter : (tabs : ℕ) (w : List ℕ) (room : ℕ) (s : List ℕ) → Shorter s (lineTurn tabs w room s)
 line-shorter tabs w room s = turns-shorter s _ _ (λ l left h. h .shorter) (lineTurn tabs w room s) (line-reads tabs w room s)
 
 -- the first byte of text that is no blank

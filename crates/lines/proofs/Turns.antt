@@ -1,0 +1,64 @@
+-- A loop over a run of things: what one turn does to the answer of the whole run.
+-- Over plain lists and any turn. Assumes nothing.
+use Prim.Native.Nat.{ℕ, suc, _+_, _-_, _≤_}
+use mathlib.Core.Path.{_≡_, refl, sym, ap, _∙_}
+use mathlib.Core.List.{List, [], _∷_, _++_}
+use native.Mathlib.Omega.{arith}
+use lib.ListN.{length, drop}
+use Rattle.paper.specs.declared.Refusal.{Refusal}
+use Rattle.paper.specs.Found.{Found, found, fault, andThen, Turn, more, over, stop, goOn, manyOf}
+use Rattle.paper.specs.Entries.{Entry}
+use Rattle.paper.proofs.Runs.{Shorter, many-turn}
+use Rattle.entries.specs.Laid.{lay}
+use Rattle.entries.proofs.Laying.{lay-none, lay-append}
+use Rattle.lines.specs.Parts.{seen, seenOf, Makes}
+use Rattle.lines.specs.declared.part.Part.{Part}
+use Rattle.lines.specs.declared.part.Part.the-variants.{Read, Refused}
+use Rattle.lines.proofs.Crossing.{seen-map, passed-on, makes-passed, makes-read}
+
+module _ {A : Type 0} (size : A → ℕ) (turn : ℕ → List ℕ → Turn A) (shorter : (room : ℕ) (s : List ℕ) → Shorter s (turn room s)) (room : ℕ) (l : List ℕ) where
+  by-turn : manyOf size turn room l ≡ goOn (λ a left. manyOf size turn (room - size a) left) (turn room l)
+  by-turn = many-turn size turn shorter (suc (length l)) room l (omega arith)
+
+  -- one thing more
+  pub turn-more : (f g : List A → ℕ) (s : List ℕ) (a : A) (mid : List ℕ) → turn room l ≡ more a mid
+      → seenOf (λ things. f (a ∷ things)) (λ things. g (a ∷ things)) s (manyOf size turn (room - size a) mid) ≡ seenOf f g s (manyOf size turn room l)
+  turn-more f g s a mid e = sym (rw (by-turn, e) (seen-map f g s (λ things. a ∷ things) (manyOf size turn (room - size a) mid)))
+
+  -- the run is over
+  pub turn-over : (left : List ℕ) → turn room l ≡ over left → manyOf size turn room l ≡ found [] left
+  turn-over left e = rw (by-turn, e)
+
+  -- a part of the turn is refused, and the whole run with it
+  pub turn-refused : {B : Type 0} (many mine : B → ℕ) (s : List ℕ) (outer : Found B → Turn A) → ((n : ℕ) (left : List ℕ) → outer (fault n left) ≡ stop n left)
+      → (f g : List A → ℕ) (x : Found B) (r : Part) (why : Refusal) (place : ℕ) → seen r ≡ seenOf many mine s x → r ≡ Refused why place → turn room l ≡ outer x → seen r ≡ seenOf f g s (manyOf size turn room l)
+  turn-refused many mine s outer keeps f g x r why place e q t =
+      rw (by-turn, t) (passed-on many mine s r f g (λ y. goOn (λ a left. manyOf size turn (room - size a) left) (outer y)) (λ n left. ap (goOn (λ a left. manyOf size turn (room - size a) left)) (keeps n left)) x why place e q)
+
+  -- ---- the same with entries
+
+  pub makes-over : (f g : List A → ℕ) (of : List A → List Entry) (s cells : List ℕ) (n : ℕ) (r : Part) (end made mine : ℕ)
+      → turn room l ≡ over (drop end s) → r ≡ Read end made mine → end ≤ length s → made ≡ f [] → mine ≡ g [] → of [] ≡ [] → Makes f g of s cells n (manyOf size turn room l) r cells
+  makes-over f g of s cells n r end made mine t e h p q z =
+      makes-read f g of s cells n (manyOf size turn room l) r cells [] end made mine e h (turn-over (drop end s) t) p q (sym (lay-none cells n) ∙ ap (lay cells n) (sym z))
+
+  pub makes-stop : {B : Type 0} (many mine : B → ℕ) (outer : Found B → Turn A) → ((n : ℕ) (left : List ℕ) → outer (fault n left) ≡ stop n left)
+      → (f g : List A → ℕ) (of : List A → List Entry) (s cells : List ℕ) (n : ℕ) (x : Found B) (r : Part) (after : List ℕ) (why : Refusal) (place : ℕ)
+      → seen r ≡ seenOf many mine s x → r ≡ Refused why place → turn room l ≡ outer x → Makes f g of s cells n (manyOf size turn room l) r after
+  makes-stop many mine outer keeps f g of s cells n x r after why place e q t =
+      let rest : A → List ℕ → Found (List A) = λ a left. manyOf size turn (room - size a) left in
+      makes-passed f g of s cells n (manyOf size turn room l) r after many mine (λ y. goOn rest (outer y)) (λ k left. ap (goOn rest) (keeps k left)) x why place e q (by-turn ∙ ap (goOn rest) t)
+
+  -- the first thing's entries are laid, and the rest of the run goes on behind them
+  pub makes-more : (f g : List A → ℕ) (of others : List A → List Entry) (first : List Entry) (s cells mid : List ℕ) (n : ℕ) (a : A) (left : List ℕ) (r : Part) (after : List ℕ)
+      → turn room l ≡ more a left → ((things : List A) → of (a ∷ things) ≡ first ++ others things) → mid ≡ lay cells n first
+      → Makes (λ things. f (a ∷ things)) (λ things. g (a ∷ things)) others s mid (n + length first) (manyOf size turn (room - size a) left) r after
+      → Makes f g of s cells n (manyOf size turn room l) r after
+  makes-more f g of others first s cells mid n a left r after t o m k =
+      record { says = k .says ∙ turn-more f g s a left t; laid = λ things end e. go (manyOf size turn (room - size a) left) refl things end (sym (by-turn ∙ rw t) ∙ e) }
+    where
+      go : (x : Found (List A)) → manyOf size turn (room - size a) left ≡ x → (things : List A) (end : List ℕ) → andThen x (λ things end. found (a ∷ things) end) ≡ found things end → after ≡ lay cells n (of things)
+      go (found ts z) p things end e =
+          let q : a ∷ ts ≡ things = cc in
+          k .laid ts z p ∙ ap (λ (c : List ℕ). lay c (n + length first) (others ts)) m ∙ lay-append cells n first (others ts) ∙ ap (lay cells n) (sym (o ts) ∙ ap of q)
+      go (fault j z) p things end e = let no : _≡_ {A = ℕ} 0 1 = cc in absurd (omega arith)

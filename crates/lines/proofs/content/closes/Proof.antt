@@ -1,0 +1,128 @@
+-- A law for each test that fails, and for the last one; what the tests passed says that the sums fit.
+use mathlib.Core.Path.{_≡_, refl, sym, _∙_}
+use mathlib.Core.Bool.{true}
+use Prim.Native.Nat.{_-_}
+use native.Mathlib.Omega.{arith}
+use lib.ListN.{length}
+use borrow.Author.Tests.{not-true, not-false}
+use Rattle.lines.specs.Parts.{part}
+use Rattle.lines.proofs.Closing.{other-tabs, no-mark, other-name, no-end, by-rest, name-inside, part-length}
+use Rattle.lines.proofs.Crossing.{stands-inside}
+use borrow.Author.Needs.{needs}
+use Rattle.lines.proofs.content.closes.Statement.{statement}
+use Rattle.lines.proofs.content.closes.Tie as tie
+
+-- how long the name is
+size : (c : tie.Start) → length (part (c .args .s .now) (c .args .from) (c .args .to)) ≡ c .args .to - c .args .from
+size c = part-length (c .args .s .now) (c .args .from) (c .args .to) (c .pre .1) (c .pre .2)
+
+end-requires : tie.Need-end-requires
+end-requires c κs = search needs
+
+sub-if1 : tie.Need-sub-if1
+sub-if1 c = search needs
+
+returns : tie.Need-returns
+returns c = other-tabs _ _ _ _ _ _ (c .before .end .ensures) (size (c .before .before .before)) (c .if1 .taken)
+
+slice-aggregate-starts-with : tie.Need-slice-aggregate-starts-with
+slice-aggregate-starts-with c = search needs
+
+starts-with-requires : tie.Need-starts-with-requires
+starts-with-requires c κs = search needs
+
+returns-2 : tie.Need-returns-2
+returns-2 c = no-mark _ _ _ _ _ _ (c .before .before .before .before .end .ensures) (size (c .before .before .before .before .before .before)) (c .before .before .before .if1 .left) (sym (c .before .starts-with .ensures) ∙ not-true _ (c .if2 .taken))
+
+add-starts-with : tie.Need-add-starts-with
+add-starts-with c = search needs
+
+sub-starts-with : tie.Need-sub-starts-with
+sub-starts-with c = search needs
+
+part-starts-with-start : tie.Need-part-starts-with-start
+part-starts-with-start c = search needs
+
+part-starts-with-end : tie.Need-part-starts-with-end
+part-starts-with-end c = search needs
+
+starts-with-requires-2 : tie.Need-starts-with-requires-2
+starts-with-requires-2 c κs = search needs
+
+returns-3 : tie.Need-returns-3
+returns-3 c =
+    let marked = sym (c .before .before .before .before .starts-with .ensures) ∙ not-false _ (c .before .before .before .if2 .left) in
+    other-name _ _ _ _ _ _ (c .before .before .before .before .before .before .before .end .ensures) (size (c .before .before .before .before .before .before .before .before .before)) (c .before .before .before .before .before .before .if1 .left) marked (sym (c .before .starts-with2 .ensures) ∙ not-true _ (c .if3 .taken))
+
+add-end : tie.Need-add-end
+add-end c = search needs
+
+sub-end : tie.Need-sub-end
+sub-end c = search needs
+
+add-end-2 : tie.Need-add-end-2
+add-end-2 c =
+    let marked = sym (c .before .before .before .before .starts-with .ensures) ∙ not-false _ (c .before .before .before .if2 .left) in
+    let named = sym (c .before .starts-with2 .ensures) ∙ not-false _ (c .if3 .left) in
+    let inside = name-inside _ _ _ _ _ _ (c .before .before .before .before .before .before .before .end .ensures) (size (c .before .before .before .before .before .before .before .before .before)) (c .before .before .before .before .before .before .if1 .left) marked named in
+    omega arith
+
+slice-aggregate-starts-with-2 : tie.Need-slice-aggregate-starts-with-2
+slice-aggregate-starts-with-2 c = search needs
+
+starts-with-requires-3 : tie.Need-starts-with-requires-3
+starts-with-requires-3 c κs = search needs
+
+returns-4 : tie.Need-returns-4
+returns-4 c =
+    let marked = sym (c .before .before .before .before .before .before .before .starts-with .ensures) ∙ not-false _ (c .before .before .before .before .before .before .if2 .left) in
+    let named = sym (c .before .before .before .before .starts-with2 .ensures) ∙ not-false _ (c .before .before .before .if3 .left) in
+    no-end _ _ _ _ _ _ (c .before .before .before .before .before .before .before .before .before .before .end .ensures) (size (c .before .before .before .before .before .before .before .before .before .before .before .before)) (c .before .before .before .before .before .before .before .before .before .if1 .left) marked named (sym (c .before .starts-with3 .ensures) ∙ not-true _ (c .if4 .taken))
+
+add-is-over : tie.Need-add-is-over
+add-is-over c =
+    let marked = sym (c .before .before .before .before .before .before .before .starts-with .ensures) ∙ not-false _ (c .before .before .before .before .before .before .if2 .left) in
+    let named = sym (c .before .before .before .before .starts-with2 .ensures) ∙ not-false _ (c .before .before .before .if3 .left) in
+    let inside = name-inside _ _ _ _ _ _ (c .before .before .before .before .before .before .before .before .before .before .end .ensures) (size (c .before .before .before .before .before .before .before .before .before .before .before .before)) (c .before .before .before .before .before .before .before .before .before .if1 .left) marked named in
+    omega arith
+
+is-over-requires : tie.Need-is-over-requires
+is-over-requires c κs =
+    let marked = sym (c .before .before .before .before .before .before .before .starts-with .ensures) ∙ not-false _ (c .before .before .before .before .before .before .if2 .left) in
+    let named = sym (c .before .before .before .before .starts-with2 .ensures) ∙ not-false _ (c .before .before .before .if3 .left) in
+    let ended = sym (c .before .starts-with3 .ensures) ∙ not-false _ (c .if4 .left) in
+    let inside = name-inside _ _ _ _ _ _ (c .before .before .before .before .before .before .before .before .before .before .end .ensures) (size (c .before .before .before .before .before .before .before .before .before .before .before .before)) (c .before .before .before .before .before .before .before .before .before .if1 .left) marked named in
+    stands-inside _ _ _ true inside (sym ended) refl
+
+returns-5 : tie.Need-returns-5
+returns-5 c =
+    let marked = sym (c .before .before .before .before .before .before .before .before .starts-with .ensures) ∙ not-false _ (c .before .before .before .before .before .before .before .if2 .left) in
+    let named = sym (c .before .before .before .before .before .starts-with2 .ensures) ∙ not-false _ (c .before .before .before .before .if3 .left) in
+    let ended = sym (c .before .before .starts-with3 .ensures) ∙ not-false _ (c .before .if4 .left) in
+    c .is-over .ensures ∙ by-rest _ _ _ _ _ _ (c .before .before .before .before .before .before .before .before .before .before .before .end .ensures) (size (c .before .before .before .before .before .before .before .before .before .before .before .before .before)) (c .before .before .before .before .before .before .before .before .before .before .if1 .left) marked named ended
+
+pub closes-spec : {M : Type 1} → statement M
+closes-spec =
+    tie.close
+    (tie.spec
+    end-requires
+    sub-if1
+    returns
+    slice-aggregate-starts-with
+    starts-with-requires
+    returns-2
+    add-starts-with
+    sub-starts-with
+    part-starts-with-start
+    part-starts-with-end
+    starts-with-requires-2
+    returns-3
+    add-end
+    sub-end
+    add-end-2
+    slice-aggregate-starts-with-2
+    starts-with-requires-3
+    returns-4
+    add-is-over
+    is-over-requires
+    returns-5)

@@ -1,0 +1,76 @@
+-- What reading a part of a sheet answers, in numbers, and what a definition finds as such an answer.
+-- Document 01, "Order" and "Entries".
+use Prim.Native.Nat.{ℕ, _+_, _-_, _≤_}
+use mathlib.Core.Path.{_≡_}
+use mathlib.Core.Bool.{Bool, true}
+use mathlib.Core.List.{List, [], _∷_}
+use lib.ListN.{length, take, drop}
+use Rattle.paper.specs.declared.Refusal.{Refusal}
+use Rattle.paper.specs.Answer.{numberOf}
+use Rattle.paper.specs.Found.{Found, found, fault, Turn, more, over, stop, placeIn}
+use Rattle.paper.specs.Names.{isConceptName, isTraitName}
+use Rattle.paper.specs.Limits.{sheetLimit}
+use Rattle.paper.specs.Tree.{Blank, Annotation, Line, Marker, Concept, selfClosed, children, content}
+use Rattle.paper.specs.Grammar.{blankOnto, linesOnto}
+use Rattle.paper.specs.Entries.{Entry, unnamed}
+use Rattle.entries.specs.Laid.{lay}
+use Rattle.lines.specs.declared.part.Part.{Part}
+use Rattle.lines.specs.declared.part.Part.the-variants.{Read, Refused}
+use Rattle.lines.specs.declared.part.Whose.{Whose}
+use Rattle.lines.specs.declared.part.Whose.the-variants.{Concepts, Traits, Closings}
+
+-- number, place, entries made, and entries that name the part's Concept as parent
+pub record Seen : Type 0 where
+  pub number : ℕ
+  pub place : ℕ
+  pub made : ℕ
+  pub own : ℕ
+
+abbrev pub seen : Part → Seen
+seen (Read end made own) = record { number = 0; place = end; made = made; own = own }
+seen (Refused why at) = record { number = numberOf why; place = at; made = 0; own = 0 }
+
+abbrev pub seenOf : {A : Type 0} → (A → ℕ) → (A → ℕ) → List ℕ → Found A → Seen
+seenOf size own s (found a left) = record { number = 0; place = placeIn s left; made = size a; own = own a }
+seenOf size own s (fault n left) = record { number = n; place = placeIn s left; made = 0; own = 0 }
+
+-- what makes no entry
+abbrev pub passed : {A : Type 0} → List ℕ → Found A → Seen
+passed s x = seenOf (λ a. 0) (λ a. 0) s x
+
+-- a turn of a run that makes no entry
+abbrev pub turned : {A : Type 0} → List ℕ → Turn A → Seen
+turned s (more a left) = record { number = 0; place = placeIn s left; made = 0; own = 0 }
+turned s (over left) = record { number = 0; place = placeIn s left; made = 0; own = 0 }
+turned s (stop n left) = record { number = n; place = placeIn s left; made = 0; own = 0 }
+
+-- what makes entries: the answer, and the cells with the entries of what is found laid from number n on
+pub record Makes {A : Type 0} (size own : A → ℕ) (of : A → List Entry) (s cells : List ℕ) (n : ℕ) (x : Found A) (r : Part) (after : List ℕ) : Type 0 where
+  pub says : seen r ≡ seenOf size own s x
+  pub laid : (a : A) (left : List ℕ) → x ≡ found a left → after ≡ lay cells n (of a)
+
+-- a place of a sheet whose length is within the limit
+pub record In (s : List ℕ) (at : ℕ) : Type 0 where
+  pub within : length s ≤ sheetLimit
+  pub inside : at ≤ length s
+
+-- the rule for a name, by whose name it is; a closing name is only compared
+abbrev pub ruleOf : Whose → List ℕ → Bool
+ruleOf Concepts = isConceptName
+ruleOf Traits = isTraitName
+ruleOf Closings = λ w. true
+
+-- the part of a list between two places
+abbrev pub part : List ℕ → ℕ → ℕ → List ℕ
+part s from to = take (to - from) (drop from s)
+
+-- the entry of an annotation whose text starts at `at`
+abbrev pub noteEntries : ℕ → ℕ → Annotation → List Entry
+noteEntries parent at a = unnamed 4 0 parent 0 at (at + length (a .text)) ∷ []
+
+-- the entry of a Concept's Content, where its opening marker ends at `at`
+abbrev pub contentEntries : ℕ → ℕ → ℕ → Concept → List Entry
+contentEntries parent tabs at (selfClosed k) = []
+contentEntries parent tabs at (children k rest inner back) = []
+contentEntries parent tabs at (content k rest lines) =
+    unnamed 5 0 parent 0 (at + length (blankOnto rest [])) (at + length (blankOnto rest []) + length (linesOnto tabs lines [])) ∷ []

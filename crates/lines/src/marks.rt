@@ -1,0 +1,94 @@
+// The marks of a Concept: how its opening marker ends, and its closing marker.
+// Document 01, "The grammar", Markers; refusals 7, 8 and 9.
+use crate::part::Part;
+use crate::part::Whose;
+use crate::part::byte_due;
+use crate::part::name_end;
+use crate::part::refused;
+use paper::Refusal;
+use text::parts::same;
+use text::parts::starts_with;
+ghost use mathlib.Core.Path.{_≡_};
+ghost use Prim.Native.Nat.{_≤_};
+ghost use lib.ListN.{length, drop};
+ghost use Rattle.paper.specs.Reading.{ending, closing};
+ghost use Rattle.lines.specs.Parts.{seen, passed, part};
+ghost use Rattle.lines.specs.Endings.{ended, endedOf, faultHere};
+
+// Reads the closing marker that is due at `at`, of the Concept whose name stands from `from` to `to`.
+pub fn read_closing(s: &[u8], at: usize, from: usize, to: usize) -> Part
+    requires { ⌜ (at ≤ length (now s)) × (from ≤ to) × (to ≤ length (now s)) ⌝ }
+    ensures { λ r. ⌜ seen r ≡ passed (now (s .entry)) (closing (part (now (s .entry)) from to) (drop at (now (s .entry)))) ⌝ }
+{
+    let less = byte_due(s, at, b'<');
+    let Part::Read {
+        end: slash,
+        made: _,
+        own: _,
+    } = less
+    else {
+        return less;
+    };
+    let mark = byte_due(s, slash, b'/');
+    let Part::Read {
+        end: start,
+        made: _,
+        own: _,
+    } = mark
+    else {
+        return mark;
+    };
+    let name = name_end(s, start, Whose::Closings);
+    let Part::Read {
+        end,
+        made: _,
+        own: _,
+    } = name
+    else {
+        return name;
+    };
+    if !same(&s[from..to], &s[start..end]) {
+        return refused(Refusal::ClosingName, start);
+    }
+    byte_due(s, end, b'>')
+}
+
+// How an opening marker ends, and where: a block opens, or the Concept is closed at once. Or it is refused.
+pub enum Ending {
+    Block(usize),
+    Closed(usize),
+    Refused { refusal: Refusal, place: usize },
+}
+
+// Reads the ending of an opening marker, due at `at`.
+pub fn read_ending(s: &[u8], at: usize) -> Ending
+    requires { ⌜ at ≤ length (now s) ⌝ }
+    ensures { λ r. ⌜ ended r ≡ endedOf (now (s .entry)) (ending (drop at (now (s .entry)))) ⌝ }
+{
+    if starts_with(s, at, b">") {
+        return Ending::Block(at + 1);
+    }
+    if starts_with(s, at, b"/>") {
+        return Ending::Closed(at + 2);
+    }
+    if starts_with(s, at, b"/") {
+        return no_ending(s, at + 1);
+    }
+    no_ending(s, at)
+}
+
+// No marker ends here: what stands at the place is at fault, or the end of input cuts the marker.
+fn no_ending(s: &[u8], at: usize) -> Ending
+    ensures { λ r. ⌜ ended r ≡ endedOf (now (s .entry)) (faultHere (drop at (now (s .entry)))) ⌝ }
+{
+    if s.len() <= at {
+        return Ending::Refused {
+            refusal: Refusal::Cut,
+            place: s.len(),
+        };
+    }
+    Ending::Refused {
+        refusal: Refusal::Due,
+        place: at,
+    }
+}

@@ -1,0 +1,121 @@
+// What reading a part of a sheet answers, and the parts that stand everywhere: a byte that is due, a name, a line end.
+// Document 01, "The grammar", Names and Lines; refusals 4, 7 and 9.
+use names::is_concept_name;
+use names::is_trait_name;
+use paper::Refusal;
+use text::parts::starts_with;
+use text::runs;
+use text::runs::Class;
+ghost use mathlib.Core.Path.{_≡_};
+ghost use lib.ListN.{length, drop};
+ghost use Prim.Native.Nat.{_≤_};
+ghost use Rattle.paper.specs.declared.Refusal.{Refusal};
+ghost use Rattle.paper.specs.Reading.{due, name, lineEnd, lineRest};
+ghost use mathlib.Core.List.{[]};
+ghost use Rattle.lines.specs.Parts.{seen, passed, ruleOf};
+
+// A part was read up to its end: how many entries it made, and how many of them name the part's Concept as parent. Or it is refused.
+pub enum Part {
+    Read { end: usize, made: usize, own: usize },
+    Refused { refusal: Refusal, place: usize },
+}
+
+// A part that makes no entry.
+pub fn past(end: usize) -> Part
+    ensures { λ r. ⌜ r ≡ Part.Read end 0 0 ⌝ }
+{
+    Part::Read {
+        end,
+        made: 0,
+        own: 0,
+    }
+}
+
+pub fn refused(refusal: Refusal, place: usize) -> Part
+    ensures { λ r. ⌜ r ≡ Part.Refused refusal place ⌝ }
+{
+    Part::Refused { refusal, place }
+}
+
+// The end of input cuts what is read.
+pub fn cut(s: &[u8]) -> Part
+    ensures { λ r. ⌜ r ≡ Part.Refused Refusal.Cut (length (now (s .entry))) ⌝ }
+{
+    refused(Refusal::Cut, s.len())
+}
+
+// The byte is due at `at`.
+pub fn byte_due(s: &[u8], at: usize, b: u8) -> Part
+    requires { ⌜ at ≤ length (now s) ⌝ }
+    ensures { λ r. ⌜ seen r ≡ passed (now (s .entry)) (due b (drop at (now (s .entry)))) ⌝ }
+{
+    if s.len() <= at {
+        return cut(s);
+    }
+    if s[at] != b {
+        return refused(Refusal::Due, at);
+    }
+    past(at + 1)
+}
+
+// Whose name is read: a Concept's, a trait's, or a closing marker's, which is only compared.
+pub enum Whose {
+    Concepts,
+    Traits,
+    Closings,
+}
+
+// Reads a name, the whole run of letters and digits that stands at `at`. It is judged at its end.
+pub fn name_end(s: &[u8], at: usize, whose: Whose) -> Part
+    requires { ⌜ at ≤ length (now s) ⌝ }
+    ensures { λ r. ⌜ seen r ≡ passed (now (s .entry)) (name (ruleOf whose) (drop at (now (s .entry)))) ⌝ }
+{
+    let end = runs::end(s, at, Class::Name);
+    if end == s.len() {
+        return cut(s);
+    }
+    if end == at {
+        return refused(Refusal::Due, at);
+    }
+    if !keeps_rule(&s[at..end], whose) {
+        return refused(Refusal::Name, at);
+    }
+    past(end)
+}
+
+// Whether the name keeps the rule of whose name it is.
+fn keeps_rule(w: &[u8], whose: Whose) -> bool
+    ensures { λ r. ⌜ r ≡ ruleOf whose (now (w .entry)) ⌝ }
+{
+    match whose {
+        Whose::Concepts => is_concept_name(w),
+        Whose::Traits => is_trait_name(w),
+        Whose::Closings => true,
+    }
+}
+
+// The line end that is due at `at`.
+pub fn line_end(s: &[u8], at: usize) -> Part
+    requires { ⌜ at ≤ length (now s) ⌝ }
+    ensures { λ r. ⌜ seen r ≡ passed (now (s .entry)) (lineEnd [] (drop at (now (s .entry)))) ⌝ }
+{
+    if s.len() <= at {
+        return cut(s);
+    }
+    if s[at] == b'\n' {
+        return past(at + 1);
+    }
+    if starts_with(s, at, b"\r\n") {
+        return past(at + 2);
+    }
+    refused(Refusal::Due, at)
+}
+
+// The blank rest of the line, with its line end.
+pub fn line_rest(s: &[u8], at: usize) -> Part
+    requires { ⌜ at ≤ length (now s) ⌝ }
+    ensures { λ r. ⌜ seen r ≡ passed (now (s .entry)) (lineRest (drop at (now (s .entry)))) ⌝ }
+{
+    let end = runs::end(s, at, Class::Blank);
+    line_end(s, end)
+}
