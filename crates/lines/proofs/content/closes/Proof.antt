@@ -23,7 +23,7 @@ sub-if1 : tie.Need-sub-if1
 sub-if1 c = search needs
 
 returns : tie.Need-returns
-returns c = other-tabs _ _ _ _ _ _ (c .before .end .ensures) (size (c .before .before .before)) (c .if1 .taken)
+returns c = other-tabs _ _ _ _ _ _ (c .before .end .ensures) (size (c .before .before .before)) (λ e. omega arith)
 
 slice-aggregate-starts-with : tie.Need-slice-aggregate-starts-with
 slice-aggregate-starts-with c = search needs
