@@ -100,7 +100,7 @@ parted class w none some =
 
 -- ---- numbers
 
-abbrev digitOr : List ℕ → ℕ → Bool
+abbrev pub digitOr : List ℕ → ℕ → Bool
 digitOr cs b = isDigit b || elem b cs
 
 -- digits and these bytes, a digit or a sign first, and so many minus signs at most
@@ -200,7 +200,7 @@ scientific-number w e =
 
 -- ---- hex digits in groups
 
-abbrev hexDash : ℕ → Bool
+abbrev pub hexDash : ℕ → Bool
 hexDash b = isHex b || elem b (bytes "-")
 
 no-group : {X : Type 0} (n : ℕ) (ns : List ℕ) → 1 ≤ n → hexGroups (n ∷ ns) [] ≡ true → X
@@ -372,20 +372,54 @@ beginsNoLeaf = bytes "[" ++ beginsNone
 abbrev pub beginsNoWord : List ℕ
 beginsNoWord = bytes "\"'`" ++ beginsNoLeaf
 
+-- what a word of each kind begins with
+abbrev pub beginning : Kind → ℕ → Bool
+beginning boolean = λ b. elem b (bytes "tf")
+beginning integer = digitOr (bytes "+-")
+beginning decimal = digitOr (bytes "+-")
+beginning scientific = digitOr (bytes "+-")
+beginning fraction = digitOr (bytes "+-")
+beginning pascal = is (byte "$")
+beginning camel = is (byte "~")
+beginning uuid = hexDash
+beginning iri = isLetter
+
+pub kind-first : (k : Kind) (w : List ℕ) → fits k w ≡ true → startsIn (beginning k) w ≡ true
+unfolding elem startsIn
+kind-first boolean w e = either (same w (bytes "true")) (same w (bytes "false")) e (λ f. rw (same-is w (bytes "true") f)) (λ f. rw (same-is w (bytes "false") f))
+kind-first integer w e = integer-number w e .first
+kind-first decimal w e = decimal-number w e .number .first
+kind-first scientific w e = scientific-number w e .number .first
+kind-first fraction w e = fraction-number w e .number .first
+kind-first pascal w e = token-sign (byte "$") isUpper w e (λ l q. rw q)
+kind-first camel w e = token-sign (byte "~") isLower w e (λ l q. rw q)
+kind-first uuid w e = uuid-first w e
+kind-first iri w e = iri-first w e
+
+-- so that the first byte says which kinds are to be tried
+pub by-first : (ks : List Kind) (b : ℕ) (l : List ℕ) → ((k : Kind) → beginning k b ≡ true → Among k ks) → wordForm (b ∷ l) ≡ firstForm ks (b ∷ l)
+unfolding startsIn
+by-first ks b l a =
+    word-form (b ∷ l) ∙ byKind kinds (b ∷ l) (λ k e q. q ∙ sym (first-form (b ∷ l) (a k (kind-first k (b ∷ l) e)) e))
+    (λ z. byKind ks (b ∷ l) (λ k e q. first-form (b ∷ l) (all-kinds k) e ∙ sym q) (λ y. z ∙ sym y))
+
 begins : (class : ℕ → Bool) (w : List ℕ) → all (λ c. not (class c)) beginsNoWord ≡ true → startsIn class w ≡ true → startsIn (without beginsNoWord) w ≡ true
 begins class w n e = starts-weaken class _ (λ b f. is-not (elem-apart class b beginsNoWord f n)) w e
 
+no-other : (k : Kind) → all (λ c. not (beginning k c)) beginsNoWord ≡ true
+unfolding elem all isDigit isHex isUpper isLower isLetter
+no-other boolean = refl
+no-other integer = refl
+no-other decimal = refl
+no-other scientific = refl
+no-other fraction = refl
+no-other pascal = refl
+no-other camel = refl
+no-other uuid = refl
+no-other iri = refl
+
 kind-begins : (k : Kind) (w : List ℕ) → fits k w ≡ true → startsIn (without beginsNoWord) w ≡ true
-unfolding elem all isDigit isHex isUpper isLower isLetter startsIn
-kind-begins boolean w e = either (same w (bytes "true")) (same w (bytes "false")) e (λ f. rw (same-is w (bytes "true") f)) (λ f. rw (same-is w (bytes "false") f))
-kind-begins integer w e = begins _ w refl (integer-number w e .first)
-kind-begins decimal w e = begins _ w refl (decimal-number w e .number .first)
-kind-begins scientific w e = begins _ w refl (scientific-number w e .number .first)
-kind-begins fraction w e = begins _ w refl (fraction-number w e .number .first)
-kind-begins pascal w e = token-sign (byte "$") isUpper w e (λ l q. rw q)
-kind-begins camel w e = token-sign (byte "~") isLower w e (λ l q. rw q)
-kind-begins uuid w e = begins _ w refl (uuid-first w e)
-kind-begins iri w e = begins _ w refl (iri-first w e)
+kind-begins k w e = begins (beginning k) w (no-other k) (kind-first k w e)
 
 -- a word of some kind begins with none of these bytes
 pub word-begins : (w : List ℕ) → 1 ≤ wordForm w → startsIn (without beginsNoWord) w ≡ true

@@ -1,5 +1,5 @@
--- The same bytes, and fixed bytes in front, one byte at a time. Assumes nothing.
--- A law for each way on or out of the loops of src/parts.rt.
+-- The same bytes, fixed bytes in front, and a byte among others, one byte at a time. Assumes nothing.
+-- A law for each way on or out of the loops of src/parts.rt and of `is_one_of`.
 use Prim.Native.Nat.{ℕ, suc, _+_, _<_, _≤_}
 use mathlib.Core.Path.{_≡_, refl, ap}
 use mathlib.Core.Bool.{true, false}
@@ -8,7 +8,7 @@ use lib.ListN.{length, getD, drop, drop-of-length-le}
 use lib.Dec.{eqb}
 use borrow.Author.Tests.{eq-eqb, ne-eqb}
 use Rattle.paper.proofs.Tests.{split}
-use Rattle.paper.specs.Bytes.{same, startsWith}
+use Rattle.paper.specs.Bytes.{same, startsWith, elem}
 use Rattle.text.proofs.Places.{here}
 
 -- ---- the same bytes
@@ -51,3 +51,18 @@ module _ (part s : List ℕ) (i place : ℕ) (h : i < length part) where
 pub starts-out : (part s : List ℕ) (i : ℕ) → length part ≤ i → true ≡ startsWith (drop i part) s
 unfolding startsWith
 starts-out part s i h = rw (drop-of-length-le part h)
+
+-- ---- a byte among others
+
+module _ (b : ℕ) (these : List ℕ) (i : ℕ) where
+  pub among-here : i < length these → b ≡ getD these i 0 → true ≡ elem b (drop i these)
+  unfolding elem
+  among-here h e = rw (here these i h, elem, eq-eqb b (getD these i 0) e)
+
+  pub among-on : i < length these → (b ≡ getD these i 0 → ⊥) → elem b (drop (i + 1) these) ≡ elem b (drop i these)
+  unfolding elem
+  among-on h e = rw (here these i h, elem, ne-eqb b (getD these i 0) e)
+
+  pub among-out : length these ≤ i → false ≡ elem b (drop i these)
+  unfolding elem
+  among-out h = rw (drop-of-length-le these h)

@@ -1,7 +1,8 @@
 // Classes of ASCII bytes: letters, digits, and what names and white space are made of.
-// Document 01, "The grammar", Bytes and Names.
+// Document 01, "The grammar", Bytes, Names and Values.
 ghost use mathlib.Core.Path.{_≡_};
-ghost use Rattle.paper.specs.Bytes.{within, isUpper, isLower, isDigit, isLetter, isNameByte, isHex, isBlank, isLineEnd, isWhite};
+ghost use mathlib.Core.Bool.{_||_};
+ghost use Rattle.paper.specs.Bytes.{within, isUpper, isLower, isDigit, isLetter, isNameByte, isHex, isBlank, isLineEnd, isWhite, bytes, elem};
 
 // Whether the byte lies from `low` to `high`, both counted.
 pub fn is_within(low: u8, high: u8, b: u8) -> bool
@@ -67,4 +68,25 @@ pub fn is_white(b: u8) -> bool
     ensures { λ r. ⌜ r ≡ isWhite b ⌝ }
 {
     is_blank(b) || is_line_end(b)
+}
+
+// Whether the byte is one of these.
+pub fn is_one_of(b: u8, these: &[u8]) -> bool
+    ensures { λ r. ⌜ r ≡ elem b (now (these .entry)) ⌝ }
+{
+    let mut i = 0;
+    while i < these.len() {
+        if b == these[i] {
+            return true;
+        }
+        i += 1;
+    }
+    false
+}
+
+// Whether the scheme of an IRI is made of the byte.
+pub fn is_scheme_byte(b: u8) -> bool
+    ensures { λ r. ⌜ r ≡ (isNameByte b || elem b (bytes "+-.")) ⌝ }
+{
+    is_name_byte(b) || is_one_of(b, b"+-.")
 }

@@ -1,5 +1,5 @@
 // Runs of bytes of one class: where such a run ends.
-// Document 01, "The grammar", Names, Lines and Markers.
+// Document 01, "The grammar", Names, Lines, Markers and Values.
 use crate::classes;
 ghost use mathlib.Core.Path.{_≡_};
 ghost use Prim.Native.Nat.{_+_, _≤_};
@@ -7,12 +7,15 @@ ghost use lib.ListN.{length, drop};
 ghost use Rattle.paper.specs.Bytes.{lengthIn};
 ghost use Rattle.text.specs.Runs.{inClass};
 
-// What a run is made of: letters and digits, spaces and tabs, tabs, white space, or what is no line end.
+// What a run is made of: letters and digits, spaces and tabs, tabs, white space, digits, hex digits, what an IRI's scheme is made of, or what is no line end.
 pub enum Class {
     Name,
     Blank,
     Tab,
     White,
+    Digit,
+    Hex,
+    Scheme,
     Text,
 }
 
@@ -25,6 +28,9 @@ pub fn is_in(class: Class, b: u8) -> bool
         Class::Blank => classes::is_blank(b),
         Class::Tab => b == b'\t',
         Class::White => classes::is_white(b),
+        Class::Digit => classes::is_digit(b),
+        Class::Hex => classes::is_hex(b),
+        Class::Scheme => classes::is_scheme_byte(b),
         Class::Text => !classes::is_line_end(b),
     }
 }

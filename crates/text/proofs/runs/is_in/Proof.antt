@@ -1,4 +1,4 @@
--- Each class is tested by its own function.
+-- Each class is that of the function that tells it.
 use mathlib.Core.Path.{_≡_}
 use borrow.Author.Needs.{needs}
 use Rattle.text.proofs.runs.is_in.Statement.{statement}
@@ -28,6 +28,24 @@ is-white-requires c κs = search needs
 enum-told-5 : tie.Need-enum-told-5
 enum-told-5 c = search needs
 
+is-digit-requires : tie.Need-is-digit-requires
+is-digit-requires c κs = search needs
+
+enum-told-6 : tie.Need-enum-told-6
+enum-told-6 c = search needs
+
+is-hex-requires : tie.Need-is-hex-requires
+is-hex-requires c κs = search needs
+
+enum-told-7 : tie.Need-enum-told-7
+enum-told-7 c = search needs
+
+is-scheme-byte-requires : tie.Need-is-scheme-byte-requires
+is-scheme-byte-requires c κs = search needs
+
+enum-told-8 : tie.Need-enum-told-8
+enum-told-8 c = search needs
+
 is-line-end-requires : tie.Need-is-line-end-requires
 is-line-end-requires c κs = search needs
 
@@ -44,7 +62,16 @@ returns-4 : tie.Need-returns-4
 returns-4 c = rw (c .before .enum-told4 .given .1) (c .is-white .ensures)
 
 returns-5 : tie.Need-returns-5
-returns-5 c = rw (c .before .enum-told5 .given .1, c .is-line-end .ensures)
+returns-5 c = rw (c .before .enum-told5 .given .1) (c .is-digit .ensures)
+
+returns-6 : tie.Need-returns-6
+returns-6 c = rw (c .before .enum-told6 .given .1) (c .is-hex .ensures)
+
+returns-7 : tie.Need-returns-7
+returns-7 c = rw (c .before .enum-told7 .given .1) (c .is-scheme-byte .ensures)
+
+returns-8 : tie.Need-returns-8
+returns-8 c = rw (c .before .enum-told8 .given .1, c .is-line-end .ensures)
 
 pub is-in-spec : {M : Type 1} → statement M
 is-in-spec =
@@ -58,9 +85,18 @@ is-in-spec =
     enum-told-4
     is-white-requires
     enum-told-5
+    is-digit-requires
+    enum-told-6
+    is-hex-requires
+    enum-told-7
+    is-scheme-byte-requires
+    enum-told-8
     is-line-end-requires
     returns
     returns-2
     returns-3
     returns-4
-    returns-5)
+    returns-5
+    returns-6
+    returns-7
+    returns-8)

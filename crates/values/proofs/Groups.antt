@@ -1,0 +1,133 @@
+-- Hex digits in groups, as UUIDs have them: one group after another, and the last. Over plain lists. Assumes nothing.
+-- Document 01, "The grammar", Values.
+use Prim.Native.Nat.{ℕ, _+_, _-_, _≤_}
+use mathlib.Core.Path.{_≡_, refl, sym, ap, _∙_}
+use mathlib.Core.Bool.{Bool, true, false, _&&_, and-true, and-false}
+use mathlib.Core.List.{List, [], _∷_}
+use native.Mathlib.Omega.{arith}
+use lib.ListN.{length, drop, length-drop}
+use lib.Seq.{drop-drop, length-take-le}
+use lib.Dec.{eqb}
+use borrow.Author.Tests.{eqb-true, eqb-false, eq-eqb, ne-eqb}
+use Rattle.paper.specs.Bytes.{byte, bytes, isDigit, isHex, all, startsWith, lengthIn, behind}
+use Rattle.paper.specs.Values.{upTo, past, is, hexGroups, isUuid}
+use Rattle.paper.proofs.Tests.{split, apart}
+use Rattle.paper.proofs.Lists.{both, front-all, length-in, starts-is}
+use Rattle.values.specs.Kinds.{isGroup}
+use Rattle.values.proofs.Runs.{all-run, endsAt, mark-ends, no-mark-ends, up-to-run, up-to-more}
+
+dash-apart : (b : ℕ) → isHex b ≡ true → is (byte "-") b ≡ false
+unfolding isHex isDigit
+dash-apart b e = apart isHex b (byte "-") e refl
+
+no-groups : (k : ℕ) (ns : List ℕ) → 1 ≤ k → hexGroups (k ∷ ns) [] ≡ false
+unfolding hexGroups lengthIn
+no-groups k [] h = rw (ne-eqb 0 k (λ q. omega arith))
+no-groups k (m ∷ ns) h = rw (ne-eqb 0 k (λ q. omega arith))
+
+groups-are : (n k : ℕ) (ns w : List ℕ) → hexGroups (n ∷ k ∷ ns) w ≡ ((eqb (length (upTo (is (byte "-")) w)) n && all isHex (upTo (is (byte "-")) w)) && hexGroups (k ∷ ns) (past (is (byte "-")) w))
+unfolding hexGroups
+groups-are n k ns w = refl
+
+-- ---- one group in front
+
+-- the byte behind a run of so many hex digits
+dash-there : (n : ℕ) (w : List ℕ) → isGroup n w ≡ true → (n ≡ lengthIn isHex w) × (startsWith (bytes "-") (behind isHex w) ≡ true)
+unfolding isGroup
+dash-there n w e =
+    let h = both (eqb (lengthIn isHex w) n) (startsWith (bytes "-") (drop n w)) e in
+    let q = eqb-true (lengthIn isHex w) n (h .0) in
+    (sym q, rw q (h .1))
+
+dash-not : (n : ℕ) (w : List ℕ) → isGroup n w ≡ false → lengthIn isHex w ≡ n → startsWith (bytes "-") (behind isHex w) ≡ false
+unfolding isGroup
+dash-not n w e q = rw q (rw (eq-eqb (lengthIn isHex w) n q) at e)
+
+module _ (n k : ℕ) (ns : List ℕ) (w : List ℕ) where
+  -- nothing follows the digits, or "-"
+  dash-behind : endsAt (is (byte "-")) (behind isHex w) ≡ true → hexGroups (n ∷ k ∷ ns) w ≡ (eqb (lengthIn isHex w) n && hexGroups (k ∷ ns) (drop 1 (behind isHex w)))
+  dash-behind e =
+      rw (groups-are n k ns w, up-to-run isHex (is (byte "-")) dash-apart w e, length-take-le (lengthIn isHex w) w (length-in isHex w), front-all isHex w)
+      (ap (λ (x : Bool). x && hexGroups (k ∷ ns) (drop 1 (behind isHex w))) (and-true (eqb (lengthIn isHex w) n)))
+
+  pub group-there : isGroup n w ≡ true → hexGroups (n ∷ k ∷ ns) w ≡ hexGroups (k ∷ ns) (drop (n + 1) w)
+  group-there e =
+      let h = dash-there n w e in
+      dash-behind (mark-ends (byte "-") (behind isHex w) (h .1)) ∙ rw (eq-eqb (lengthIn isHex w) n (sym (h .0)), drop-drop 1 (lengthIn isHex w) w, ← (h .0))
+
+  pub group-missing : 1 ≤ k → isGroup n w ≡ false → hexGroups (n ∷ k ∷ ns) w ≡ false
+  group-missing some e =
+      split (endsAt (is (byte "-")) (behind isHex w))
+      (λ f. dash-behind f ∙ split (eqb (lengthIn isHex w) n)
+      (λ q. rw (q, no-mark-ends (byte "-") (behind isHex w) (dash-not n w e (eqb-true (lengthIn isHex w) n q)) f, no-groups k ns some))
+      (λ q. rw q))
+      (λ f. rw (groups-are n k ns w, up-to-more isHex (is (byte "-")) dash-apart w f, and-false (eqb (length (upTo (is (byte "-")) w)) n)))
+
+-- a group ends inside
+pub group-inside : (n : ℕ) (w : List ℕ) → isGroup n w ≡ true → n + 1 ≤ length w
+group-inside n w e =
+    let h = dash-there n w e in
+    let q = starts-is (bytes "-") (behind isHex w) (h .1) in
+    omega (arith, ap length q, length-drop (lengthIn isHex w) w)
+
+-- ---- the last group
+
+pub last-group : (n : ℕ) (w : List ℕ) → hexGroups (n ∷ []) w ≡ (eqb (length w) n && eqb (lengthIn isHex w) n)
+unfolding hexGroups
+last-group n w = split (eqb (length w) n) (λ e. rw (e, ← all-run isHex w, eqb-true (length w) n e)) (λ e. rw e)
+
+-- ---- at a place
+
+module _ (w : List ℕ) (at size end : ℕ) (run : end ≡ at + lengthIn isHex (drop at w)) where
+  pub group-at : (o : Bool) → end - at ≡ size → o ≡ startsWith (bytes "-") (drop end w) → o ≡ isGroup size (drop at w)
+  unfolding isGroup
+  group-at o e f =
+      let n : lengthIn isHex (drop at w) ≡ size = omega arith in
+      let q : at + size ≡ end = omega arith in
+      rw (eq-eqb (lengthIn isHex (drop at w)) size n, drop-drop, q) f
+
+  pub not-group : (end - at ≡ size → ⊥) → eqb (end - at) size ≡ isGroup size (drop at w)
+  unfolding isGroup
+  not-group e = rw (ne-eqb (end - at) size e, ne-eqb (lengthIn isHex (drop at w)) size (λ q. e (omega arith)))
+
+-- ---- a UUID, group by group
+
+module _ (w : List ℕ) where
+  pub no-first : isGroup 8 w ≡ false → false ≡ isUuid w
+  no-first e = sym (group-missing 8 4 _ w (omega arith) e)
+
+  module _ (first : isGroup 8 w ≡ true) where
+    after-first : isUuid w ≡ hexGroups (4 ∷ 4 ∷ 4 ∷ 12 ∷ []) (drop 9 w)
+    after-first = group-there 8 4 _ w first
+
+    pub no-second : isGroup 4 (drop 9 w) ≡ false → false ≡ isUuid w
+    no-second e = sym (after-first ∙ group-missing 4 4 _ (drop 9 w) (omega arith) e)
+
+    module _ (second : isGroup 4 (drop 9 w) ≡ true) where
+      after-second : isUuid w ≡ hexGroups (4 ∷ 4 ∷ 12 ∷ []) (drop 14 w)
+      after-second = after-first ∙ group-there 4 4 _ (drop 9 w) second ∙ rw (drop-drop 5 9 w)
+
+      pub no-third : isGroup 4 (drop 14 w) ≡ false → false ≡ isUuid w
+      no-third e = sym (after-second ∙ group-missing 4 4 _ (drop 14 w) (omega arith) e)
+
+      module _ (third : isGroup 4 (drop 14 w) ≡ true) where
+        after-third : isUuid w ≡ hexGroups (4 ∷ 12 ∷ []) (drop 19 w)
+        after-third = after-second ∙ group-there 4 4 _ (drop 14 w) third ∙ rw (drop-drop 5 14 w)
+
+        pub no-fourth : isGroup 4 (drop 19 w) ≡ false → false ≡ isUuid w
+        no-fourth e = sym (after-third ∙ group-missing 4 12 _ (drop 19 w) (omega arith) e)
+
+        module _ (fourth : isGroup 4 (drop 19 w) ≡ true) (end : ℕ) (run : end ≡ 24 + lengthIn isHex (drop 24 w)) where
+          after-fourth : isUuid w ≡ (eqb (length (drop 24 w)) 12 && eqb (lengthIn isHex (drop 24 w)) 12)
+          after-fourth = after-third ∙ group-there 4 12 _ (drop 19 w) fourth ∙ rw (drop-drop 5 19 w) (last-group 12 (drop 24 w))
+
+          size : eqb (length (drop 24 w)) 12 ≡ eqb (length w) 36
+          size = split (eqb (length w) 36)
+              (λ e. rw (e, eq-eqb (length (drop 24 w)) 12 (omega (arith, eqb-true (length w) 36 e, length-drop 24 w))))
+              (λ e. rw (e, ne-eqb (length (drop 24 w)) 12 (λ q. eqb-false (length w) 36 e (omega (arith, length-drop 24 w)))))
+
+          pub fifth-digits : end ≡ 36 → eqb (length w) 36 ≡ isUuid w
+          fifth-digits e = sym (after-fourth ∙ rw (size, eq-eqb (lengthIn isHex (drop 24 w)) 12 (omega arith)) (and-true (eqb (length w) 36)))
+
+          pub no-fifth : (end ≡ 36 → ⊥) → eqb end 36 ≡ isUuid w
+          no-fifth e = sym (after-fourth ∙ rw (ne-eqb (lengthIn isHex (drop 24 w)) 12 (λ q. e (omega arith)), ne-eqb end 36 e) (and-false (eqb (length (drop 24 w)) 12)))

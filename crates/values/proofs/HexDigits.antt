@@ -1,0 +1,82 @@
+-- Hex digits: the number of each, the number that several spell, and whether it is a scalar value. Assumes nothing.
+-- Document 01, "The grammar", Values: `\uXXXX` and `\u{..}`.
+use Prim.Native.Nat.{ℕ, zero, suc, _+_, _-_, _*_, _^_, _≤_, _<_}
+use mathlib.Core.Path.{_≡_, sym}
+use mathlib.Core.Bool.{Bool, true, false, _||_}
+use mathlib.Core.List.{List, [], _∷_}
+use native.Mathlib.Nat.{pow-suc, pow-le-pow-right}
+use native.Mathlib.Numerals.{add-one}
+use native.Mathlib.Omega.{arith}
+use lib.ListN.{length, getD, drop, drop-of-length-le}
+use borrow.Author.Tests.{leb-true, lt-leb}
+use Rattle.paper.specs.Bytes.{within, isDigit, isUpper, isHex, all, isScalar}
+use Rattle.paper.specs.Values.{hexDigit, hexValue, spellsScalar}
+use Rattle.paper.proofs.Tests.{either, inside, below, above}
+use Rattle.paper.proofs.Lists.{both, all-head}
+use Rattle.text.proofs.Places.{here}
+
+-- ---- one digit
+
+module _ (b : ℕ) where
+  in-range : (low high : ℕ) → within low high b ≡ true → (low ≤ b) × (b ≤ high)
+  in-range low high e = let h = both _ _ e in (leb-true low b (h .0), leb-true b high (h .1))
+
+  pub hex-digit : 0x30 ≤ b → b ≤ 0x39 → (b - 0x30 ≡ hexDigit b) × (b - 0x30 < 16)
+  unfolding hexDigit isDigit
+  hex-digit l h = (rw (inside 0x30 0x39 b l h), omega arith)
+
+  pub hex-upper : 0x41 ≤ b → b ≤ 0x46 → (b - 0x41 + 10 ≡ hexDigit b) × (b - 0x41 + 10 < 16)
+  unfolding hexDigit isDigit isUpper
+  hex-upper l h = (rw (above 0x30 0x39 b (omega arith), inside 0x41 0x5A b l (omega arith)), omega arith)
+
+  -- a hex digit that is none of those is a lower case one
+  pub lower-hex : isHex b ≡ true → (0x30 ≤ b → b ≤ 0x39 → ⊥) → (0x41 ≤ b → b ≤ 0x46 → ⊥) → (0x61 ≤ b) × (b ≤ 0x66)
+  unfolding isHex isDigit
+  lower-hex e d u =
+      either (within 0x30 0x39 b || within 0x41 0x46 b) (within 0x61 0x66 b) e
+      (λ f. either (within 0x30 0x39 b) (within 0x41 0x46 b) f
+      (λ g. let r = in-range 0x30 0x39 g in absurd (d (r .0) (r .1)))
+      (λ g. let r = in-range 0x41 0x46 g in absurd (u (r .0) (r .1))))
+      (in-range 0x61 0x66)
+
+  pub hex-lower : (0x61 ≤ b) × (b ≤ 0x66) → (b - 0x61 + 10 ≡ hexDigit b) × (b - 0x61 + 10 < 16)
+  unfolding hexDigit isDigit isUpper
+  hex-lower h = (rw (above 0x30 0x39 b (omega arith), above 0x41 0x5A b (omega arith)), omega arith)
+
+-- ---- the number that several spell
+
+-- each byte of a list is of the class that all are of
+pub all-at : (class : ℕ → Bool) (s : List ℕ) (i : ℕ) → all class s ≡ true → i < length s → class (getD s i 0) ≡ true
+all-at class [] i e h = absurd (omega arith)
+all-at class (b ∷ l) zero e h = all-head class b l e .0
+all-at class (b ∷ l) (suc i) e h = all-at class l i (all-head class b l e .1) (omega arith)
+
+module _ (s : List ℕ) (i so : ℕ) where
+  pub value-on : i < length s → hexValue (so * 16 + hexDigit (getD s i 0)) (drop (i + 1) s) ≡ hexValue so (drop i s)
+  unfolding hexValue
+  value-on h = rw (here s i h)
+
+  pub value-out : length s ≤ i → so ≡ hexValue so (drop i s)
+  unfolding hexValue
+  value-out h = rw (drop-of-length-le s h)
+
+-- six digits spell less than 16 ^ 6
+pub value-grows : (v d i : ℕ) → v < 16 ^ i → d < 16 → i < 6 → (v * 16 + d < 16 ^ (i + 1)) × (v * 16 + d < 0x1000000)
+value-grows v d i h k l =
+    let p : 16 ^ (i + 1) ≡ 16 ^ i * 16 = rw add-one (pow-suc 16 i) in
+    let q : 16 ^ i ≤ 16 ^ 5 = pow-le-pow-right {n = 16} (omega arith) {i = i} {j = 5} (omega arith) in
+    (omega arith, omega arith)
+
+-- ---- a scalar value
+
+pub scalar-gap : (v : ℕ) → 0xD7FF < v → v < 0xE000 → isScalar v ≡ false
+unfolding isScalar
+scalar-gap v l h = rw (lt-leb v 0xD7FF l, below 0xE000 0x10FFFF v h)
+
+pub scalar-past : (v : ℕ) → 0x10FFFF < v → isScalar v ≡ false
+unfolding isScalar
+scalar-past v h = rw (lt-leb v 0xD7FF (omega arith), above 0xE000 0x10FFFF v h)
+
+pub spells : (digits : List ℕ) (v : ℕ) (o : Bool) → all isHex digits ≡ true → v ≡ hexValue 0 digits → isScalar v ≡ o → o ≡ spellsScalar digits
+unfolding spellsScalar
+spells digits v o a e f = rw (a, ← e) (sym f)

@@ -1,0 +1,195 @@
+-- IRIs: the scalar values of a body, the body step by step, and the scheme in front. Over plain lists. Assumes nothing.
+-- Document 01, "The grammar", Values; 001 §14, with the ranges of RFC 3987's ucschar.
+use Prim.Native.Nat.{ℕ, zero, suc, _+_, _-_, _%_, _≤_, _<_}
+use mathlib.Core.Path.{_≡_, refl, sym, _∙_}
+use mathlib.Core.Bool.{Bool, true, false, _&&_, _||_, or-false, and-false}
+use mathlib.Core.List.{List, [], _∷_}
+use native.Mathlib.Omega.{arith}
+use lib.ListN.{length, getD, drop, length-drop}
+use lib.Seq.{drop-drop}
+use lib.Dec.{leb}
+use borrow.Author.Tests.{le-leb}
+use Rattle.paper.specs.Found.{Found, found, fault}
+use Rattle.paper.specs.Bytes.{byte, bytes, within, isUpper, isLower, isDigit, isLetter, isNameByte, all, elem, startsIn, startsWith, lengthIn, front, behind, scalar}
+use Rattle.paper.specs.Values.{upTo, onward, is, isIriScalar, isIriBody, isScheme, isIri}
+use Rattle.paper.proofs.Tests.{split, apart, inside, below, above, byRange}
+use Rattle.paper.proofs.Lists.{elem-apart, front-all}
+use Rattle.paper.proofs.Scalars.{scalar-shorter}
+use Rattle.text.specs.declared.utf8.Step.{Step}
+use Rattle.text.specs.Steps.{stepAt}
+use Rattle.text.proofs.Places.{here}
+use Rattle.text.proofs.Steps.{Stepped, ended, failed}
+use Rattle.values.proofs.Runs.{endsAt, mark-ends, no-mark-ends, up-to-run, up-to-more}
+use Rattle.values.proofs.WordEnds.{starts-one}
+
+-- ---- scalar values
+
+-- the bytes of ASCII beside letters and digits
+abbrev marks : List ℕ
+marks = bytes "-._~:/?#[]@!$&'()*+,;=%"
+
+pub iri-ascii : (b : ℕ) → b ≤ 0x7F → (isNameByte b || elem b marks) ≡ isIriScalar b
+unfolding isIriScalar
+iri-ascii b h =
+    rw (below 0xA0 0xD7FF b (omega arith), below 0xF900 0xFDCF b (omega arith), below 0xFDF0 0xFFEF b (omega arith), below 0x10000 0xDFFFF b (omega arith), below 0xE1000 0xEFFFD b (omega arith))
+    (split (isNameByte b || elem b marks) (λ e. rw e) (λ e. rw e))
+
+-- the others lie in ranges
+unfoldable inRanges : ℕ → Bool
+inRanges v =
+    within 0xA0 0xD7FF v || within 0xF900 0xFDCF v || within 0xFDF0 0xFFEF v || (within 0x10000 0xDFFFF v && leb (v % 0x10000) 0xFFFD) || within 0xE1000 0xEFFFD v
+
+module _ (v : ℕ) where
+  iri-high : 0x80 ≤ v → inRanges v ≡ isIriScalar v
+  unfolding isIriScalar inRanges isNameByte isLetter isUpper isLower isDigit elem all
+  iri-high h =
+      rw (above 0x41 0x5A v (omega arith), above 0x61 0x7A v (omega arith), above 0x30 0x39 v (omega arith), elem-apart (leb 0x80) v marks (le-leb 0x80 v h) refl)
+
+  outside : (low high : ℕ) → (low ≤ v → v ≤ high → ⊥) → within low high v ≡ false
+  outside low high n = byRange low high v (λ l h e. absurd (n l h)) (λ e. e)
+
+  pub iri-letters : 0xA0 ≤ v → v ≤ 0xD7FF → true ≡ isIriScalar v
+  unfolding inRanges
+  iri-letters l h = rw (inside 0xA0 0xD7FF v l h) at (iri-high (omega arith))
+
+  pub iri-forms : 0xF900 ≤ v → v ≤ 0xFDCF → true ≡ isIriScalar v
+  unfolding inRanges
+  iri-forms l h = rw (above 0xA0 0xD7FF v (omega arith), inside 0xF900 0xFDCF v l h) at (iri-high (omega arith))
+
+  pub iri-more-forms : 0xFDF0 ≤ v → v ≤ 0xFFEF → true ≡ isIriScalar v
+  unfolding inRanges
+  iri-more-forms l h = rw (above 0xA0 0xD7FF v (omega arith), above 0xF900 0xFDCF v (omega arith), inside 0xFDF0 0xFFEF v l h) at (iri-high (omega arith))
+
+  pub iri-planes : 0x10000 ≤ v → v ≤ 0xDFFFF → leb (v % 0x10000) 0xFFFD ≡ isIriScalar v
+  unfolding inRanges
+  iri-planes l h =
+      rw (above 0xA0 0xD7FF v (omega arith), above 0xF900 0xFDCF v (omega arith), above 0xFDF0 0xFFEF v (omega arith), inside 0x10000 0xDFFFF v l h, below 0xE1000 0xEFFFD v (omega arith), or-false (leb (v % 0x10000) 0xFFFD)) at (iri-high (omega arith))
+
+  pub iri-last-plane : 0xE1000 ≤ v → v ≤ 0xEFFFD → true ≡ isIriScalar v
+  unfolding inRanges
+  iri-last-plane l h =
+      rw (above 0xA0 0xD7FF v (omega arith), above 0xF900 0xFDCF v (omega arith), above 0xFDF0 0xFFEF v (omega arith), above 0x10000 0xDFFFF v (omega arith), inside 0xE1000 0xEFFFD v l h) at (iri-high (omega arith))
+
+  pub iri-none : 0x80 ≤ v → (0xA0 ≤ v → v ≤ 0xD7FF → ⊥) → (0xF900 ≤ v → v ≤ 0xFDCF → ⊥) → (0xFDF0 ≤ v → v ≤ 0xFFEF → ⊥) → (0x10000 ≤ v → v ≤ 0xDFFFF → ⊥) → (0xE1000 ≤ v → v ≤ 0xEFFFD → ⊥) → false ≡ isIriScalar v
+  unfolding inRanges
+  iri-none h a b c d e = rw (outside 0xA0 0xD7FF a, outside 0xF900 0xFDCF b, outside 0xFDF0 0xFFEF c, outside 0x10000 0xDFFFF d, outside 0xE1000 0xEFFFD e) at (iri-high h)
+
+-- ---- a body, one scalar value at a time
+
+body-nil : (fuel : ℕ) → isIriBody fuel [] ≡ true
+unfolding isIriBody
+body-nil zero = refl
+body-nil (suc fuel) = refl
+
+module _ (fuel b : ℕ) (l : List ℕ) where
+  body-fault : (n : ℕ) (left : List ℕ) → scalar (b ∷ l) ≡ fault n left → isIriBody (suc fuel) (b ∷ l) ≡ false
+  unfolding isIriBody
+  body-fault n left e = rw (e, isIriBody)
+
+  body-bad : (v : ℕ) (left : List ℕ) → scalar (b ∷ l) ≡ found v left → isIriScalar v ≡ false → isIriBody (suc fuel) (b ∷ l) ≡ false
+  unfolding isIriBody
+  body-bad v left e f = rw (e, isIriBody, f)
+
+  body-good : (v : ℕ) (left : List ℕ) → scalar (b ∷ l) ≡ found v left → isIriScalar v ≡ true → isIriBody (suc fuel) (b ∷ l) ≡ isIriBody fuel left
+  unfolding isIriBody
+  body-good v left e f = rw (e, isIriBody, f)
+
+-- fuel above the length does not matter
+body-fuel : (f g : ℕ) (s : List ℕ) → length s ≤ f → length s ≤ g → isIriBody f s ≡ isIriBody g s
+body-fuel zero g [] h k = body-nil 0 ∙ sym (body-nil g)
+body-fuel zero g (b ∷ l) h k = absurd (omega arith)
+body-fuel (suc f) g [] h k = body-nil (suc f) ∙ sym (body-nil g)
+body-fuel (suc f) zero (b ∷ l) h k = absurd (omega arith)
+body-fuel (suc f) (suc g) (b ∷ l) h k = go (scalar (b ∷ l)) refl (λ s. body-fuel f g s)
+  where
+    go : (x : Found ℕ) → scalar (b ∷ l) ≡ x → ((s : List ℕ) → length s ≤ f → length s ≤ g → isIriBody f s ≡ isIriBody g s) → isIriBody (suc f) (b ∷ l) ≡ isIriBody (suc g) (b ∷ l)
+    go (fault n left) e again = body-fault f b l n left e ∙ sym (body-fault g b l n left e)
+    go (found v left) e again =
+        let less = scalar-shorter (b ∷ l) v left e in
+        split (isIriScalar v)
+        (λ i. body-good f b l v left e i ∙ again left (omega arith) (omega arith) ∙ sym (body-good g b l v left e i))
+        (λ i. body-bad f b l v left e i ∙ sym (body-bad g b l v left e i))
+
+-- the body from a place on
+abbrev pub bodyAt : List ℕ → ℕ → Bool
+bodyAt s at = isIriBody (length (drop at s)) (drop at s)
+
+pub body-whole : (s : List ℕ) (o : Bool) → o ≡ bodyAt s 0 → (fuel : ℕ) → length s ≤ fuel → o ≡ isIriBody fuel s
+body-whole s o e fuel h = e ∙ body-fuel (length s) fuel s (omega arith) h
+
+module _ (s : List ℕ) (at : ℕ) where
+  pub body-ends : Step.End ≡ stepAt s at → true ≡ bodyAt s at
+  body-ends e = rw (ended s at e) (sym (body-nil 0))
+
+  pub body-broken : Step.Broken ≡ stepAt s at → false ≡ bodyAt s at
+  body-broken e =
+      let f = failed s at e in
+      let r : scalar (getD s at 0 ∷ drop (at + 1) s) ≡ fault (f .number) (f .left) = rw (here s at (f .inside)) at (f .reads) in
+      rw (here s at (f .inside)) (sym (body-fault (length (drop (at + 1) s)) _ _ (f .number) (f .left) r))
+
+  module _ (v next : ℕ) (f : Stepped s at v next) where
+    inside-here : at < length s
+    inside-here = omega arith
+
+    reads-here : scalar (getD s at 0 ∷ drop (at + 1) s) ≡ found v (drop next s)
+    reads-here = rw (here s at inside-here) at (f .reads)
+
+    pub body-stops : isIriScalar v ≡ false → false ≡ bodyAt s at
+    body-stops e = rw (here s at inside-here) (sym (body-bad (length (drop (at + 1) s)) _ _ v (drop next s) reads-here e))
+
+    pub body-goes : isIriScalar v ≡ true → bodyAt s next ≡ bodyAt s at
+    body-goes e =
+        rw (here s at inside-here)
+        (body-fuel (length (drop next s)) (length (drop (at + 1) s)) (drop next s) (omega arith) (omega (arith, length-drop (at + 1) s, length-drop next s))
+        ∙ sym (body-good (length (drop (at + 1) s)) _ _ v (drop next s) reads-here e))
+
+-- ---- the scheme in front
+
+abbrev inScheme : ℕ → Bool
+inScheme b = isNameByte b || elem b (bytes "+-.")
+
+colon-apart : (b : ℕ) → inScheme b ≡ true → is (byte ":") b ≡ false
+unfolding isNameByte isLetter isUpper isLower isDigit elem
+colon-apart b e = apart inScheme b (byte ":") e refl
+
+letter-in : (b : ℕ) → isLetter b ≡ true → inScheme b ≡ true
+unfolding isNameByte
+letter-in b e = rw e
+
+-- the first byte of a part is that of the whole
+no-letter : (mark : ℕ → Bool) (b : ℕ) (l : List ℕ) → isLetter b ≡ false → startsIn isLetter (upTo mark (b ∷ l)) ≡ false
+unfolding lengthIn startsIn
+no-letter mark b l e = split (mark b) (λ m. rw (m, lengthIn)) (λ m. rw (m, lengthIn) e)
+
+first-letter : (b : ℕ) (l : List ℕ) → isLetter b ≡ true → startsIn isLetter (front inScheme (b ∷ l)) ≡ true
+unfolding lengthIn startsIn
+first-letter b l e = rw (letter-in b e, lengthIn) e
+
+pub iri-empty : (w : List ℕ) → length w ≡ 0 → false ≡ isIri w
+unfolding isIri isScheme startsIn lengthIn
+iri-empty [] h = refl
+iri-empty (b ∷ l) h = absurd (omega arith)
+
+pub iri-no-letter : (w : List ℕ) → (length w ≡ 0 → ⊥) → isLetter (getD w 0 0) ≡ false → false ≡ isIri w
+unfolding isIri isScheme
+iri-no-letter [] h e = absurd (h refl)
+iri-no-letter (b ∷ l) h e = rw (no-letter (is (byte ":")) b l e)
+
+pub iri-no-colon : (w : List ℕ) (n : ℕ) → n ≡ lengthIn inScheme w → startsWith (bytes ":") (drop n w) ≡ false → false ≡ isIri w
+unfolding isIri isScheme startsIn
+iri-no-colon w n q e =
+    let colon = is (byte ":") in
+    split (endsAt colon (behind inScheme w))
+    (λ f. let g : drop n w ≡ [] = no-mark-ends (byte ":") (drop n w) e (rw q f) in
+    let o : onward colon w ≡ [] = rw (up-to-run inScheme colon colon-apart w f, ← q) g in
+    rw (o, and-false (isScheme (upTo colon w))))
+    (λ f. rw (up-to-more inScheme colon colon-apart w f, and-false (startsIn isLetter (upTo colon w))))
+
+pub iri-body : (w : List ℕ) (n : ℕ) → n ≡ lengthIn inScheme w → (length w ≡ 0 → ⊥) → isLetter (getD w 0 0) ≡ true → startsWith (bytes ":") (drop n w) ≡ true → isIriBody (length w) (drop (n + 1) w) ≡ isIri w
+unfolding isIri isScheme startsIn
+iri-body [] n q h l e = absurd (h refl)
+iri-body (b ∷ w) n q h l e =
+    let colon = is (byte ":") in
+    let f : endsAt colon (behind inScheme (b ∷ w)) ≡ true = rw (← q) (mark-ends (byte ":") (drop n (b ∷ w)) e) in
+    let c : startsIn colon (drop n (b ∷ w)) ≡ true = sym (starts-one (byte ":") (drop n (b ∷ w))) ∙ e in
+    rw (up-to-run inScheme colon colon-apart (b ∷ w) f, first-letter b w l, front-all inScheme (b ∷ w), ← q, c, drop-drop)

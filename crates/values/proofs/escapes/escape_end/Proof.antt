@@ -1,0 +1,94 @@
+-- A law for each way out; the fixed bytes say which kind of escape it is.
+use borrow.Author.Needs.{needs}
+use mathlib.Core.Path.{refl, sym, _∙_}
+use native.Mathlib.Omega.{arith}
+use borrow.Author.Tests.{not-true, not-false}
+use Rattle.paper.specs.Bytes.{bytes}
+use Rattle.values.proofs.Seeing.{finds, no-value, cut-off}
+use Rattle.values.proofs.Escaping.{part-inside, braced-there, four-instead, escape-ends, letter-bad, letter-good}
+-- A law for each way out; the fixed bytes say which kind of escape it is.
+use mathlib.Core.Path.{refl, sym, _∙_}
+use native.Mathlib.Omega.{arith}
+use borrow.Author.Tests.{not-true, not-false}
+use Rattle.paper.specs.Bytes.{bytes}
+use Rattle.values.proofs.Seeing.{finds, no-value, cut-off}
+use Rattle.values.proofs.Escaping.{part-inside, braced-there, four-instead, escape-ends, letter-bad, letter-good}
+use Rattle.values.proofs.escapes.escape_end.Statement.{statement}
+use Rattle.values.proofs.escapes.escape_end.Tie as tie
+
+slice-aggregate-starts-with : tie.Need-slice-aggregate-starts-with
+slice-aggregate-starts-with c = search needs
+
+starts-with-requires : tie.Need-starts-with-requires
+starts-with-requires c κs = search needs
+
+braced-end-requires : tie.Need-braced-end-requires
+braced-end-requires c κs = omega (arith, part-inside 0 _ _ (c .before .before .before .before .pre .0) (c .before .before .before .before .pre .1) (bytes "u{") (sym (c .before .starts-with .ensures) ∙ c .if1 .taken))
+
+returns : tie.Need-returns
+returns c = rw (braced-there _ _ _ (c .before .before .before .before .before .pre .0) (c .before .before .before .before .before .pre .1) (sym (c .before .before .starts-with .ensures) ∙ c .before .if1 .taken)) (c .braced-end .ensures _)
+
+slice-aggregate-starts-with-2 : tie.Need-slice-aggregate-starts-with-2
+slice-aggregate-starts-with-2 c = search needs
+
+starts-with-requires-2 : tie.Need-starts-with-requires-2
+starts-with-requires-2 c κs = search needs
+
+four-end-requires : tie.Need-four-end-requires
+four-end-requires c κs = omega (arith, part-inside 0 _ _ (c .before .before .before .before .before .before .before .pre .0) (c .before .before .before .before .before .before .before .pre .1) (bytes "u") (sym (c .before .starts-with2 .ensures) ∙ c .if2 .taken))
+
+returns-2 : tie.Need-returns-2
+returns-2 c = rw (four-instead _ _ _ (c .before .before .before .before .before .before .before .before .pre .0) (c .before .before .before .before .before .before .before .before .pre .1) (sym (c .before .before .before .before .before .starts-with .ensures) ∙ c .before .before .before .before .if1 .left) (sym (c .before .before .starts-with2 .ensures) ∙ c .before .if2 .taken)) (c .four-end .ensures _)
+
+add-letter : tie.Need-add-letter
+add-letter c = search needs
+
+cut-requires : tie.Need-cut-requires
+cut-requires c κs = search needs
+
+returns-3 : tie.Need-returns-3
+returns-3 c = cut-off _ _ _ _ _ (c .cut .ensures) (escape-ends _ _ _ (c .before .before .before .before .before .before .before .before .before .pre .0) (c .before .before .before .before .before .before .before .before .before .pre .1) (c .before .if3 .taken))
+
+shared-slice-read-is-escaped : tie.Need-shared-slice-read-is-escaped
+shared-slice-read-is-escaped c = search needs
+
+is-escaped-requires : tie.Need-is-escaped-requires
+is-escaped-requires c κs = search needs
+
+no-value-requires : tie.Need-no-value-requires
+no-value-requires c κs = search needs
+
+returns-4 : tie.Need-returns-4
+returns-4 c =
+    no-value _ _ _ _ _ _ (c .no-value .ensures) (omega (arith, c .before .before .before .before .before .before .before .before .before .before .before .before .pre .0))
+    (letter-bad _ _ _ (c .before .before .before .before .before .before .before .before .before .before .before .before .pre .0) (c .before .before .before .before .before .before .before .before .before .before .before .before .pre .1) (c .before .before .before .before .if3 .left) (sym (c .before .before .before .before .before .before .starts-with2 .ensures) ∙ c .before .before .before .before .before .if2 .left) (sym (c .before .before .is-escaped .ensures) ∙ not-true _ (c .before .if4 .taken)))
+
+add-t13 : tie.Need-add-t13
+add-t13 c = search needs
+
+returns-5 : tie.Need-returns-5
+returns-5 c =
+    finds _ _ _ _ _ _ _ (omega arith) (omega arith) refl
+    (letter-good _ _ _ (c .before .before .before .before .before .before .before .before .before .before .before .pre .0) (c .before .before .before .before .before .before .before .before .before .before .before .pre .1) (c .before .before .before .if3 .left) (sym (c .before .before .before .before .before .starts-with2 .ensures) ∙ c .before .before .before .before .if2 .left) (sym (c .before .is-escaped .ensures) ∙ not-false _ (c .if4 .left)))
+
+pub escape-end-spec : {M : Type 1} → statement M
+escape-end-spec =
+    tie.close
+    (tie.spec
+    slice-aggregate-starts-with
+    starts-with-requires
+    braced-end-requires
+    returns
+    slice-aggregate-starts-with-2
+    starts-with-requires-2
+    four-end-requires
+    returns-2
+    add-letter
+    cut-requires
+    returns-3
+    shared-slice-read-is-escaped
+    is-escaped-requires
+    no-value-requires
+    returns-4
+    add-t13
+    returns-5)

@@ -1,0 +1,67 @@
+-- Each arm is a law of the first byte.
+use borrow.Author.Needs.{needs}
+use Rattle.values.proofs.Seeing.{cut-off}
+use Rattle.values.proofs.LeafReads.{leaf-ends, string-leaf, character-leaf, backtick-leaf, word-leaf}
+use Rattle.values.proofs.leaves.read_leaf.Statement.{statement}
+use Rattle.values.proofs.leaves.read_leaf.Tie as tie
+
+cut-requires : tie.Need-cut-requires
+cut-requires c κs = search needs
+
+returns : tie.Need-returns
+returns c = cut-off _ _ _ _ _ (c .cut .ensures) (leaf-ends _ _ _ (c .before .if1 .taken))
+
+shared-slice-read-match : tie.Need-shared-slice-read-match
+shared-slice-read-match c = search needs
+
+add-string-end : tie.Need-add-string-end
+add-string-end c = search needs
+
+string-end-requires : tie.Need-string-end-requires
+string-end-requires c κs = search needs
+
+add-character-end : tie.Need-add-character-end
+add-character-end c = search needs
+
+character-end-requires : tie.Need-character-end-requires
+character-end-requires c κs = search needs
+
+add-backtick-end : tie.Need-add-backtick-end
+add-backtick-end c = search needs
+
+backtick-end-requires : tie.Need-backtick-end-requires
+backtick-end-requires c κs = search needs
+
+read-word-requires : tie.Need-read-word-requires
+read-word-requires c κs = search needs
+
+returns-2 : tie.Need-returns-2
+returns-2 c = string-leaf _ _ _ (c .before .before .before .if1 .left) _ (c .before .match .keys1) (c .string-end .ensures)
+
+returns-3 : tie.Need-returns-3
+returns-3 c = character-leaf _ _ _ (c .before .before .before .if1 .left) _ (c .before .match .keys2) (c .character-end .ensures)
+
+returns-4 : tie.Need-returns-4
+returns-4 c = backtick-leaf _ _ _ (c .before .before .before .if1 .left) _ (c .before .match .keys3) (c .backtick-end .ensures)
+
+returns-5 : tie.Need-returns-5
+returns-5 c = word-leaf _ _ _ (c .before .before .before .if1 .left) _ (c .before .match .rest .0 .0 .1) (c .before .match .rest .0 .1) (c .before .match .rest .1) (c .read-word .ensures)
+
+pub read-leaf-spec : {M : Type 1} → statement M
+read-leaf-spec =
+    tie.close
+    (tie.spec
+    cut-requires
+    returns
+    shared-slice-read-match
+    add-string-end
+    string-end-requires
+    add-character-end
+    character-end-requires
+    add-backtick-end
+    backtick-end-requires
+    read-word-requires
+    returns-2
+    returns-3
+    returns-4
+    returns-5)

@@ -1,0 +1,87 @@
+-- A law for each way out, by the first byte.
+use borrow.Author.Needs.{needs}
+use mathlib.Core.Path.{sym, _∙_}
+use mathlib.Core.Logic.{⊎-elim}
+use native.Mathlib.Omega.{arith}
+use Rattle.text.proofs.Steps.{stepped}
+use Rattle.values.proofs.Seeing.{no-value, cut-off}
+use Rattle.values.proofs.Quotes.{character-ends, character-none, character-refused, character-escaped, character-direct, character-unread}
+use Rattle.values.proofs.quoted.character_end.Statement.{statement}
+use Rattle.values.proofs.quoted.character_end.Tie as tie
+
+cut-requires : tie.Need-cut-requires
+cut-requires c κs = search needs
+
+returns : tie.Need-returns
+returns c = cut-off _ _ _ _ _ (c .cut .ensures) (character-ends _ _ (c .before .if1 .taken))
+
+shared-slice-read-match : tie.Need-shared-slice-read-match
+shared-slice-read-match c = search needs
+
+no-value-requires : tie.Need-no-value-requires
+no-value-requires c κs = search needs
+
+escape-end-requires : tie.Need-escape-end-requires
+escape-end-requires c κs = (c .before .before .if1 .left, c .match .keys2)
+
+enum-known-escape : tie.Need-enum-known-escape
+enum-known-escape c = search needs
+
+enum-told : tie.Need-enum-told
+enum-told c = search needs
+
+returns-2 : tie.Need-returns-2
+returns-2 c = character-refused _ _ (c .before .before .before .before .before .if1 .left) (c .before .before .before .match .keys2) _ (c .before .before .escape-end .ensures) _ _ (c .enum-told .given .1)
+
+closing-quote-requires : tie.Need-closing-quote-requires
+closing-quote-requires c κs = search needs
+
+step-requires : tie.Need-step-requires
+step-requires c κs = search needs
+
+enum-known-next : tie.Need-enum-known-next
+enum-known-next c = search needs
+
+no-value-requires-2 : tie.Need-no-value-requires-2
+no-value-requires-2 c κs = search needs
+
+returns-3 : tie.Need-returns-3
+returns-3 c =
+    no-value _ _ _ _ _ _ (c .no-value2 .ensures) (omega arith)
+    (character-unread _ _ (c .before .before .before .before .before .if1 .left) (c .before .before .before .match .rest .0 .1) (c .before .before .before .match .rest .1) _ (c .before .before .step .ensures)
+    (λ v next e. ⊎-elim (λ k. omega (arith, rw e at k)) (λ k. omega (arith, rw e at k)) (c .before .match3 .keys2)))
+
+closing-quote-requires-2 : tie.Need-closing-quote-requires-2
+closing-quote-requires-2 c κs = search needs
+
+returns-4 : tie.Need-returns-4
+returns-4 c = no-value _ _ _ _ _ _ (c .no-value .ensures) (omega arith) (character-none _ _ (c .before .before .before .if1 .left) (c .before .match .keys1))
+
+returns-5 : tie.Need-returns-5
+returns-5 c = character-escaped _ _ (c .before .before .before .before .before .before .before .if1 .left) (c .before .before .before .before .before .match .keys2) _ (c .before .before .before .before .escape-end .ensures) _ _ (c .before .before .escape .given .1) (c .closing-quote .ensures)
+
+returns-6 : tie.Need-returns-6
+returns-6 c =
+    character-direct _ _ (c .before .before .before .before .before .before .before .if1 .left) (c .before .before .before .before .before .match .rest .0 .1) (c .before .before .before .before .before .match .rest .1) _ _ (stepped _ _ _ _ (sym (c .before .before .next .given .1) ∙ c .before .before .before .before .step .ensures)) (c .closing-quote2 .ensures)
+
+pub character-end-spec : {M : Type 1} → statement M
+character-end-spec =
+    tie.close
+    (tie.spec
+    cut-requires
+    returns
+    shared-slice-read-match
+    no-value-requires
+    escape-end-requires
+    enum-known-escape
+    enum-told
+    returns-2
+    closing-quote-requires
+    step-requires
+    enum-known-next
+    no-value-requires-2
+    returns-3
+    closing-quote-requires-2
+    returns-4
+    returns-5
+    returns-6)

@@ -1,0 +1,98 @@
+-- The invariant: what reads the string from `i` on reads it from `at` on; the measure is what is left of the input.
+use borrow.Author.Needs.{needs}
+use Prim.Native.Nat.{_≤_, _-_}
+use mathlib.Core.Path.{refl}
+use native.Mathlib.Omega.{arith}
+use lib.ListN.{length, drop}
+use Rattle.paper.specs.Values.{leafForm}
+use Rattle.values.specs.declared.read.Read.{Read}
+use Rattle.values.specs.Seen.{Reading, stringOf}
+use Rattle.values.proofs.Seeing.{finds, no-value, cut-off}
+use Rattle.values.proofs.Quotes.{string-ends, string-closes, string-breaks, string-itself, string-refused, string-escaped}
+use Rattle.values.proofs.quoted.string_end.Statement.{statement}
+use Rattle.values.proofs.quoted.string_end.Tie as tie
+
+abbrev Inv-loop : tie.InvT-loop
+Inv-loop s at i₀ i = (at ≤ i) × ((r : Read) → Reading leafForm s i (stringOf (drop i s)) r → Reading leafForm s at (stringOf (drop at s)) r)
+
+abbrev μ-loop : tie.MeasureT-loop
+μ-loop s at i₀ i = length s - i
+
+loop-holds : tie.Need-loop-holds Inv-loop μ-loop
+loop-holds c = (omega arith, λ r e. e)
+
+shared-slice-read-match : tie.Need-shared-slice-read-match Inv-loop μ-loop
+shared-slice-read-match c = search needs
+
+add-t11 : tie.Need-add-t11 Inv-loop μ-loop
+add-t11 c = search needs
+
+returns : tie.Need-returns Inv-loop μ-loop
+returns c = c .before .before .before .loop .inv .1 _ (finds _ _ _ _ _ _ _ (omega arith) (omega arith) refl (string-closes _ _ (c .before .before .loop-test .taken) (c .match .keys1)))
+
+escape-end-requires : tie.Need-escape-end-requires Inv-loop μ-loop
+escape-end-requires c κs = (c .before .before .loop-test .taken, c .match .keys2)
+
+enum-known-escape : tie.Need-enum-known-escape Inv-loop μ-loop
+enum-known-escape c = search needs
+
+enum-told : tie.Need-enum-told Inv-loop μ-loop
+enum-told c = search needs
+
+returns-2 : tie.Need-returns-2 Inv-loop μ-loop
+returns-2 c = c .before .before .before .before .before .before .loop .inv .1 _ (string-refused _ _ (c .before .before .before .before .before .loop-test .taken) (c .before .before .before .match .keys2) _ (c .before .before .escape-end .ensures) _ _ (c .enum-told .given .1))
+
+loop-less : tie.Need-loop-less Inv-loop μ-loop
+loop-less c = omega (arith, c .before .before .before .escape-end .ensures .ahead _ _ (c .before .escape .given .1))
+
+loop-again : tie.Need-loop-again Inv-loop μ-loop
+loop-again c =
+    let ahead = c .before .before .before .escape-end .ensures .ahead _ _ (c .before .escape .given .1) in
+    (omega arith, λ r e. c .before .before .before .before .before .before .before .loop .inv .1 r (string-escaped _ _ (c .before .before .before .before .before .before .loop-test .taken) (c .before .before .before .before .match .keys2) _ (c .before .before .before .escape-end .ensures) _ _ (c .before .escape .given .1) e))
+
+no-value-requires : tie.Need-no-value-requires Inv-loop μ-loop
+no-value-requires c κs = search needs
+
+returns-3 : tie.Need-returns-3 Inv-loop μ-loop
+returns-3 c = c .before .before .before .before .loop .inv .1 _ (no-value _ _ _ _ _ _ (c .no-value .ensures) (omega arith) (string-breaks _ _ (c .before .before .before .loop-test .taken) (c .before .match .keys3)))
+
+add-i : tie.Need-add-i Inv-loop μ-loop
+add-i c = search needs
+
+loop-less-2 : tie.Need-loop-less-2 Inv-loop μ-loop
+loop-less-2 c = search needs
+
+loop-again-2 : tie.Need-loop-again-2 Inv-loop μ-loop
+loop-again-2 c =
+    let rest = c .match .rest in
+    (omega arith, λ r e. c .before .before .before .loop .inv .1 r (string-itself _ _ (c .before .before .loop-test .taken) (rest .0 .0 .1) (rest .0 .1) (rest .1) e))
+
+cut-requires : tie.Need-cut-requires Inv-loop μ-loop
+cut-requires c κs = search needs
+
+returns-4 : tie.Need-returns-4 Inv-loop μ-loop
+returns-4 c = c .before .before .loop .inv .1 _ (cut-off _ _ _ _ _ (c .cut .ensures) (string-ends _ _ (c .before .loop-test .left)))
+
+pub string-end-spec : {M : Type 1} → statement M
+string-end-spec =
+    tie.close
+    (tie.spec
+    Inv-loop
+    μ-loop
+    loop-holds
+    shared-slice-read-match
+    add-t11
+    returns
+    escape-end-requires
+    enum-known-escape
+    enum-told
+    returns-2
+    loop-less
+    loop-again
+    no-value-requires
+    returns-3
+    add-i
+    loop-less-2
+    loop-again-2
+    cut-requires
+    returns-4)

@@ -1,0 +1,36 @@
+-- A law for each way out.
+use borrow.Author.Needs.{needs}
+use mathlib.Core.Path.{sym, _∙_}
+use borrow.Author.Tests.{not-true, not-false}
+use Rattle.values.proofs.FirstBytes.{token-short, token-other, token-run}
+use Rattle.values.proofs.words.is_token.Statement.{statement}
+use Rattle.values.proofs.words.is_token.Tie as tie
+
+returns : tie.Need-returns
+returns c = token-short _ _ (c .before .before .args .w .now) (c .if1 .taken)
+
+shared-slice-read-is-within : tie.Need-shared-slice-read-is-within
+shared-slice-read-is-within c = search needs
+
+is-within-requires : tie.Need-is-within-requires
+is-within-requires c κs = search needs
+
+returns-2 : tie.Need-returns-2
+returns-2 c = token-other _ _ (c .before .before .before .before .before .args .w .now) (c .before .before .before .if1 .left) (sym (c .before .is-within .ensures) ∙ not-true _ (c .if2 .taken))
+
+run-end-requires : tie.Need-run-end-requires
+run-end-requires c κs = search needs
+
+returns-3 : tie.Need-returns-3
+returns-3 c = token-run _ _ (c .before .before .before .before .before .before .args .w .now) (c .before .before .before .before .if1 .left) _ (c .run-end .ensures .0) (sym (c .before .before .is-within .ensures) ∙ not-false _ (c .before .if2 .left))
+
+pub is-token-spec : {M : Type 1} → statement M
+is-token-spec =
+    tie.close
+    (tie.spec
+    returns
+    shared-slice-read-is-within
+    is-within-requires
+    returns-2
+    run-end-requires
+    returns-3)

@@ -1,0 +1,64 @@
+-- One group after another, each a law.
+use borrow.Author.Needs.{needs}
+use mathlib.Core.Path.{sym, _∙_}
+use native.Mathlib.Omega.{arith}
+use lib.ListN.{length-drop}
+use borrow.Author.Tests.{not-true, not-false}
+use Rattle.values.proofs.Groups.{group-inside, no-first, no-second, no-third, no-fourth, fifth-digits, no-fifth}
+use Rattle.values.proofs.words.is_uuid.Statement.{statement}
+use Rattle.values.proofs.words.is_uuid.Tie as tie
+
+is-group-requires : tie.Need-is-group-requires
+is-group-requires c κs = search needs
+
+returns : tie.Need-returns
+returns c = no-first _ (sym (c .before .is-group .ensures) ∙ not-true _ (c .if1 .taken))
+
+is-group-requires-2 : tie.Need-is-group-requires-2
+is-group-requires-2 c κs = omega (arith, group-inside 8 _ (sym (c .before .is-group .ensures) ∙ not-false _ (c .if1 .left)))
+
+returns-2 : tie.Need-returns-2
+returns-2 c = no-second _ (sym (c .before .before .before .is-group .ensures) ∙ not-false _ (c .before .before .if1 .left)) (sym (c .before .is-group2 .ensures) ∙ not-true _ (c .if2 .taken))
+
+is-group-requires-3 : tie.Need-is-group-requires-3
+is-group-requires-3 c κs = omega (arith, group-inside 4 _ (sym (c .before .is-group2 .ensures) ∙ not-false _ (c .if2 .left)), length-drop 9 (c .before .before .before .before .before .args .w .now))
+
+returns-3 : tie.Need-returns-3
+returns-3 c = no-third _ (sym (c .before .before .before .before .before .is-group .ensures) ∙ not-false _ (c .before .before .before .before .if1 .left)) (sym (c .before .before .before .is-group2 .ensures) ∙ not-false _ (c .before .before .if2 .left)) (sym (c .before .is-group3 .ensures) ∙ not-true _ (c .if3 .taken))
+
+is-group-requires-4 : tie.Need-is-group-requires-4
+is-group-requires-4 c κs = omega (arith, group-inside 4 _ (sym (c .before .is-group3 .ensures) ∙ not-false _ (c .if3 .left)), length-drop 14 (c .before .before .before .before .before .before .before .args .w .now))
+
+returns-4 : tie.Need-returns-4
+returns-4 c =
+    no-fourth _ (sym (c .before .before .before .before .before .before .before .is-group .ensures) ∙ not-false _ (c .before .before .before .before .before .before .if1 .left)) (sym (c .before .before .before .before .before .is-group2 .ensures) ∙ not-false _ (c .before .before .before .before .if2 .left))
+    (sym (c .before .before .before .is-group3 .ensures) ∙ not-false _ (c .before .before .if3 .left)) (sym (c .before .is-group4 .ensures) ∙ not-true _ (c .if4 .taken))
+
+end-requires : tie.Need-end-requires
+end-requires c κs = omega (arith, group-inside 4 _ (sym (c .before .is-group4 .ensures) ∙ not-false _ (c .if4 .left)), length-drop 19 (c .before .before .before .before .before .before .before .before .before .args .w .now))
+
+returns-5 : tie.Need-returns-5
+returns-5 c =
+    fifth-digits _ (sym (c .before .before .before .before .before .before .before .before .before .is-group .ensures) ∙ not-false _ (c .before .before .before .before .before .before .before .before .if1 .left)) (sym (c .before .before .before .before .before .before .before .is-group2 .ensures) ∙ not-false _ (c .before .before .before .before .before .before .if2 .left))
+    (sym (c .before .before .before .before .before .is-group3 .ensures) ∙ not-false _ (c .before .before .before .before .if3 .left)) (sym (c .before .before .before .is-group4 .ensures) ∙ not-false _ (c .before .before .if4 .left)) _ (c .before .end .ensures .0) (c .if5 .taken)
+
+returns-6 : tie.Need-returns-6
+returns-6 c =
+    no-fifth _ (sym (c .before .before .before .before .before .before .before .before .before .is-group .ensures) ∙ not-false _ (c .before .before .before .before .before .before .before .before .if1 .left)) (sym (c .before .before .before .before .before .before .before .is-group2 .ensures) ∙ not-false _ (c .before .before .before .before .before .before .if2 .left))
+    (sym (c .before .before .before .before .before .is-group3 .ensures) ∙ not-false _ (c .before .before .before .before .if3 .left)) (sym (c .before .before .before .is-group4 .ensures) ∙ not-false _ (c .before .before .if4 .left)) _ (c .before .end .ensures .0) (c .if5 .left)
+
+pub is-uuid-spec : {M : Type 1} → statement M
+is-uuid-spec =
+    tie.close
+    (tie.spec
+    is-group-requires
+    returns
+    is-group-requires-2
+    returns-2
+    is-group-requires-3
+    returns-3
+    is-group-requires-4
+    returns-4
+    end-requires
+    returns-5
+    returns-6)

@@ -1,0 +1,136 @@
+// Escapes in strings and characters: where one ends, or its refusal.
+// Document 01, "The grammar", Values: strings and characters; an escape is refused at its backslash.
+use crate::forms;
+use crate::read;
+use crate::read::Read;
+use text::classes;
+use text::parts::starts_with;
+use text::runs;
+use text::runs::Class;
+ghost use mathlib.Core.Path.{_≡_};
+ghost use mathlib.Core.Bool.{true};
+ghost use Prim.Native.Nat.{ℕ, _+_, _≤_, _<_};
+ghost use lib.ListN.{length, getD, drop};
+ghost use Rattle.paper.specs.Bytes.{byte, isHex, all};
+ghost use Rattle.paper.specs.Values.{escaped, hexDigit, hexValue, spellsScalar, pieceRule};
+ghost use Rattle.paper.specs.ReadingValues.{fourDigits, bracedDigits, escape};
+ghost use Rattle.values.specs.Seen.{Reading, noForm};
+
+// Hex digits that spell a scalar value are at most so many.
+const DIGITS: usize = 6;
+
+// Reads the escape whose backslash stands at `at`, between two of this quote.
+pub fn escape_end(s: &[u8], at: usize, quote: u8) -> Read
+    requires { ⌜ (at < length (now s)) × (getD (now s) at 0 ≡ byte "\\") ⌝ }
+    ensures { λ r. ⌜ Reading noForm (now (s .entry)) at (escape quote (drop at (now (s .entry))) (drop (at + 1) (now (s .entry)))) r ⌝ }
+{
+    if starts_with(s, at, b"\\u{") {
+        return braced_end(s, at);
+    }
+    if starts_with(s, at, b"\\u") {
+        return four_end(s, at);
+    }
+    let letter = at + 1;
+    if s.len() <= letter {
+        return read::cut(s);
+    }
+    if !is_escaped(s[letter], quote) {
+        return read::no_value(at);
+    }
+    Read::Found {
+        form: forms::NONE,
+        end: letter + 1,
+    }
+}
+
+// Whether a backslash and the byte are an escape between two of this quote.
+fn is_escaped(b: u8, quote: u8) -> bool
+    ensures { λ r. ⌜ r ≡ pieceRule quote (escaped b) ⌝ }
+{
+    b == quote || classes::is_one_of(b, b"\\nrt")
+}
+
+// Reads the escape whose `\u{` stands at `at`: one to six hex digits and "}".
+fn braced_end(s: &[u8], at: usize) -> Read
+    requires { ⌜ at + 3 ≤ length (now s) ⌝ }
+    ensures { λ r. ⌜ ((quote : ℕ) → Reading noForm (now (s .entry)) at (bracedDigits quote (drop at (now (s .entry))) (drop (at + 3) (now (s .entry)))) r) ⌝ }
+{
+    let start = at + 3;
+    let end = runs::end(s, start, Class::Hex);
+    if DIGITS < end - start {
+        return read::no_value(at);
+    }
+    if end == s.len() {
+        return read::cut(s);
+    }
+    if s[end] != b'}' || end == start {
+        return read::no_value(at);
+    }
+    if !spells_scalar(&s[start..end]) {
+        return read::no_value(at);
+    }
+    Read::Found {
+        form: forms::NONE,
+        end: end + 1,
+    }
+}
+
+// Reads the escape whose `\u` stands at `at`: four hex digits.
+fn four_end(s: &[u8], at: usize) -> Read
+    requires { ⌜ at + 2 ≤ length (now s) ⌝ }
+    ensures { λ r. ⌜ ((quote : ℕ) → Reading noForm (now (s .entry)) at (fourDigits quote (drop at (now (s .entry))) (drop (at + 2) (now (s .entry)))) r) ⌝ }
+{
+    let start = at + 2;
+    let end = start + 4;
+    let stop = runs::end(s, start, Class::Hex);
+    if stop < end {
+        if stop == s.len() {
+            return read::cut(s);
+        }
+        return read::no_value(at);
+    }
+    if !spells_scalar(&s[start..end]) {
+        return read::no_value(at);
+    }
+    Read::Found {
+        form: forms::NONE,
+        end,
+    }
+}
+
+// Whether the hex digits spell a scalar value.
+fn spells_scalar(digits: &[u8]) -> bool
+    requires { ⌜ (all isHex (now digits) ≡ true) × (length (now digits) ≤ 6) ⌝ }
+    ensures { λ r. ⌜ r ≡ spellsScalar (now (digits .entry)) ⌝ }
+{
+    match hex_value(digits) {
+        0..=0xD7FF | 0xE000..=0x10FFFF => true,
+        _ => false,
+    }
+}
+
+// The number that hex digits spell.
+fn hex_value(digits: &[u8]) -> u32
+    requires { ⌜ (all isHex (now digits) ≡ true) × (length (now digits) ≤ 6) ⌝ }
+    ensures { λ r. ⌜ r ≡ hexValue 0 (now (digits .entry)) ⌝ }
+{
+    let mut value = 0;
+    let mut i = 0;
+    while i < digits.len() {
+        value = value * 16 + hex_digit(digits[i]);
+        i += 1;
+    }
+    value
+}
+
+// The number that a hex digit spells, in either case.
+fn hex_digit(b: u8) -> u32
+    requires { ⌜ isHex b ≡ true ⌝ }
+    ensures { λ r. ⌜ (r ≡ hexDigit b) × (r < 16) ⌝ }
+{
+    match b {
+        b'0'..=b'9' => (b - b'0') as u32,
+        b'A'..=b'F' => (b - b'A') as u32 + 10,
+        _ => (b - b'a') as u32 + 10,
+    }
+}

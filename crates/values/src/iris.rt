@@ -1,0 +1,73 @@
+// IRIs: a scheme, ":" and a body.
+// Document 01, "The grammar", Values; 001 §14, with the ranges of RFC 3987's ucschar.
+use text::classes;
+use text::parts::starts_with;
+use text::runs;
+use text::runs::Class;
+use text::utf8::Cursor;
+use text::utf8::Step;
+ghost use mathlib.Core.Path.{_≡_};
+ghost use Prim.Native.Nat.{ℕ, _≤_};
+ghost use lib.ListN.{length};
+ghost use Rattle.paper.specs.Values.{isIriScalar, isIriBody, isIri};
+
+// Whether the word is an IRI.
+pub fn is_iri(w: &[u8]) -> bool
+    ensures { λ r. ⌜ r ≡ isIri (now (w .entry)) ⌝ }
+{
+    if w.len() == 0 {
+        return false;
+    }
+    if !classes::is_letter(w[0]) {
+        return false;
+    }
+    let colon = runs::end(w, 0, Class::Scheme);
+    if !starts_with(w, colon, b":") {
+        return false;
+    }
+    let body = colon + 1;
+    is_body(&w[body..])
+}
+
+// Whether every scalar value may stand in an IRI.
+fn is_body(body: &[u8]) -> bool
+    ensures { λ r. ⌜ ((fuel : ℕ) → length (now (body .entry)) ≤ fuel → r ≡ isIriBody fuel (now (body .entry))) ⌝ }
+{
+    let mut cursor = Cursor::new();
+    loop {
+        match cursor.step(body) {
+            Step::End => {
+                return true;
+            }
+            Step::Broken => {
+                return false;
+            }
+            Step::Scalar(v, next) => {
+                if !may_stand(v) {
+                    return false;
+                }
+                cursor = next;
+            }
+        }
+    }
+}
+
+// Whether the scalar value may stand in an IRI.
+fn may_stand(v: u32) -> bool
+    ensures { λ r. ⌜ r ≡ isIriScalar v ⌝ }
+{
+    match v {
+        0..=0x7F => may_stand_ascii(v as u8),
+        0xA0..=0xD7FF | 0xF900..=0xFDCF | 0xFDF0..=0xFFEF | 0xE1000..=0xEFFFD => true,
+        0x10000..=0xDFFFF => v % 0x10000 <= 0xFFFD,
+        _ => false,
+    }
+}
+
+// Whether the byte of ASCII may stand in an IRI.
+fn may_stand_ascii(b: u8) -> bool
+    requires { ⌜ b ≤ 0x7F ⌝ }
+    ensures { λ r. ⌜ r ≡ isIriScalar b ⌝ }
+{
+    classes::is_name_byte(b) || classes::is_one_of(b, b"-._~:/?#[]@!$&'()*+,;=%")
+}

@@ -1,0 +1,128 @@
+// Words: where one ends, and its form.
+// Document 01, "The grammar", Values: true and false, "$" and "~", UUIDs, numbers and IRIs.
+use crate::forms;
+use crate::iris::is_iri;
+use crate::numbers::number_form;
+use text::classes;
+use text::parts::same;
+use text::parts::starts_with;
+use text::runs;
+use text::runs::Class;
+ghost use mathlib.Core.Path.{_≡_};
+ghost use Prim.Native.Nat.{_+_, _≤_, _<_};
+ghost use lib.ListN.{length, drop};
+ghost use Rattle.paper.specs.Values.{isUuid, wordForm, endsWord};
+ghost use Rattle.paper.specs.ReadingValues.{wordLength};
+ghost use Rattle.values.specs.Kinds.{endersOf, isNamed, letteredForm, numeralForm, isGroup};
+
+// Where the word that stands at `at` ends, in a list or outside of any.
+pub fn word_end(s: &[u8], at: usize, in_list: bool) -> usize
+    requires { ⌜ at ≤ length (now s) ⌝ }
+    ensures { λ r. ⌜ (r ≡ at + wordLength (endersOf in_list) (drop at (now (s .entry)))) × (at ≤ r) × (r ≤ length (now (s .entry))) ⌝ }
+{
+    let mut i = at;
+    while i < s.len() {
+        if ends_word(s, i, in_list) {
+            return i;
+        }
+        i += 1;
+    }
+    i
+}
+
+// Whether a word ends before the byte at `at`.
+fn ends_word(s: &[u8], at: usize, in_list: bool) -> bool
+    requires { ⌜ at < length (now s) ⌝ }
+    ensures { λ r. ⌜ r ≡ endsWord (endersOf in_list) (drop at (now (s .entry))) ⌝ }
+{
+    let b = s[at];
+    match b {
+        b'>' => true,
+        b',' | b']' => in_list,
+        b'/' => starts_with(s, at, b"/>"),
+        _ => classes::is_white(b),
+    }
+}
+
+// The form of a word, or none where no kind fits. Its first byte says which kinds can fit at all.
+pub fn word_form(w: &[u8]) -> u32
+    ensures { λ r. ⌜ r ≡ wordForm (now (w .entry)) ⌝ }
+{
+    if w.len() == 0 {
+        return forms::NONE;
+    }
+    match w[0] {
+        b'$' => forms::only_if(is_token(w, b'A', b'Z'), forms::PASCAL),
+        b'~' => forms::only_if(is_token(w, b'a', b'z'), forms::CAMEL),
+        b'A'..=b'Z' | b'a'..=b'z' => lettered_form(w),
+        b'0'..=b'9' | b'+' | b'-' => numeral_form(w),
+        _ => forms::NONE,
+    }
+}
+
+// The form of a word that begins with a letter.
+fn lettered_form(w: &[u8]) -> u32
+    ensures { λ r. ⌜ r ≡ letteredForm (now (w .entry)) ⌝ }
+{
+    if same(w, b"true") {
+        return forms::BOOLEAN;
+    }
+    if same(w, b"false") {
+        return forms::BOOLEAN;
+    }
+    if is_uuid(w) {
+        return forms::UUID;
+    }
+    forms::only_if(is_iri(w), forms::IRI)
+}
+
+// The form of a word that begins with a digit or a sign.
+fn numeral_form(w: &[u8]) -> u32
+    ensures { λ r. ⌜ r ≡ numeralForm (now (w .entry)) ⌝ }
+{
+    if is_uuid(w) {
+        return forms::UUID;
+    }
+    number_form(w)
+}
+
+// Whether letters and digits alone stand behind the sign of a token, the first one a letter from `low` to `high`.
+fn is_token(w: &[u8], low: u8, high: u8) -> bool
+    ensures { λ r. ⌜ r ≡ isNamed low high (drop 1 (now (w .entry))) ⌝ }
+{
+    if w.len() < 2 {
+        return false;
+    }
+    if !classes::is_within(low, high, w[1]) {
+        return false;
+    }
+    names::run_end(w, 1) == w.len()
+}
+
+// Whether the word is a UUID: hex digits in groups of 8, 4, 4, 4 and 12, with "-" between.
+fn is_uuid(w: &[u8]) -> bool
+    ensures { λ r. ⌜ r ≡ isUuid (now (w .entry)) ⌝ }
+{
+    if !is_group(w, 0, 8) {
+        return false;
+    }
+    if !is_group(w, 9, 4) {
+        return false;
+    }
+    if !is_group(w, 14, 4) {
+        return false;
+    }
+    if !is_group(w, 19, 4) {
+        return false;
+    }
+    runs::end(w, 24, Class::Hex) == 36 && w.len() == 36
+}
+
+// Whether so many hex digits stand at `at`, and "-" behind them.
+fn is_group(w: &[u8], at: usize, size: usize) -> bool
+    requires { ⌜ at ≤ length (now w) ⌝ }
+    ensures { λ r. ⌜ r ≡ isGroup size (drop at (now (w .entry))) ⌝ }
+{
+    let end = runs::end(w, at, Class::Hex);
+    end - at == size && starts_with(w, end, b"-")
+}
