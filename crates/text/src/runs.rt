@@ -7,7 +7,8 @@ ghost use lib.ListN.{length, drop};
 ghost use Rattle.paper.specs.Bytes.{lengthIn};
 ghost use Rattle.text.specs.Runs.{inClass};
 
-// What a run is made of: letters and digits, spaces and tabs, tabs, white space, digits, hex digits, what an IRI's scheme is made of, or what is no line end.
+// What a run is made of: letters and digits, spaces and tabs, tabs, white space, digits, hex digits, what an IRI's
+// scheme is made of, or what is no line end.
 pub enum Class {
     Name,
     Blank,

@@ -14,7 +14,7 @@ use Rattle.paper.specs.ReadingValues.{leafOf, valueOf, moreOf, itemAnd}
 use Rattle.paper.specs.Entries.{Entry, unnamed, valueWidth, itemsOf, moreItems, itemSize, moreSize, itemEntry, itemEntries, moreEntries}
 use Rattle.paper.specs.Answer.{numberOf}
 use Rattle.paper.proofs.Told.{number-positive}
-use Rattle.paper.proofs.Tests.{upTo as atMost}
+use Rattle.paper.proofs.Tests.{upTo}
 use Rattle.paper.proofs.Lists.{starts-is, length-in}
 use Rattle.paper.proofs.Finds.{tail-drop, tail-then, Reads}
 use Rattle.paper.proofs.ReadValues.{ReadValue, value-reads, value-length, value-of-leaf, more-of-comma}
@@ -26,7 +26,7 @@ use Rattle.values.specs.declared.read.Read.{Read}
 use Rattle.values.specs.declared.entering.Entered.{Entered}
 use Rattle.values.specs.declared.entering.Entered.the-variants.{Items, Full}
 use Rattle.values.specs.Entering.{withoutItems, leftOf, firstOver, entriesFrom, sizeFrom, Ahead, Enters, EntersFrom}
-use Rattle.values.specs.Seen.{Seen, upTo, refusedAt, seen, seenOf, Reading}
+use Rattle.values.specs.Seen.{Seen, foundAt, refusedAt, seen, seenOf, Reading}
 use Rattle.values.proofs.Seeing.{tail-place, fails}
 use Rattle.values.proofs.ListLaws.{leaf-value, deep-value, empty-found, empty-value, list-found}
 use Rattle.values.proofs.ItemsFound.{Parts, MadeOf, made-of, together, list-parts, closed, first-in, first-past}
@@ -61,7 +61,7 @@ module _ (s : List ℕ) (i lists : ℕ) (cells : List ℕ) (slot : Slot) (made o
     -- it was entered, and so all its entries had room
     pub fit-inside : (v : Value) (left : List ℕ) → valueOf lists listEnders (drop i s) ≡ found v left → (form end inside count : ℕ) → item ≡ Items form end inside count → itemSize v ≤ leftOf under
     fit-inside v left e form end inside count q =
-        atMost (itemSize v) (leftOf under) (λ k. k)
+        upTo (itemSize v) (leftOf under) (λ k. k)
         (λ k. let f = h .full v left e k in
         let z : _≡_ {A = ℕ} 0 1 = cc in
         absurd (omega arith))
@@ -82,7 +82,7 @@ module _ (s : List ℕ) (i lists : ℕ) (cells : List ℕ) (slot : Slot) (made o
 
         first : (v : Value) (more : More) (left : List ℕ) → valueOf lists listEnders (drop i s) ≡ found v left → item ≡ Full (firstOver (leftOf slot - made) (entriesFrom (slot .parent) (slot .next + made) i v more))
         first v more left e =
-            atMost (itemSize v) (leftOf under) (λ k. absurd (no-fit v left e k))
+            upTo (itemSize v) (leftOf under) (λ k. absurd (no-fit v left e k))
             (λ k. h .full v left e k
             ∙ ap Full (sym (rw more-left (first-in (itemEntries (slot .next + made) (slot .next + made + 1) i v) _ (leftOf under) (omega (arith, item-size v (slot .next + made) (slot .next + made + 1) i))))))
 
@@ -282,13 +282,13 @@ module _ (s : List ℕ) (at lists : ℕ) (also cells : List ℕ) (slot : Slot) w
     where
       answer : (read : Read) → seen read ≡ seenOf valueForm s x → (v : Value) (left : List ℕ) → x ≡ found v left → withoutItems read ≡ Items (valueForm v) (placeIn s left) (itemSize v) (itemsOf v)
       answer (Read.Found form end) q v left e =
-          let k : upTo form end ≡ upTo (valueForm v) (placeIn s left) = q ∙ ap (seenOf valueForm s) e in
+          let k : foundAt form end ≡ foundAt (valueForm v) (placeIn s left) = q ∙ ap (seenOf valueForm s) e in
           let f : form ≡ valueForm v = ap (λ (y : Seen). y .form) k in
           let n : end ≡ placeIn s left = ap (λ (y : Seen). y .place) k in
           let b = bare v left e in
           rw (f, n, b .size, b .count)
       answer (Read.Refused why place) q v left e =
-          let k : refusedAt (numberOf why) place ≡ upTo (valueForm v) (placeIn s left) = q ∙ ap (seenOf valueForm s) e in
+          let k : refusedAt (numberOf why) place ≡ foundAt (valueForm v) (placeIn s left) = q ∙ ap (seenOf valueForm s) e in
           absurd (number-positive why (ap (λ (y : Seen). y .number) k))
 
   bare-ahead : (x : Found Value) (read : Read) → Reading valueForm s at x read → (room : ℕ) → Ahead s at lists room (withoutItems read)

@@ -52,7 +52,8 @@ module _ (quote : ℕ) (s : List ℕ) (at start stop : ℕ) (run : stop ≡ star
     pub four-bad : spellsScalar (take (start + 4 - start) (drop start s)) ≡ false → fourDigits quote (drop at s) (drop start s) ≡ fault 6 (drop at s)
     four-bad e = four-judged ∙ judged-breaks quote (drop at s) _ _ (four-rule ∙ e)
 
-    pub four-good : spellsScalar (take (start + 4 - start) (drop start s)) ≡ true → fourDigits quote (drop at s) (drop start s) ≡ found (four (take 4 (drop start s))) (drop (start + 4) s)
+    pub four-good : spellsScalar (take (start + 4 - start) (drop start s)) ≡ true
+        → fourDigits quote (drop at s) (drop start s) ≡ found (four (take 4 (drop start s))) (drop (start + 4) s)
     four-good e = four-judged ∙ judged-keeps quote (drop at s) _ _ (four-rule ∙ e)
 
   -- one to six of them, and "}"
@@ -133,5 +134,6 @@ module _ (quote : ℕ) (s : List ℕ) (at : ℕ) (h : at < length s) (b : getD s
     pub letter-bad : pieceRule quote (escaped (getD s (at + 1) 0)) ≡ false → escape quote (drop at s) (drop (at + 1) s) ≡ fault 6 (drop at s)
     letter-bad e = letter-judged ∙ judged-breaks quote (drop at s) _ _ e
 
-    pub letter-good : pieceRule quote (escaped (getD s (at + 1) 0)) ≡ true → escape quote (drop at s) (drop (at + 1) s) ≡ found (escaped (getD s (at + 1) 0)) (drop (at + 1 + 1) s)
+    pub letter-good : pieceRule quote (escaped (getD s (at + 1) 0)) ≡ true
+        → escape quote (drop at s) (drop (at + 1) s) ≡ found (escaped (getD s (at + 1) 0)) (drop (at + 1 + 1) s)
     letter-good e = letter-judged ∙ judged-keeps quote (drop at s) _ _ e

@@ -7,17 +7,16 @@ use mathlib.Core.List.{List, [], _∷_, List·Memᴰ as Among, List·Memᴰ·hea
 use mathlib.Core.Logic.{_⊎_, inl, inr, ⊎-elim}
 use native.Mathlib.Omega.{arith}
 use lib.ListN.{length, getD, drop, length-drop, drop-of-length-le}
-use lib.Dec.{leb, eqb}
-use borrow.Author.Tests.{leb-true, eqb-true, eqb-false, eq-eqb, ne-eqb}
+use lib.Dec.{eqb}
+use borrow.Author.Tests.{eqb-true, eqb-false, eq-eqb, ne-eqb}
 use Rattle.paper.specs.Found.{pick}
 use Rattle.paper.specs.Bytes.{byte, bytes, within, isUpper, isLower, isDigit, isLetter, isNameByte, isHex, elem, same, startsIn, lengthIn}
 use Rattle.paper.specs.Values.{isToken, isUuid, isIri, wordForm}
 use Rattle.paper.proofs.Tests.{split, true-false, either}
-use Rattle.paper.proofs.Lists.{both}
-use Rattle.paper.proofs.WordKinds.{Kind, boolean, integer, decimal, scientific, fraction, pascal, camel, uuid, iri, firstForm, kinds, word-form, byKind, digitOr, hexDash, beginning, kind-first, by-first}
+use Rattle.paper.proofs.WordKinds.{Kind, boolean, integer, decimal, scientific, fraction, pascal, camel, uuid, iri, fits, formOf, firstForm, kinds, word-form, byKind, digitOr, hexDash, beginning, kind-first, by-first}
 use Rattle.text.proofs.Places.{here}
 use Rattle.values.specs.Kinds.{numberForm, isNamed, letteredForm, numeralForm}
-use Rattle.values.proofs.Runs.{all-run}
+use Rattle.values.proofs.Runs.{in-range, all-run}
 
 -- ---- tokens
 
@@ -47,7 +46,7 @@ module _ (low high : ℕ) (w : List ℕ) where
 
 module _ {X : Type 0} (b : ℕ) where
   by-range : (low high : ℕ) → within low high b ≡ true → (low ≤ b → b ≤ high → X) → X
-  by-range low high e so = let h = both (leb low b) (leb b high) e in so (leb-true low b (h .0)) (leb-true b high (h .1))
+  by-range low high e so = let h = in-range low high b e in so (h .0) (h .1)
 
   by-letter : isLetter b ≡ true → (0x41 ≤ b → b ≤ 0x5A → X) → (0x61 ≤ b → b ≤ 0x7A → X) → X
   unfolding isLetter isUpper isLower
@@ -140,10 +139,6 @@ module _ (b : ℕ) where
 
 -- ---- the form by the first byte
 
-token-named : (sign low high : ℕ) (w : List ℕ) → isToken sign (within low high) (sign ∷ w) ≡ isNamed low high w
-unfolding isToken isNamed
-token-named sign low high w = rw (eq-eqb sign sign refl)
-
 pub form-empty : (w : List ℕ) → length w ≡ 0 → 0 ≡ wordForm w
 unfolding startsIn
 form-empty [] h = sym (byKind kinds [] (λ k e q. true-false (sym (kind-first k [] e))) (λ z. word-form [] ∙ z))
@@ -159,25 +154,37 @@ unfolding numeralForm numberForm firstForm
 form-numerals [] h n = absurd (h refl)
 form-numerals (b ∷ w) h n = sym (by-first (uuid ∷ integer ∷ decimal ∷ scientific ∷ fraction ∷ []) b w (numeral-kinds b n))
 
-pub form-none : (w : List ℕ) → (length w ≡ 0 → ⊥) → (Letter (getD w 0 0) → ⊥) → (Numeral (getD w 0 0) → ⊥) → (getD w 0 0 ≡ byte "$" → ⊥) → (getD w 0 0 ≡ byte "~" → ⊥) → 0 ≡ wordForm w
+pub form-none : (w : List ℕ) → (length w ≡ 0 → ⊥) → (Letter (getD w 0 0) → ⊥) → (Numeral (getD w 0 0) → ⊥) → (getD w 0 0 ≡ byte "$" → ⊥)
+    → (getD w 0 0 ≡ byte "~" → ⊥) → 0 ≡ wordForm w
 unfolding firstForm
 form-none [] h l n p c = absurd (h refl)
 form-none (b ∷ w) h l n p c = sym (by-first [] b w (no-kinds b l n [] (λ e. absurd (p (eqb-true b (byte "$") e))) (λ e. absurd (c (eqb-true b (byte "~") e)))))
 
-module _ (f : ℕ) (o : Bool) where
-  pub form-pascal : (w : List ℕ) → (length w ≡ 0 → ⊥) → getD w 0 0 ≡ byte "$" → f ≡ pick o 8 0 → o ≡ isNamed 0x41 0x5A (drop 1 w) → f ≡ wordForm w
-  unfolding firstForm isUpper
-  form-pascal [] h q e n = absurd (h refl)
-  form-pascal (b ∷ w) h q e n =
-      rw q (e ∙ rw (n, ← token-named (byte "$") 0x41 0x5A w)
-      (sym (by-first (pascal ∷ []) (byte "$") w (no-kinds (byte "$") (λ l. omega (arith, letter-bounds (byte "$") l)) (λ k. omega (arith, numeral-bounds (byte "$") k)) _ (λ z. first refl) (λ z. true-false (sym z))))))
+-- a token of a kind that its sign tells
+module _ (k : Kind) (sign low high : ℕ) (named : (w : List ℕ) → fits k (sign ∷ w) ≡ isNamed low high w) (only : (j : Kind) → beginning j sign ≡ true → Among j (k ∷ [])) where
+  token-form : (f : ℕ) (o : Bool) (w : List ℕ) → (length w ≡ 0 → ⊥) → getD w 0 0 ≡ sign → f ≡ pick o (formOf k) 0 → o ≡ isNamed low high (drop 1 w) → f ≡ wordForm w
+  unfolding firstForm
+  token-form f o [] h q e n = absurd (h refl)
+  token-form f o (b ∷ w) h q e n = rw q (e ∙ rw (n, ← named w) (sym (by-first (k ∷ []) sign w only)))
 
-  pub form-camel : (w : List ℕ) → (length w ≡ 0 → ⊥) → getD w 0 0 ≡ byte "~" → f ≡ pick o 9 0 → o ≡ isNamed 0x61 0x7A (drop 1 w) → f ≡ wordForm w
-  unfolding firstForm isLower
-  form-camel [] h q e n = absurd (h refl)
-  form-camel (b ∷ w) h q e n =
-      rw q (e ∙ rw (n, ← token-named (byte "~") 0x61 0x7A w)
-      (sym (by-first (camel ∷ []) (byte "~") w (no-kinds (byte "~") (λ l. omega (arith, letter-bounds (byte "~") l)) (λ k. omega (arith, numeral-bounds (byte "~") k)) _ (λ z. true-false (sym z)) (λ z. first refl)))))
+token-named : (sign low high : ℕ) (w : List ℕ) → isToken sign (within low high) (sign ∷ w) ≡ isNamed low high w
+unfolding isToken isNamed
+token-named sign low high w = rw (eq-eqb sign sign refl)
+
+module _ (f : ℕ) (o : Bool) (w : List ℕ) (some : length w ≡ 0 → ⊥) where
+  pub form-pascal : getD w 0 0 ≡ byte "$" → f ≡ pick o 8 0 → o ≡ isNamed 0x41 0x5A (drop 1 w) → f ≡ wordForm w
+  unfolding isUpper
+  form-pascal =
+      token-form pascal (byte "$") 0x41 0x5A (token-named (byte "$") 0x41 0x5A)
+      (no-kinds (byte "$") (λ l. omega (arith, letter-bounds (byte "$") l)) (λ n. omega (arith, numeral-bounds (byte "$") n)) _ (λ z. first refl) (λ z. true-false (sym z)))
+      f o w some
+
+  pub form-camel : getD w 0 0 ≡ byte "~" → f ≡ pick o 9 0 → o ≡ isNamed 0x61 0x7A (drop 1 w) → f ≡ wordForm w
+  unfolding isLower
+  form-camel =
+      token-form camel (byte "~") 0x61 0x7A (token-named (byte "~") 0x61 0x7A)
+      (no-kinds (byte "~") (λ l. omega (arith, letter-bounds (byte "~") l)) (λ n. omega (arith, numeral-bounds (byte "~") n)) _ (λ z. true-false (sym z)) (λ z. first refl))
+      f o w some
 
 -- ---- the form of a word that begins with a letter, or with a digit or a sign
 

@@ -25,7 +25,8 @@ unfolding hexGroups lengthIn
 no-groups k [] h = rw (ne-eqb 0 k (λ q. omega arith))
 no-groups k (m ∷ ns) h = rw (ne-eqb 0 k (λ q. omega arith))
 
-groups-are : (n k : ℕ) (ns w : List ℕ) → hexGroups (n ∷ k ∷ ns) w ≡ ((eqb (length (upTo (is (byte "-")) w)) n && all isHex (upTo (is (byte "-")) w)) && hexGroups (k ∷ ns) (past (is (byte "-")) w))
+groups-are : (n k : ℕ) (ns w : List ℕ)
+    → hexGroups (n ∷ k ∷ ns) w ≡ ((eqb (length (upTo (is (byte "-")) w)) n && all isHex (upTo (is (byte "-")) w)) && hexGroups (k ∷ ns) (past (is (byte "-")) w))
 unfolding hexGroups
 groups-are n k ns w = refl
 

@@ -8,19 +8,17 @@ use native.Mathlib.Nat.{pow-suc, pow-le-pow-right}
 use native.Mathlib.Numerals.{add-one}
 use native.Mathlib.Omega.{arith}
 use lib.ListN.{length, getD, drop, drop-of-length-le}
-use borrow.Author.Tests.{leb-true, lt-leb}
+use borrow.Author.Tests.{lt-leb}
 use Rattle.paper.specs.Bytes.{within, isDigit, isUpper, isHex, all, isScalar}
 use Rattle.paper.specs.Values.{hexDigit, hexValue, spellsScalar}
 use Rattle.paper.proofs.Tests.{either, inside, below, above}
-use Rattle.paper.proofs.Lists.{both, all-head}
+use Rattle.paper.proofs.Lists.{all-head}
 use Rattle.text.proofs.Places.{here}
+use Rattle.values.proofs.Runs.{in-range}
 
 -- ---- one digit
 
 module _ (b : ℕ) where
-  in-range : (low high : ℕ) → within low high b ≡ true → (low ≤ b) × (b ≤ high)
-  in-range low high e = let h = both _ _ e in (leb-true low b (h .0), leb-true b high (h .1))
-
   pub hex-digit : 0x30 ≤ b → b ≤ 0x39 → (b - 0x30 ≡ hexDigit b) × (b - 0x30 < 16)
   unfolding hexDigit isDigit
   hex-digit l h = (rw (inside 0x30 0x39 b l h), omega arith)
@@ -35,9 +33,9 @@ module _ (b : ℕ) where
   lower-hex e d u =
       either (within 0x30 0x39 b || within 0x41 0x46 b) (within 0x61 0x66 b) e
       (λ f. either (within 0x30 0x39 b) (within 0x41 0x46 b) f
-      (λ g. let r = in-range 0x30 0x39 g in absurd (d (r .0) (r .1)))
-      (λ g. let r = in-range 0x41 0x46 g in absurd (u (r .0) (r .1))))
-      (in-range 0x61 0x66)
+      (λ g. let r = in-range 0x30 0x39 b g in absurd (d (r .0) (r .1)))
+      (λ g. let r = in-range 0x41 0x46 b g in absurd (u (r .0) (r .1))))
+      (in-range 0x61 0x66 b)
 
   pub hex-lower : (0x61 ≤ b) × (b ≤ 0x66) → (b - 0x61 + 10 ≡ hexDigit b) × (b - 0x61 + 10 < 16)
   unfolding hexDigit isDigit isUpper

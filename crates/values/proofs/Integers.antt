@@ -5,7 +5,7 @@ use mathlib.Core.Path.{_≡_, refl, sym, ap, _∙_}
 use mathlib.Core.Bool.{Bool, true, false, not, _&&_, _||_, and-false, or-true}
 use mathlib.Core.List.{List, [], _∷_, _++_, append-nil}
 use native.Mathlib.Omega.{arith}
-use lib.ListN.{length, getD, take, drop, take-append-drop}
+use lib.ListN.{length, getD, take, drop}
 use lib.Seq.{take-length, length-take-le}
 use lib.Dec.{leb, eqb}
 use borrow.Author.Tests.{leb-false, le-leb, lt-leb, eqb-true, eqb-false, eq-eqb, ne-eqb, not-true}
@@ -14,7 +14,7 @@ use Rattle.paper.specs.Values.{is, areDigits, isCount, unsigned, isInteger}
 use Rattle.paper.proofs.Tests.{split, true-false, either, or-left, or-right}
 use Rattle.paper.proofs.Lists.{both, all-cons, all-weaken, front-all, behind-stops, front-length, length-in}
 use Rattle.text.proofs.Places.{here}
-use Rattle.values.proofs.Runs.{part-rest, starts-first}
+use Rattle.values.proofs.Runs.{parts-at, part-rest, starts-first}
 use Rattle.values.specs.Kinds.{signLength, countLength, integerLength}
 
 -- ---- digits with no leading zero
@@ -252,8 +252,7 @@ module _ {kind : List ℕ → Bool} {size : List ℕ → ℕ} (m : Measures kind
       split (eqb (size w) (length w))
       (λ e. let n = eqb-true (size w) (length w) e in rw e (sym (rw (n, take-length w) at (m .begins w some .good))))
       (λ e. let k : size w < length w = omega (arith, eqb-false (size w) (length w) e) in
-      let q : w ≡ take (size w) w ++ (getD w (size w) 0 ∷ drop (size w + 1) w) = sym (take-append-drop (size w) w) ∙ ap (λ (x : List ℕ). take (size w) w ++ x) (here w (size w) k) in
-      rw e (sym (ap kind q ∙ m .broken (take (size w) w) _ _ (omega (arith, length-take-le (size w) w h)) (next-digit some k))))
+      rw e (sym (ap kind (parts-at w (size w) k) ∙ m .broken (take (size w) w) _ _ (omega (arith, length-take-le (size w) w h)) (next-digit some k))))
 
   -- the whole word is of the kind
   module _ (n : ℕ) (e : n ≡ size w) where

@@ -19,8 +19,7 @@ use Rattle.text.specs.declared.utf8.Step.{Step}
 use Rattle.text.specs.Steps.{stepAt}
 use Rattle.text.proofs.Places.{here}
 use Rattle.text.proofs.Steps.{Stepped, ended, failed}
-use Rattle.values.proofs.Runs.{endsAt, mark-ends, no-mark-ends, up-to-run, up-to-more}
-use Rattle.values.proofs.WordEnds.{starts-one}
+use Rattle.values.proofs.Runs.{starts-one, endsAt, mark-ends, no-mark-ends, up-to-run, up-to-more}
 
 -- ---- scalar values
 
@@ -70,7 +69,8 @@ module _ (v : ℕ) where
   iri-last-plane l h =
       rw (above 0xA0 0xD7FF v (omega arith), above 0xF900 0xFDCF v (omega arith), above 0xFDF0 0xFFEF v (omega arith), above 0x10000 0xDFFFF v (omega arith), inside 0xE1000 0xEFFFD v l h) at (iri-high (omega arith))
 
-  pub iri-none : 0x80 ≤ v → (0xA0 ≤ v → v ≤ 0xD7FF → ⊥) → (0xF900 ≤ v → v ≤ 0xFDCF → ⊥) → (0xFDF0 ≤ v → v ≤ 0xFFEF → ⊥) → (0x10000 ≤ v → v ≤ 0xDFFFF → ⊥) → (0xE1000 ≤ v → v ≤ 0xEFFFD → ⊥) → false ≡ isIriScalar v
+  pub iri-none : 0x80 ≤ v → (0xA0 ≤ v → v ≤ 0xD7FF → ⊥) → (0xF900 ≤ v → v ≤ 0xFDCF → ⊥) → (0xFDF0 ≤ v → v ≤ 0xFFEF → ⊥)
+      → (0x10000 ≤ v → v ≤ 0xDFFFF → ⊥) → (0xE1000 ≤ v → v ≤ 0xEFFFD → ⊥) → false ≡ isIriScalar v
   unfolding inRanges
   iri-none h a b c d e = rw (outside 0xA0 0xD7FF a, outside 0xF900 0xFDCF b, outside 0xFDF0 0xFFEF c, outside 0x10000 0xDFFFF d, outside 0xE1000 0xEFFFD e) at (iri-high h)
 
@@ -102,7 +102,8 @@ body-fuel (suc f) g [] h k = body-nil (suc f) ∙ sym (body-nil g)
 body-fuel (suc f) zero (b ∷ l) h k = absurd (omega arith)
 body-fuel (suc f) (suc g) (b ∷ l) h k = go (scalar (b ∷ l)) refl (λ s. body-fuel f g s)
   where
-    go : (x : Found ℕ) → scalar (b ∷ l) ≡ x → ((s : List ℕ) → length s ≤ f → length s ≤ g → isIriBody f s ≡ isIriBody g s) → isIriBody (suc f) (b ∷ l) ≡ isIriBody (suc g) (b ∷ l)
+    go : (x : Found ℕ) → scalar (b ∷ l) ≡ x → ((s : List ℕ) → length s ≤ f → length s ≤ g → isIriBody f s ≡ isIriBody g s)
+        → isIriBody (suc f) (b ∷ l) ≡ isIriBody (suc g) (b ∷ l)
     go (fault n left) e again = body-fault f b l n left e ∙ sym (body-fault g b l n left e)
     go (found v left) e again =
         let less = scalar-shorter (b ∷ l) v left e in
@@ -185,7 +186,8 @@ iri-no-colon w n q e =
     rw (o, and-false (isScheme (upTo colon w))))
     (λ f. rw (up-to-more inScheme colon colon-apart w f, and-false (startsIn isLetter (upTo colon w))))
 
-pub iri-body : (w : List ℕ) (n : ℕ) → n ≡ lengthIn inScheme w → (length w ≡ 0 → ⊥) → isLetter (getD w 0 0) ≡ true → startsWith (bytes ":") (drop n w) ≡ true → isIriBody (length w) (drop (n + 1) w) ≡ isIri w
+pub iri-body : (w : List ℕ) (n : ℕ) → n ≡ lengthIn inScheme w → (length w ≡ 0 → ⊥) → isLetter (getD w 0 0) ≡ true
+    → startsWith (bytes ":") (drop n w) ≡ true → isIriBody (length w) (drop (n + 1) w) ≡ isIri w
 unfolding isIri isScheme startsIn
 iri-body [] n q h l e = absurd (h refl)
 iri-body (b ∷ w) n q h l e =

@@ -60,7 +60,8 @@ module _ (also s : List ℕ) (at : ℕ) (h : at < length s) (r : Read) where
   pub backtick-leaf : getD s at 0 ≡ byte "`" → Reading leafForm s (at + 1) (backtickOf (drop (at + 1) s)) r → Reading leafForm s at (leafOf also (drop at s)) r
   backtick-leaf q e = moved e at (leafOf also (drop at s)) (omega arith) (rw (here s at h, q, leaf-backtick also (drop (at + 1) s)))
 
-  pub word-leaf : (getD s at 0 ≡ byte "\"" → ⊥) → (getD s at 0 ≡ byte "'" → ⊥) → (getD s at 0 ≡ byte "`" → ⊥) → Reading leafForm s at (wordLeaf also (drop at s)) r → Reading leafForm s at (leafOf also (drop at s)) r
+  pub word-leaf : (getD s at 0 ≡ byte "\"" → ⊥) → (getD s at 0 ≡ byte "'" → ⊥) → (getD s at 0 ≡ byte "`" → ⊥)
+      → Reading leafForm s at (wordLeaf also (drop at s)) r → Reading leafForm s at (leafOf also (drop at s)) r
   unfolding firstOf
   word-leaf d q t e =
       let o : firstOf (getD s at 0) ≡ other = rw (ne-eqb (getD s at 0) (byte "\"") d, ne-eqb (getD s at 0) (byte "'") q, ne-eqb (getD s at 0) (byte "`") t) in

@@ -20,7 +20,7 @@ use Rattle.paper.proofs.Finds.{Tail, tail-drop, Reads}
 use Rattle.paper.proofs.ReadValues.{ReadValue, value-reads, value-of-leaf, value-of-deep, value-of-empty, value-of-list, more-of-end, more-of-close, more-of-comma, more-of-other, whole-found, whole-fault}
 use Rattle.text.proofs.Places.{here, place-back}
 use Rattle.values.specs.declared.read.Read.{Read}
-use Rattle.values.specs.Seen.{Seen, upTo, refusedAt, seen, seenOf, Reading, listForm}
+use Rattle.values.specs.Seen.{Seen, foundAt, refusedAt, seen, seenOf, Reading, listForm}
 use Rattle.values.proofs.Seeing.{finds, no-value, cut-off, refuses, Stands, stands, fails, passes}
 
 -- what is made of something found looks like it, where the forms agree

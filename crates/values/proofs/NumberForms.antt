@@ -6,7 +6,7 @@ use mathlib.Core.Bool.{Bool, true, false, not, _&&_}
 use mathlib.Core.List.{List, [], _∷_, _++_, append-nil, append-assoc}
 use mathlib.Core.Logic.{_⊎_, inl, inr, ⊎-elim}
 use native.Mathlib.Omega.{arith}
-use lib.ListN.{length, getD, take, drop, take-append-drop}
+use lib.ListN.{length, getD, take, drop}
 use lib.Seq.{take-length}
 use lib.Dec.{eqb}
 use borrow.Author.Tests.{ne-eqb}
@@ -17,7 +17,7 @@ use Rattle.paper.proofs.Tests.{split, true-false, apart, or-left}
 use Rattle.paper.proofs.Lists.{all-head, all-weaken, front-all, front-behind, behind-stops, is-not}
 use Rattle.text.proofs.Places.{here}
 use Rattle.values.specs.Kinds.{integerLength, numberForm, pointForm}
-use Rattle.values.proofs.Runs.{part-rest}
+use Rattle.values.proofs.Runs.{part-rest, parts-at}
 use Rattle.values.proofs.Integers.{inInteger, integer-made, integer-broken, digits-broken, Begun, integers, none-before, whole-none}
 
 -- ---- a word in two parts at the first mark
@@ -160,9 +160,6 @@ number-none w z =
     rw (whole-none integers w z, none-up-to (is (byte ".")) point-apart w z, none-up-to isExponent exponent-apart w z, no-decimal w z, none-up-to (is (byte "/")) slash-apart w z)
 
 -- ---- at the end of the integer in front
-
-parts-at : (w : List ℕ) (n : ℕ) → n < length w → w ≡ take n w ++ (getD w n 0 ∷ drop (n + 1) w)
-parts-at w n h = sym (take-append-drop n w) ∙ ap (λ (x : List ℕ). take n w ++ x) (here w n h)
 
 module _ (w : List ℕ) (n : ℕ) (size : n ≡ integerLength w) (some : n ≡ 0 → ⊥) where
   begun : Begun isInteger w n

@@ -53,7 +53,8 @@ module _ (turn : ℕ → List ℕ → Turn Piece) (shorter : (room : ℕ) (s : L
   run-stop : (n : ℕ) (t left : List ℕ) → turn 0 t ≡ stop n left → quotedOf turn make t ≡ fault n left
   run-stop n t left e = rw (many-turn (λ p. 0) turn shorter (suc (length t)) 0 t (omega arith), e)
 
-  run-more : (f : ℕ) → ((ps : List Piece) → leafForm (make ps) ≡ f) → (s t mid : List ℕ) (p : Piece) → turn 0 t ≡ more p mid → seenOf leafForm s (quotedOf turn make mid) ≡ seenOf leafForm s (quotedOf turn make t)
+  run-more : (f : ℕ) → ((ps : List Piece) → leafForm (make ps) ≡ f) → (s t mid : List ℕ) (p : Piece) → turn 0 t ≡ more p mid
+      → seenOf leafForm s (quotedOf turn make mid) ≡ seenOf leafForm s (quotedOf turn make t)
   run-more f formed s t mid p e = rw (many-turn (λ p. 0) turn shorter (suc (length t)) 0 t (omega arith), e) (more-seen make f formed s p (manyOf (λ p. 0) turn 0 mid))
 
 -- ---- an escape that was read
@@ -87,7 +88,8 @@ module _ (s : List ℕ) (i : ℕ) (h : i < length s) where
       run-stop pieceTurn turn-shorter string 6 _ _ (piece-at (turn-breaks 0 _ _ (line-end e)))
       ∙ ap (fault 6) (sym (here s i h))
 
-  pub string-itself : (getD s i 0 ≡ byte "\"" → ⊥) → (getD s i 0 ≡ byte "\\" → ⊥) → ((getD s i 0 ≡ lf) ⊎ (getD s i 0 ≡ cr) → ⊥) → {r : Read} → Reading leafForm s (i + 1) (stringOf (drop (i + 1) s)) r → Reading leafForm s i (stringOf (drop i s)) r
+  pub string-itself : (getD s i 0 ≡ byte "\"" → ⊥) → (getD s i 0 ≡ byte "\\" → ⊥) → ((getD s i 0 ≡ lf) ⊎ (getD s i 0 ≡ cr) → ⊥) → {r : Read}
+      → Reading leafForm s (i + 1) (stringOf (drop (i + 1) s)) r → Reading leafForm s i (stringOf (drop i s)) r
   string-itself q k l e =
       moved e i (stringOf (drop i s)) (omega arith)
       (run-more pieceTurn turn-shorter string 1 (λ ps. refl) s _ _ _ (piece-at (turn-itself 0 _ _ (inside-itself (byte "\"") (getD s i 0) q k (λ n. l (inl n)) (λ n. l (inr n))))))
@@ -138,7 +140,8 @@ module _ (s : List ℕ) (at : ℕ) (h : at < length s) where
     pub character-refused : (why : Refusal) (place : ℕ) → q ≡ Read.Refused why place → Reading leafForm s at (characterOf (drop at s)) q
     character-refused why place p = passes e leafForm at (characterOf (drop at s)) why place p (λ n left x. character-escape ∙ rw x)
 
-    pub character-escaped : (f end : ℕ) → q ≡ Read.Found f end → {r : Read} → ((ps : List Piece) → Reading leafForm s end (closeCharacter ps (drop end s)) r) → Reading leafForm s at (characterOf (drop at s)) r
+    pub character-escaped : (f end : ℕ) → q ≡ Read.Found f end → {r : Read}
+        → ((ps : List Piece) → Reading leafForm s end (closeCharacter ps (drop end s)) r) → Reading leafForm s at (characterOf (drop at s)) r
     character-escaped f end p k =
         let x = escape-stands (byte "'") s at h b q e f end p in
         moved (k (x .thing ∷ [])) at (characterOf (drop at s)) (omega (arith, e .ahead f end p)) (rw (character-escape, x .reads))
@@ -150,7 +153,8 @@ module _ (s : List ℕ) (at : ℕ) (h : at < length s) where
     character-step : (v next : ℕ) → Stepped s at v next → characterOf (drop at s) ≡ closeCharacter (map direct (encode v)) (drop next s)
     character-step v next x = rw (here s at h) (character-itself (getD s at 0) (drop (at + 1) s) v (drop next s) stands-itself (rw (here s at h) at (x .reads)))
 
-    pub character-direct : (v next : ℕ) → Stepped s at v next → {r : Read} → ((ps : List Piece) → Reading leafForm s next (closeCharacter ps (drop next s)) r) → Reading leafForm s at (characterOf (drop at s)) r
+    pub character-direct : (v next : ℕ) → Stepped s at v next → {r : Read}
+        → ((ps : List Piece) → Reading leafForm s next (closeCharacter ps (drop next s)) r) → Reading leafForm s at (characterOf (drop at s)) r
     character-direct v next x c = moved (c (map direct (encode v))) at (characterOf (drop at s)) (omega arith) (rw (character-step v next x))
 
     pub character-unread : (x : Step) → x ≡ stepAt s at → ((v : ℕ) (next : Cursor) → x ≡ Step.Scalar v next → ⊥) → characterOf (drop at s) ≡ fault 6 (drop at s)
@@ -174,7 +178,8 @@ module _ (s : List ℕ) (i : ℕ) (h : i < length s) where
   backtick-closes e = run-over backtickTurn tick-shorter backtick _ _ (tick-at (rw e (tick-closes 0 (drop (i + 1) s))))
 
   module _ (n : getD s i 0 ≡ byte "`" → ⊥) where
-    pub backtick-escaped : startsWith (bytes "\\`") (drop i s) ≡ true → {r : Read} → Reading leafForm s (i + 2) (backtickOf (drop (i + 2) s)) r → Reading leafForm s i (backtickOf (drop i s)) r
+    pub backtick-escaped : startsWith (bytes "\\`") (drop i s) ≡ true → {r : Read} → Reading leafForm s (i + 2) (backtickOf (drop (i + 2) s)) r
+        → Reading leafForm s i (backtickOf (drop i s)) r
     unfolding backtickTurn
     backtick-escaped f e =
         let k : i + 1 + 1 ≡ i + 2 = omega arith in
@@ -182,7 +187,8 @@ module _ (s : List ℕ) (i : ℕ) (h : i < length s) where
         let x : backtickTurn 0 (drop i s) ≡ more (escaped (byte "`")) (drop (i + 2) s) = tick-at (rw (ne-eqb (getD s i 0) (byte "`") n, backtickTurn, g, drop-drop, k)) in
         moved e i (backtickOf (drop i s)) (omega arith) (run-more backtickTurn tick-shorter backtick 1 (λ ps. refl) s (drop i s) _ _ x)
 
-    pub backtick-itself : startsWith (bytes "\\`") (drop i s) ≡ false → {r : Read} → Reading leafForm s (i + 1) (backtickOf (drop (i + 1) s)) r → Reading leafForm s i (backtickOf (drop i s)) r
+    pub backtick-itself : startsWith (bytes "\\`") (drop i s) ≡ false → {r : Read} → Reading leafForm s (i + 1) (backtickOf (drop (i + 1) s)) r
+        → Reading leafForm s i (backtickOf (drop i s)) r
     backtick-itself f e =
         moved e i (backtickOf (drop i s)) (omega arith)
         (run-more backtickTurn tick-shorter backtick 1 (λ ps. refl) s _ _ _ (tick-at (tick-itself 0 (drop (i + 1) s) (getD s i 0) (ne-eqb (getD s i 0) (byte "`") n) (rw (here s i h) at f))))

@@ -2,16 +2,21 @@
 use Prim.Native.Nat.{ℕ, zero, suc, _+_, _-_, _≤_, _<_}
 use mathlib.Core.Path.{_≡_, refl, sym, ap, _∙_}
 use mathlib.Core.Bool.{Bool, true, false, not}
-use mathlib.Core.List.{List, [], _∷_}
+use mathlib.Core.List.{List, [], _∷_, _++_}
 use native.Mathlib.Omega.{arith}
-use lib.Dec.{eqb}
-use borrow.Author.Tests.{eqb-true, eqb-false, eq-eqb, ne-eqb}
-use lib.ListN.{length, getD, take, drop, length-drop}
+use lib.Dec.{leb, eqb}
+use borrow.Author.Tests.{leb-true, eqb-true, eqb-false, eq-eqb, ne-eqb}
+use lib.ListN.{length, getD, take, drop, length-drop, take-append-drop}
 use lib.Seq.{take-all, drop-drop}
-use Rattle.paper.specs.Bytes.{all, startsIn, startsWith, lengthIn, front, behind}
+use Rattle.paper.specs.Bytes.{within, all, startsIn, startsWith, lengthIn, front, behind}
 use Rattle.paper.specs.Values.{upTo, is}
 use Rattle.paper.proofs.Tests.{split, true-false}
-use Rattle.paper.proofs.Lists.{all-nil, all-cons, starts-is}
+use Rattle.paper.proofs.Lists.{both, all-nil, all-cons, starts-is}
+use Rattle.text.proofs.Places.{here}
+
+-- a range as two orders
+pub in-range : (low high b : ℕ) → within low high b ≡ true → (low ≤ b) × (b ≤ high)
+in-range low high b e = let h = both (leb low b) (leb b high) e in (leb-true low b (h .0), leb-true b high (h .1))
 
 module _ (class : ℕ → Bool) where
   -- the first bytes of a run are of the class
@@ -40,6 +45,16 @@ part-rest w i = take-all (length w - i) (drop i w) (omega (arith, length-drop i 
 
 pub part-size : (w : List ℕ) (i : ℕ) → length (take (length w - i) (drop i w)) ≡ length w - i
 part-size w i = ap length (part-rest w i) ∙ length-drop i w
+
+-- the part before a place, the byte that stands there, and what is left behind it
+pub parts-at : (w : List ℕ) (n : ℕ) → n < length w → w ≡ take n w ++ (getD w n 0 ∷ drop (n + 1) w)
+parts-at w n h = sym (take-append-drop n w) ∙ ap (λ (x : List ℕ). take n w ++ x) (here w n h)
+
+-- one fixed byte in front
+pub starts-one : (c : ℕ) (s : List ℕ) → startsWith (c ∷ []) s ≡ startsIn (is c) s
+unfolding startsWith startsIn
+starts-one c [] = refl
+starts-one c (b ∷ l) = split (eqb b c) (λ e. rw (e, startsWith)) (λ e. rw (e, startsWith))
 
 -- a byte that stands at a place is inside
 pub one-inside : (c : ℕ) (s : List ℕ) (i : ℕ) → startsWith (c ∷ []) (drop i s) ≡ true → i < length s

@@ -13,7 +13,7 @@ use Rattle.paper.proofs.Told.{number-positive}
 use Rattle.paper.proofs.Finds.{Tail, whole, past, tail-length, tail-then, Reads}
 use Rattle.text.proofs.Places.{place-back}
 use Rattle.values.specs.declared.read.Read.{Read}
-use Rattle.values.specs.Seen.{Seen, upTo, refusedAt, seen, seenOf, Reading}
+use Rattle.values.specs.Seen.{Seen, foundAt, refusedAt, seen, seenOf, Reading}
 
 -- a tail is what is left from its place on
 pub tail-place : {s left : List ℕ} → Tail s left → left ≡ drop (placeIn s left) s
@@ -62,12 +62,12 @@ module _ {A : Type 0} {form : A → ℕ} {s : List ℕ} {at : ℕ} {x : Found A}
     where
       go : (y : Found A) → x ≡ y → Reads t P y → Stands f end
       go (found a left) p h =
-          let k : upTo f end ≡ upTo (form a) (placeIn s left) = ap seen (sym q) ∙ e .same ∙ ap (seenOf form s) p in
+          let k : foundAt f end ≡ foundAt (form a) (placeIn s left) = ap seen (sym q) ∙ e .same ∙ ap (seenOf form s) p in
           let g : f ≡ form a = ap (λ (y : Seen). y .form) k in
           let n : end ≡ placeIn s left = ap (λ (y : Seen). y .place) k in
           record { thing = a; reads = p ∙ ap (found a) (tail-place (tail-then tail (h .0)) ∙ rw n); formed = sym g }
       go (fault n left) p h =
-          let k : upTo f end ≡ refusedAt n (placeIn s left) = ap seen (sym q) ∙ e .same ∙ ap (seenOf form s) p in
+          let k : foundAt f end ≡ refusedAt n (placeIn s left) = ap seen (sym q) ∙ e .same ∙ ap (seenOf form s) p in
           let z : 0 ≡ n = ap (λ (y : Seen). y .number) k in
           absurd (omega (arith, h .least))
 
@@ -81,7 +81,7 @@ module _ {A : Type 0} {form : A → ℕ} {s : List ℕ} {at : ℕ} {x : Found A}
     where
       go : (y : Found A) → x ≡ y → Fails
       go (found a left) p =
-          let k : refusedAt (numberOf why) place ≡ upTo (form a) (placeIn s left) = ap seen (sym q) ∙ e .same ∙ ap (seenOf form s) p in
+          let k : refusedAt (numberOf why) place ≡ foundAt (form a) (placeIn s left) = ap seen (sym q) ∙ e .same ∙ ap (seenOf form s) p in
           absurd (number-positive why (ap (λ (y : Seen). y .number) k))
       go (fault n left) p = record { number = n; left = left; reads = p }
 
@@ -93,5 +93,6 @@ module _ {A : Type 0} {form : A → ℕ} {s : List ℕ} {at : ℕ} {x : Found A}
       refuses outer s from y r why place q (e .inside why place q) (ap seen (sym q) ∙ e .same ∙ rw (f .reads, keeps (f .number) (f .left) (f .reads)))
 
 -- a reading that sees the same from further on
-pub moved : {A : Type 0} {form : A → ℕ} {s : List ℕ} {next : ℕ} {y : Found A} {r : Read} → Reading form s next y r → (at : ℕ) (x : Found A) → at ≤ next → seenOf form s y ≡ seenOf form s x → Reading form s at x r
+pub moved : {A : Type 0} {form : A → ℕ} {s : List ℕ} {next : ℕ} {y : Found A} {r : Read} → Reading form s next y r → (at : ℕ) (x : Found A)
+    → at ≤ next → seenOf form s y ≡ seenOf form s x → Reading form s at x r
 moved e at x h q = record { same = e .same ∙ q; ahead = λ f end p. omega (arith, e .ahead f end p); inside = e .inside }

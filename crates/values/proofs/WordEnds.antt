@@ -8,21 +8,15 @@ use mathlib.Core.Logic.{_⊎_, inl, inr, ⊎-elim}
 use native.Mathlib.Nat.{add-zero}
 use native.Mathlib.Omega.{arith}
 use lib.ListN.{length, getD, drop, drop-of-length-le}
-use lib.Dec.{eqb}
 use borrow.Author.Tests.{ne-eqb}
-use Rattle.paper.specs.Bytes.{byte, bytes, isBlank, isLineEnd, isWhite, elem, startsIn, startsWith}
-use Rattle.paper.specs.Values.{is, isEnder, endsWord}
+use Rattle.paper.specs.Bytes.{byte, bytes, isBlank, isLineEnd, isWhite, elem, startsWith}
+use Rattle.paper.specs.Values.{isEnder, endsWord}
 use Rattle.paper.specs.ReadingValues.{wordLength}
 use Rattle.paper.proofs.Tests.{split}
 use Rattle.paper.proofs.Words.{word-ends, word-goes-on, end-ends}
 use Rattle.text.proofs.Places.{here}
 use Rattle.values.specs.Kinds.{endersOf}
-
--- one fixed byte in front
-pub starts-one : (c : ℕ) (s : List ℕ) → startsWith (c ∷ []) s ≡ startsIn (is c) s
-unfolding startsWith startsIn
-starts-one c [] = refl
-starts-one c (b ∷ l) = split (eqb b c) (λ e. rw (e, startsWith)) (λ e. rw (e, startsWith))
+use Rattle.values.proofs.Runs.{starts-one}
 
 -- ---- the test
 
@@ -51,7 +45,8 @@ module _ (listed : Bool) (s : List ℕ) (at : ℕ) (h : at < length s) where
       let n : elem (byte "/") (endersOf listed) ≡ false = not-listed listed (byte "/") (⊎-elim (λ q. omega arith) (λ q. omega arith)) in
       rw (here s at h, e, n) (rw (here s at h, e) at f ∙ starts-one (byte ">") (drop (at + 1) s))
 
-  pub ends-white : (o : Bool) → (getD s at 0 ≡ byte ">" → ⊥) → ((getD s at 0 ≡ byte ",") ⊎ (getD s at 0 ≡ byte "]") → ⊥) → (getD s at 0 ≡ byte "/" → ⊥) → o ≡ isWhite (getD s at 0) → o ≡ endsWord (endersOf listed) (drop at s)
+  pub ends-white : (o : Bool) → (getD s at 0 ≡ byte ">" → ⊥) → ((getD s at 0 ≡ byte ",") ⊎ (getD s at 0 ≡ byte "]") → ⊥) → (getD s at 0 ≡ byte "/"
+      → ⊥) → o ≡ isWhite (getD s at 0) → o ≡ endsWord (endersOf listed) (drop at s)
   unfolding endsWord isEnder
   ends-white o b l k e =
       rw (here s at h, e, endsWord, isEnder, ne-eqb (getD s at 0) (byte ">") b, not-listed listed (getD s at 0) l, ne-eqb (getD s at 0) (byte "/") k)

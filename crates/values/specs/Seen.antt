@@ -17,19 +17,19 @@ pub record Seen : Type 0 where
   pub place : ℕ
 
 -- what is found is number 0, up to a place; a refusal has no form
-abbrev pub upTo : ℕ → ℕ → Seen
-upTo f end = record { number = 0; form = f; place = end }
+abbrev pub foundAt : ℕ → ℕ → Seen
+foundAt f end = record { number = 0; form = f; place = end }
 
 abbrev pub refusedAt : ℕ → ℕ → Seen
 refusedAt n at = record { number = n; form = 0; place = at }
 
 abbrev pub seen : Read → Seen
-seen (Read.Found f end) = upTo f end
+seen (Read.Found f end) = foundAt f end
 seen (Read.Refused why at) = refusedAt (numberOf why) at
 
 -- a reading of the paper, whose places are those of what is left in the whole
 abbrev pub seenOf : {A : Type 0} → (A → ℕ) → List ℕ → Found A → Seen
-seenOf form whole (found a left) = upTo (form a) (placeIn whole left)
+seenOf form whole (found a left) = foundAt (form a) (placeIn whole left)
 seenOf form whole (fault n left) = refusedAt n (placeIn whole left)
 
 -- the answer is what the paper reads; what is found ends behind the place where it begins, and nothing is past the whole

@@ -1,9 +1,11 @@
 // Requests: what is asked of a line's bytes, and its answer.
-// Document 01, "The grammar", Bytes, "The mode table", and the answers of "Order".
+// Document 01, "The grammar", Bytes and Values, "The mode table", and the answers of "Order".
 use crate::hex;
 use crate::print;
 use paper::Refusal;
 use text::utf8;
+use values::lists;
+use values::read::Read;
 ghost use Prim.Native.Nat.{_≤_};
 ghost use lib.ListN.{length};
 ghost use Rattle.vectors.specs.Lines.{inputLimit};
@@ -32,6 +34,7 @@ fn reply(letter: u8, bytes: &[u8]) {
     match letter {
         b'b' => sheet_bytes(bytes),
         b't' => mode_table(bytes),
+        b'v' => value(bytes),
         _ => print::line(b"?"),
     }
 }
@@ -56,4 +59,14 @@ fn mode_table(table: &[u8]) {
             answer.count() as u64,
         ],
     );
+}
+
+// `v`: reads the value that stands in front. 0, its end and its form, or the refusal and its place.
+fn value(bytes: &[u8]) {
+    match lists::read_whole(bytes, 0) {
+        Read::Found { form, end } => print::row(&[0, end as u64, form as u64]),
+        Read::Refused { refusal, place } => {
+            print::row(&[paper::number(refusal) as u64, place as u64]);
+        }
+    }
 }

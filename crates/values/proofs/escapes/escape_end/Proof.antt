@@ -6,13 +6,6 @@ use borrow.Author.Tests.{not-true, not-false}
 use Rattle.paper.specs.Bytes.{bytes}
 use Rattle.values.proofs.Seeing.{finds, no-value, cut-off}
 use Rattle.values.proofs.Escaping.{part-inside, braced-there, four-instead, escape-ends, letter-bad, letter-good}
--- A law for each way out; the fixed bytes say which kind of escape it is.
-use mathlib.Core.Path.{refl, sym, _∙_}
-use native.Mathlib.Omega.{arith}
-use borrow.Author.Tests.{not-true, not-false}
-use Rattle.paper.specs.Bytes.{bytes}
-use Rattle.values.proofs.Seeing.{finds, no-value, cut-off}
-use Rattle.values.proofs.Escaping.{part-inside, braced-there, four-instead, escape-ends, letter-bad, letter-good}
 use Rattle.values.proofs.escapes.escape_end.Statement.{statement}
 use Rattle.values.proofs.escapes.escape_end.Tie as tie
 
@@ -23,10 +16,15 @@ starts-with-requires : tie.Need-starts-with-requires
 starts-with-requires c κs = search needs
 
 braced-end-requires : tie.Need-braced-end-requires
-braced-end-requires c κs = omega (arith, part-inside 0 _ _ (c .before .before .before .before .pre .0) (c .before .before .before .before .pre .1) (bytes "u{") (sym (c .before .starts-with .ensures) ∙ c .if1 .taken))
+braced-end-requires c κs =
+    let start = c .before .before .before .before in
+    omega (arith, part-inside 0 _ _ (start .pre .0) (start .pre .1) (bytes "u{") (sym (c .before .starts-with .ensures) ∙ c .if1 .taken))
 
 returns : tie.Need-returns
-returns c = rw (braced-there _ _ _ (c .before .before .before .before .before .pre .0) (c .before .before .before .before .before .pre .1) (sym (c .before .before .starts-with .ensures) ∙ c .before .if1 .taken)) (c .braced-end .ensures _)
+returns c =
+    let at-starts-with = c .before .before in
+    let start = at-starts-with .before .before .before in
+    rw (braced-there _ _ _ (start .pre .0) (start .pre .1) (sym (at-starts-with .starts-with .ensures) ∙ c .before .if1 .taken)) (c .braced-end .ensures _)
 
 slice-aggregate-starts-with-2 : tie.Need-slice-aggregate-starts-with-2
 slice-aggregate-starts-with-2 c = search needs
@@ -35,10 +33,18 @@ starts-with-requires-2 : tie.Need-starts-with-requires-2
 starts-with-requires-2 c κs = search needs
 
 four-end-requires : tie.Need-four-end-requires
-four-end-requires c κs = omega (arith, part-inside 0 _ _ (c .before .before .before .before .before .before .before .pre .0) (c .before .before .before .before .before .before .before .pre .1) (bytes "u") (sym (c .before .starts-with2 .ensures) ∙ c .if2 .taken))
+four-end-requires c κs =
+    let start = c .before .before .before .before .before .before .before in
+    omega (arith, part-inside 0 _ _ (start .pre .0) (start .pre .1) (bytes "u") (sym (c .before .starts-with2 .ensures) ∙ c .if2 .taken))
 
 returns-2 : tie.Need-returns-2
-returns-2 c = rw (four-instead _ _ _ (c .before .before .before .before .before .before .before .before .pre .0) (c .before .before .before .before .before .before .before .before .pre .1) (sym (c .before .before .before .before .before .starts-with .ensures) ∙ c .before .before .before .before .if1 .left) (sym (c .before .before .starts-with2 .ensures) ∙ c .before .if2 .taken)) (c .four-end .ensures _)
+returns-2 c =
+    let at-starts-with2 = c .before .before in
+    let at-if1 = at-starts-with2 .before .before in
+    let at-starts-with = at-if1 .before in
+    let start = at-starts-with .before .before .before in
+    rw (four-instead _ _ _ (start .pre .0) (start .pre .1) (sym (at-starts-with .starts-with .ensures) ∙ at-if1 .if1 .left)
+    (sym (at-starts-with2 .starts-with2 .ensures) ∙ c .before .if2 .taken)) (c .four-end .ensures _)
 
 add-letter : tie.Need-add-letter
 add-letter c = search needs
@@ -47,7 +53,9 @@ cut-requires : tie.Need-cut-requires
 cut-requires c κs = search needs
 
 returns-3 : tie.Need-returns-3
-returns-3 c = cut-off _ _ _ _ _ (c .cut .ensures) (escape-ends _ _ _ (c .before .before .before .before .before .before .before .before .before .pre .0) (c .before .before .before .before .before .before .before .before .before .pre .1) (c .before .if3 .taken))
+returns-3 c =
+    let start = c .before .before .before .before .before .before .before .before .before in
+    cut-off _ _ _ _ _ (c .cut .ensures) (escape-ends _ _ _ (start .pre .0) (start .pre .1) (c .before .if3 .taken))
 
 shared-slice-read-is-escaped : tie.Need-shared-slice-read-is-escaped
 shared-slice-read-is-escaped c = search needs
@@ -60,16 +68,27 @@ no-value-requires c κs = search needs
 
 returns-4 : tie.Need-returns-4
 returns-4 c =
-    no-value _ _ _ _ _ _ (c .no-value .ensures) (omega (arith, c .before .before .before .before .before .before .before .before .before .before .before .before .pre .0))
-    (letter-bad _ _ _ (c .before .before .before .before .before .before .before .before .before .before .before .before .pre .0) (c .before .before .before .before .before .before .before .before .before .before .before .before .pre .1) (c .before .before .before .before .if3 .left) (sym (c .before .before .before .before .before .before .starts-with2 .ensures) ∙ c .before .before .before .before .before .if2 .left) (sym (c .before .before .is-escaped .ensures) ∙ not-true _ (c .before .if4 .taken)))
+    let at-is-escaped = c .before .before in
+    let at-if3 = at-is-escaped .before .before in
+    let at-if2 = at-if3 .before in
+    let at-starts-with2 = at-if2 .before in
+    let start = at-starts-with2 .before .before .before .before .before .before in
+    no-value _ _ _ _ _ _ (c .no-value .ensures) (omega (arith, start .pre .0))
+    (letter-bad _ _ _ (start .pre .0) (start .pre .1) (at-if3 .if3 .left) (sym (at-starts-with2 .starts-with2 .ensures) ∙ at-if2 .if2 .left)
+    (sym (at-is-escaped .is-escaped .ensures) ∙ not-true _ (c .before .if4 .taken)))
 
 add-t13 : tie.Need-add-t13
 add-t13 c = search needs
 
 returns-5 : tie.Need-returns-5
 returns-5 c =
+    let at-if3 = c .before .before .before in
+    let at-if2 = at-if3 .before in
+    let at-starts-with2 = at-if2 .before in
+    let start = at-starts-with2 .before .before .before .before .before .before in
     finds _ _ _ _ _ _ _ (omega arith) (omega arith) refl
-    (letter-good _ _ _ (c .before .before .before .before .before .before .before .before .before .before .before .pre .0) (c .before .before .before .before .before .before .before .before .before .before .before .pre .1) (c .before .before .before .if3 .left) (sym (c .before .before .before .before .before .starts-with2 .ensures) ∙ c .before .before .before .before .if2 .left) (sym (c .before .is-escaped .ensures) ∙ not-false _ (c .if4 .left)))
+    (letter-good _ _ _ (start .pre .0) (start .pre .1) (at-if3 .if3 .left) (sym (at-starts-with2 .starts-with2 .ensures) ∙ at-if2 .if2 .left)
+    (sym (c .before .is-escaped .ensures) ∙ not-false _ (c .if4 .left)))
 
 pub escape-end-spec : {M : Type 1} → statement M
 escape-end-spec =

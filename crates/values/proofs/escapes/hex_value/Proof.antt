@@ -26,10 +26,14 @@ shared-slice-read-hex-digit : tie.Need-shared-slice-read-hex-digit Inv-loop μ-l
 shared-slice-read-hex-digit c = search needs
 
 hex-digit-requires : tie.Need-hex-digit-requires Inv-loop μ-loop
-hex-digit-requires c κs = all-at isHex _ _ (c .before .before .before .before .pre .0) (c .before .loop-test .taken)
+hex-digit-requires c κs =
+    let start = c .before .before .before .before in
+    all-at isHex _ _ (start .pre .0) (c .before .loop-test .taken)
 
 add-value : tie.Need-add-value Inv-loop μ-loop
-add-value c = let g = value-grows _ _ _ (c .before .before .before .loop .inv .1) (c .hex-digit .ensures .1) (omega arith) in omega arith
+add-value c =
+    let at-loop = c .before .before .before in
+    let g = value-grows _ _ _ (at-loop .loop .inv .1) (c .hex-digit .ensures .1) (omega arith) in omega arith
 
 add-i : tie.Need-add-i Inv-loop μ-loop
 add-i c = search needs
@@ -39,8 +43,10 @@ loop-less c = search needs
 
 loop-again : tie.Need-loop-again Inv-loop μ-loop
 loop-again c =
-    let g = value-grows _ _ _ (c .before .before .before .loop .inv .1) (c .hex-digit .ensures .1) (omega arith) in
-    (omega arith, g .0, rw (c .hex-digit .ensures .0) (value-on _ _ _ (c .before .before .loop-test .taken)) ∙ c .before .before .before .loop .inv .2)
+    let at-loop-test = c .before .before in
+    let at-loop = at-loop-test .before in
+    let g = value-grows _ _ _ (at-loop .loop .inv .1) (c .hex-digit .ensures .1) (omega arith) in
+    (omega arith, g .0, rw (c .hex-digit .ensures .0) (value-on _ _ _ (at-loop-test .loop-test .taken)) ∙ at-loop .loop .inv .2)
 
 returns : tie.Need-returns Inv-loop μ-loop
 returns c = value-out _ _ _ (c .loop-test .left) ∙ c .before .loop .inv .2

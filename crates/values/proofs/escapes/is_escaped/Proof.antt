@@ -19,7 +19,9 @@ returns c = either-first _ refl (eq-eqb _ _ (c .if1 .taken))
 
 returns-2 : tie.Need-returns-2
 unfolding pieceRule
-returns-2 c = either-second refl (ne-eqb _ _ (c .before .before .if1 .left)) (c .is-one-of .ensures)
+returns-2 c =
+    let at-if1 = c .before .before in
+    either-second refl (ne-eqb _ _ (at-if1 .if1 .left)) (c .is-one-of .ensures)
 
 pub is-escaped-spec : {M : Type 1} → statement M
 is-escaped-spec =

@@ -29,13 +29,19 @@ enum-told : tie.Need-enum-told Inv-loop μ-loop
 enum-told c = search needs
 
 returns : tie.Need-returns Inv-loop μ-loop
-returns c = body-whole _ _ (body-ends _ (c .before .before .before .loop .cursor .at) (sym (c .enum-told .given .1) ∙ c .before .before .step .ensures) ∙ c .before .before .before .loop .inv)
+returns c =
+    let at-step = c .before .before in
+    let at-loop = at-step .before in
+    body-whole _ _ (body-ends _ (at-loop .loop .cursor .at) (sym (c .enum-told .given .1) ∙ at-step .step .ensures) ∙ at-loop .loop .inv)
 
 enum-told-2 : tie.Need-enum-told-2 Inv-loop μ-loop
 enum-told-2 c = search needs
 
 returns-2 : tie.Need-returns-2 Inv-loop μ-loop
-returns-2 c = body-whole _ _ (body-broken _ (c .before .before .before .loop .cursor .at) (sym (c .enum-told2 .given .1) ∙ c .before .before .step .ensures) ∙ c .before .before .before .loop .inv)
+returns-2 c =
+    let at-step = c .before .before in
+    let at-loop = at-step .before in
+    body-whole _ _ (body-broken _ (at-loop .loop .cursor .at) (sym (c .enum-told2 .given .1) ∙ at-step .step .ensures) ∙ at-loop .loop .inv)
 
 enum-known-v : tie.Need-enum-known-v Inv-loop μ-loop
 enum-known-v c = search needs
@@ -44,13 +50,31 @@ may-stand-requires : tie.Need-may-stand-requires Inv-loop μ-loop
 may-stand-requires c κs = search needs
 
 returns-3 : tie.Need-returns-3 Inv-loop μ-loop
-returns-3 c = body-whole _ _ (body-stops _ _ _ _ (stepped (c .before .before .before .before .before .before .before .before .before .args .body .now) (c .before .before .before .before .before .before .loop .cursor .at) _ _ (sym (c .before .before .before .v .given .1) ∙ c .before .before .before .before .before .step .ensures)) (sym (c .before .may-stand .ensures) ∙ not-true _ (c .if1 .taken)) ∙ c .before .before .before .before .before .before .loop .inv)
+returns-3 c =
+    let at-v = c .before .before .before in
+    let at-step = at-v .before .before in
+    let at-loop = at-step .before in
+    let start = at-loop .before .before .before in
+    let step = stepped (start .args .body .now) (at-loop .loop .cursor .at) _ _ (sym (at-v .v .given .1) ∙ at-step .step .ensures) in
+    body-whole _ _ (body-stops _ _ _ _ step (sym (c .before .may-stand .ensures) ∙ not-true _ (c .if1 .taken)) ∙ at-loop .loop .inv)
 
 loop-less : tie.Need-loop-less Inv-loop μ-loop
-loop-less c = let f = stepped (c .before .before .before .before .before .before .before .before .before .args .body .now) (c .before .before .before .before .before .before .loop .cursor .at) _ _ (sym (c .before .before .before .v .given .1) ∙ c .before .before .before .before .before .step .ensures) in omega arith
+loop-less c =
+    let at-v = c .before .before .before in
+    let at-step = at-v .before .before in
+    let at-loop = at-step .before in
+    let start = at-loop .before .before .before in
+    let step = stepped (start .args .body .now) (at-loop .loop .cursor .at) _ _ (sym (at-v .v .given .1) ∙ at-step .step .ensures) in
+    omega arith
 
 loop-again : tie.Need-loop-again Inv-loop μ-loop
-loop-again c = body-goes _ _ _ _ (stepped (c .before .before .before .before .before .before .before .before .before .args .body .now) (c .before .before .before .before .before .before .loop .cursor .at) _ _ (sym (c .before .before .before .v .given .1) ∙ c .before .before .before .before .before .step .ensures)) (sym (c .before .may-stand .ensures) ∙ not-false _ (c .if1 .left)) ∙ c .before .before .before .before .before .before .loop .inv
+loop-again c =
+    let at-v = c .before .before .before in
+    let at-step = at-v .before .before in
+    let at-loop = at-step .before in
+    let start = at-loop .before .before .before in
+    let step = stepped (start .args .body .now) (at-loop .loop .cursor .at) _ _ (sym (at-v .v .given .1) ∙ at-step .step .ensures) in
+    body-goes _ _ _ _ step (sym (c .before .may-stand .ensures) ∙ not-false _ (c .if1 .left)) ∙ at-loop .loop .inv
 
 pub is-body-spec : {M : Type 1} → statement M
 is-body-spec =

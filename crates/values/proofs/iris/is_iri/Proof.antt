@@ -22,7 +22,9 @@ is-letter-requires : tie.Need-is-letter-requires
 is-letter-requires c κs = search needs
 
 returns-2 : tie.Need-returns-2
-returns-2 c = iri-no-letter _ (c .before .before .before .if1 .left) (sym (c .before .is-letter .ensures) ∙ not-true _ (c .if2 .taken))
+returns-2 c =
+    let at-if1 = c .before .before .before in
+    iri-no-letter _ (at-if1 .if1 .left) (sym (c .before .is-letter .ensures) ∙ not-true _ (c .if2 .taken))
 
 end-requires : tie.Need-end-requires
 end-requires c κs = search needs
@@ -34,16 +36,24 @@ starts-with-requires : tie.Need-starts-with-requires
 starts-with-requires c κs = search needs
 
 returns-3 : tie.Need-returns-3
-returns-3 c = iri-no-colon _ (c .before .before .before .end .result) (omega arith) (sym (c .before .starts-with .ensures) ∙ not-true _ (c .if3 .taken))
+returns-3 c =
+    let at-end = c .before .before .before in
+    iri-no-colon _ (at-end .end .result) (omega arith) (sym (c .before .starts-with .ensures) ∙ not-true _ (c .if3 .taken))
 
 add-body : tie.Need-add-body
 add-body c = search needs
 
 sub-is-body : tie.Need-sub-is-body
-sub-is-body c = let h = one-inside (byte ":") (c .before .before .before .before .before .before .before .before .before .args .w .now) (c .before .before .before .end .result) (sym (c .before .starts-with .ensures) ∙ not-false _ (c .if3 .left)) in omega arith
+sub-is-body c =
+    let at-end = c .before .before .before in
+    let start = at-end .before .before .before .before .before .before in
+    let h = one-inside (byte ":") (start .args .w .now) (at-end .end .result) (sym (c .before .starts-with .ensures) ∙ not-false _ (c .if3 .left)) in omega arith
 
 part-is-body-start : tie.Need-part-is-body-start
-part-is-body-start c = let h = one-inside (byte ":") (c .before .before .before .before .before .before .before .before .before .args .w .now) (c .before .before .before .end .result) (sym (c .before .starts-with .ensures) ∙ not-false _ (c .if3 .left)) in omega arith
+part-is-body-start c =
+    let at-end = c .before .before .before in
+    let start = at-end .before .before .before .before .before .before in
+    let h = one-inside (byte ":") (start .args .w .now) (at-end .end .result) (sym (c .before .starts-with .ensures) ∙ not-false _ (c .if3 .left)) in omega arith
 
 part-is-body-end : tie.Need-part-is-body-end
 part-is-body-end c = search needs
@@ -53,10 +63,18 @@ is-body-requires c κs = search needs
 
 returns-4 : tie.Need-returns-4
 returns-4 c =
-    let w = c .before .before .before .before .before .before .before .before .before .before .before .args .w .now in
-    let body = c .before .before .before .before .before .end .result + 1 in
+    let at-if3 = c .before .before in
+    let at-starts-with = at-if3 .before in
+    let at-end = at-starts-with .before .before in
+    let at-if2 = at-end .before in
+    let at-is-letter = at-if2 .before in
+    let at-if1 = at-is-letter .before .before in
+    let start = at-if1 .before .before in
+    let w = start .args .w .now in
+    let body = at-end .end .result + 1 in
     c .is-body .ensures (length w) (omega (arith, part-size w body)) ∙ ap (isIriBody (length w)) (part-rest w body)
-    ∙ iri-body w (c .before .before .before .before .before .end .result) (omega arith) (c .before .before .before .before .before .before .before .before .before .if1 .left) (sym (c .before .before .before .before .before .before .before .is-letter .ensures) ∙ not-false _ (c .before .before .before .before .before .before .if2 .left)) (sym (c .before .before .before .starts-with .ensures) ∙ not-false _ (c .before .before .if3 .left))
+    ∙ iri-body w (at-end .end .result) (omega arith) (at-if1 .if1 .left) (sym (at-is-letter .is-letter .ensures) ∙ not-false _ (at-if2 .if2 .left))
+    (sym (at-starts-with .starts-with .ensures) ∙ not-false _ (at-if3 .if3 .left))
 
 pub is-iri-spec : {M : Type 1} → statement M
 is-iri-spec =

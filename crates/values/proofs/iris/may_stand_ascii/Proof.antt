@@ -16,10 +16,16 @@ is-one-of-requires : tie.Need-is-one-of-requires
 is-one-of-requires c κs = search needs
 
 returns : tie.Need-returns
-returns c = either-first _ (c .before .is-name-byte .ensures) (c .if1 .taken) ∙ iri-ascii _ (c .before .before .pre)
+returns c =
+    let start = c .before .before in
+    either-first _ (c .before .is-name-byte .ensures) (c .if1 .taken) ∙ iri-ascii _ (start .pre)
 
 returns-2 : tie.Need-returns-2
-returns-2 c = either-second (c .before .before .before .is-name-byte .ensures) (c .before .before .if1 .left) (c .is-one-of .ensures) ∙ iri-ascii _ (c .before .before .before .before .pre)
+returns-2 c =
+    let at-if1 = c .before .before in
+    let at-is-name-byte = at-if1 .before in
+    let start = at-is-name-byte .before in
+    either-second (at-is-name-byte .is-name-byte .ensures) (at-if1 .if1 .left) (c .is-one-of .ensures) ∙ iri-ascii _ (start .pre)
 
 pub may-stand-ascii-spec : {M : Type 1} → statement M
 may-stand-ascii-spec =

@@ -36,16 +36,24 @@ read-word-requires : tie.Need-read-word-requires
 read-word-requires c κs = search needs
 
 returns-2 : tie.Need-returns-2
-returns-2 c = string-leaf _ _ _ (c .before .before .before .if1 .left) _ (c .before .match .keys1) (c .string-end .ensures)
+returns-2 c =
+    let at-if1 = c .before .before .before in
+    string-leaf _ _ _ (at-if1 .if1 .left) _ (c .before .match .keys1) (c .string-end .ensures)
 
 returns-3 : tie.Need-returns-3
-returns-3 c = character-leaf _ _ _ (c .before .before .before .if1 .left) _ (c .before .match .keys2) (c .character-end .ensures)
+returns-3 c =
+    let at-if1 = c .before .before .before in
+    character-leaf _ _ _ (at-if1 .if1 .left) _ (c .before .match .keys2) (c .character-end .ensures)
 
 returns-4 : tie.Need-returns-4
-returns-4 c = backtick-leaf _ _ _ (c .before .before .before .if1 .left) _ (c .before .match .keys3) (c .backtick-end .ensures)
+returns-4 c =
+    let at-if1 = c .before .before .before in
+    backtick-leaf _ _ _ (at-if1 .if1 .left) _ (c .before .match .keys3) (c .backtick-end .ensures)
 
 returns-5 : tie.Need-returns-5
-returns-5 c = word-leaf _ _ _ (c .before .before .before .if1 .left) _ (c .before .match .rest .0 .0 .1) (c .before .match .rest .0 .1) (c .before .match .rest .1) (c .read-word .ensures)
+returns-5 c =
+    let at-if1 = c .before .before .before in
+    word-leaf _ _ _ (at-if1 .if1 .left) _ (c .before .match .rest .0 .0 .1) (c .before .match .rest .0 .1) (c .before .match .rest .1) (c .read-word .ensures)
 
 pub read-leaf-spec : {M : Type 1} → statement M
 read-leaf-spec =

@@ -14,7 +14,9 @@ cut-requires : tie.Need-cut-requires
 cut-requires c κs = search needs
 
 returns : tie.Need-returns
-returns c = cut-off _ _ _ _ _ (c .cut .ensures) (word-ends _ _ _ _ (c .before .before .word-end .ensures .0) (c .before .if1 .taken))
+returns c =
+    let at-word-end = c .before .before in
+    cut-off _ _ _ _ _ (c .cut .ensures) (word-ends _ _ _ _ (at-word-end .word-end .ensures .0) (c .before .if1 .taken))
 
 sub-word-form : tie.Need-sub-word-form
 sub-word-form c = search needs
@@ -32,12 +34,17 @@ no-value-requires : tie.Need-no-value-requires
 no-value-requires c κs = search needs
 
 returns-2 : tie.Need-returns-2
-returns-2 c = no-value _ _ _ _ _ _ (c .no-value .ensures) (omega arith) (word-bad _ _ _ _ (c .before .before .before .before .before .word-end .ensures .0) (omega arith) _ (c .before .before .word-form .ensures) (c .before .if2 .taken))
+returns-2 c =
+    let at-word-form = c .before .before in
+    let at-word-end = at-word-form .before .before .before in
+    no-value _ _ _ _ _ _ (c .no-value .ensures) (omega arith)
+    (word-bad _ _ _ _ (at-word-end .word-end .ensures .0) (omega arith) _ (at-word-form .word-form .ensures) (c .before .if2 .taken))
 
 returns-3 : tie.Need-returns-3
 returns-3 c =
-    finds _ _ _ _ _ _ _ (word-ahead _ _ _ _ (c .before .before .before .before .word-end .ensures .0) (omega arith) _ (c .before .word-form .ensures) (c .if2 .left)) (omega arith) refl
-    (word-good _ _ _ _ (c .before .before .before .before .word-end .ensures .0) (omega arith) _ (c .before .word-form .ensures) (c .if2 .left))
+    let at-word-end = c .before .before .before .before in
+    finds _ _ _ _ _ _ _ (word-ahead _ _ _ _ (at-word-end .word-end .ensures .0) (omega arith) _ (c .before .word-form .ensures) (c .if2 .left)) (omega arith) refl
+    (word-good _ _ _ _ (at-word-end .word-end .ensures .0) (omega arith) _ (c .before .word-form .ensures) (c .if2 .left))
 
 pub read-word-spec : {M : Type 1} → statement M
 read-word-spec =

@@ -15,10 +15,15 @@ shared-slice-read-if2 : tie.Need-shared-slice-read-if2
 shared-slice-read-if2 c = search needs
 
 returns-2 : tie.Need-returns-2
-returns-2 c = (count-zero _ (c .before .before .before .end .result) (omega arith) (c .before .before .if1 .left) (c .if2 .taken), omega arith)
+returns-2 c =
+    let at-if1 = c .before .before in
+    let at-end = at-if1 .before in
+    (count-zero _ (at-end .end .result) (omega arith) (at-if1 .if1 .left) (c .if2 .taken), omega arith)
 
 returns-3 : tie.Need-returns-3
-returns-3 c = (count-many _ _ (omega arith) (c .before .before .if1 .left) (c .if2 .left), omega arith)
+returns-3 c =
+    let at-if1 = c .before .before in
+    (count-many _ _ (omega arith) (at-if1 .if1 .left) (c .if2 .left), omega arith)
 
 pub count-length-spec : {M : Type 1} → statement M
 count-length-spec =

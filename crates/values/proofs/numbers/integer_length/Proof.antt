@@ -22,13 +22,22 @@ count-length-requires : tie.Need-count-length-requires
 count-length-requires c κs = search needs
 
 returns : tie.Need-returns
-returns c = (integer-zero _ _ _ (c .before .before .before .sign-length .ensures .0) (c .before .count-length .ensures .0) (c .if1 .taken), omega arith)
+returns c =
+    let at-sign-length = c .before .before .before in
+    (integer-zero _ _ _ (at-sign-length .sign-length .ensures .0) (c .before .count-length .ensures .0) (c .if1 .taken), omega arith)
 
 add-result : tie.Need-add-result
-add-result c = omega (arith, part-size (c .before .before .before .before .before .args .w .now) (c .before .before .before .sign-length .result))
+add-result c =
+    let at-sign-length = c .before .before .before in
+    let start = at-sign-length .before .before in
+    omega (arith, part-size (start .args .w .now) (at-sign-length .sign-length .result))
 
 returns-2 : tie.Need-returns-2
-returns-2 c = (integer-size _ _ _ (c .before .before .before .sign-length .ensures .0) (c .before .count-length .ensures .0) (c .if1 .left), omega (arith, part-size (c .before .before .before .before .before .args .w .now) (c .before .before .before .sign-length .result)))
+returns-2 c =
+    let at-sign-length = c .before .before .before in
+    let start = at-sign-length .before .before in
+    let size = part-size (start .args .w .now) (at-sign-length .sign-length .result) in
+    (integer-size _ _ _ (at-sign-length .sign-length .ensures .0) (c .before .count-length .ensures .0) (c .if1 .left), omega arith)
 
 pub integer-length-spec : {M : Type 1} → statement M
 integer-length-spec =

@@ -17,7 +17,9 @@ returns : tie.Need-returns
 returns c = number-none _ (sym (c .before .integer-length .ensures .0) ∙ c .if1 .taken)
 
 returns-2 : tie.Need-returns-2
-returns-2 c = number-integer _ _ (c .before .before .integer-length .ensures .0) (c .before .if1 .left) (c .if2 .taken)
+returns-2 c =
+    let at-integer-length = c .before .before in
+    number-integer _ _ (at-integer-length .integer-length .ensures .0) (c .before .if1 .left) (c .if2 .taken)
 
 add-rest : tie.Need-add-rest
 add-rest c = search needs
@@ -68,16 +70,37 @@ only-if-requires-2 : tie.Need-only-if-requires-2
 only-if-requires-2 c κs = search needs
 
 returns-3 : tie.Need-returns-3
-returns-3 c = c .point-form .ensures ∙ ap pointForm (part-rest (c .before .before .before .before .before .before .before .before .args .w .now) (c .before .before .before .before .before .before .integer-length .result + 1)) ∙ number-point _ _ (c .before .before .before .before .before .before .integer-length .ensures .0) (c .before .before .before .before .before .if1 .left) (omega arith) (c .before .before .match .keys1)
+returns-3 c =
+    let at-match = c .before .before in
+    let at-if1 = at-match .before .before .before in
+    let at-integer-length = at-if1 .before in
+    let start = at-integer-length .before .before in
+    c .point-form .ensures ∙ ap pointForm (part-rest (start .args .w .now) (at-integer-length .integer-length .result + 1))
+    ∙ number-point _ _ (at-integer-length .integer-length .ensures .0) (at-if1 .if1 .left) (omega arith) (at-match .match .keys1)
 
 returns-4 : tie.Need-returns-4
-returns-4 c = part-form isInteger (c .before .before .before .before .before .before .before .before .before .args .w .now) (c .before .before .before .before .before .before .before .integer-length .result + 1) _ _ _ (c .only-if .ensures) (c .before .is-integer .ensures) ∙ number-exponent _ _ (c .before .before .before .before .before .before .before .integer-length .ensures .0) (c .before .before .before .before .before .before .if1 .left) (omega arith) (c .before .before .before .match .keys2)
+returns-4 c =
+    let at-match = c .before .before .before in
+    let at-if1 = at-match .before .before .before in
+    let at-integer-length = at-if1 .before in
+    let start = at-integer-length .before .before in
+    part-form isInteger (start .args .w .now) (at-integer-length .integer-length .result + 1) _ _ _ (c .only-if .ensures) (c .before .is-integer .ensures)
+    ∙ number-exponent _ _ (at-integer-length .integer-length .ensures .0) (at-if1 .if1 .left) (omega arith) (at-match .match .keys2)
 
 returns-5 : tie.Need-returns-5
-returns-5 c = part-form isCount (c .before .before .before .before .before .before .before .before .before .args .w .now) (c .before .before .before .before .before .before .before .integer-length .result + 1) _ _ _ (c .only-if2 .ensures) (c .before .is-count .ensures) ∙ number-fraction _ _ (c .before .before .before .before .before .before .before .integer-length .ensures .0) (c .before .before .before .before .before .before .if1 .left) (omega arith) (c .before .before .before .match .keys3)
+returns-5 c =
+    let at-match = c .before .before .before in
+    let at-if1 = at-match .before .before .before in
+    let at-integer-length = at-if1 .before in
+    let start = at-integer-length .before .before in
+    part-form isCount (start .args .w .now) (at-integer-length .integer-length .result + 1) _ _ _ (c .only-if2 .ensures) (c .before .is-count .ensures)
+    ∙ number-fraction _ _ (at-integer-length .integer-length .ensures .0) (at-if1 .if1 .left) (omega arith) (at-match .match .keys3)
 
 returns-6 : tie.Need-returns-6
-returns-6 c = number-other _ _ (c .before .before .before .before .integer-length .ensures .0) (c .before .before .before .if1 .left) (omega arith) (c .match .rest .0 .0 .1) (c .match .rest .0 .1) (c .match .rest .1)
+returns-6 c =
+    let at-if1 = c .before .before .before in
+    let at-integer-length = at-if1 .before in
+    number-other _ _ (at-integer-length .integer-length .ensures .0) (at-if1 .if1 .left) (omega arith) (c .match .rest .0 .0 .1) (c .match .rest .0 .1) (c .match .rest .1)
 
 pub number-form-spec : {M : Type 1} → statement M
 number-form-spec =

@@ -39,10 +39,19 @@ only-if-requires : tie.Need-only-if-requires
 only-if-requires c κs = search needs
 
 returns-3 : tie.Need-returns-3
-returns-3 c = part-form isInteger (c .before .before .before .before .before .before .before .before .before .args .w .now) (c .before .before .before .before .before .before .before .end .result + 1) _ _ _ (c .only-if .ensures) (c .before .is-integer .ensures) ∙ point-exponent _ _ (omega arith) (c .before .before .before .before .before .before .if1 .left) (omega arith) (c .before .before .before .match .keys1)
+returns-3 c =
+    let at-match = c .before .before .before in
+    let at-if1 = at-match .before .before .before in
+    let at-end = at-if1 .before in
+    let start = at-end .before .before in
+    part-form isInteger (start .args .w .now) (at-end .end .result + 1) _ _ _ (c .only-if .ensures) (c .before .is-integer .ensures)
+    ∙ point-exponent _ _ (omega arith) (at-if1 .if1 .left) (omega arith) (at-match .match .keys1)
 
 returns-4 : tie.Need-returns-4
-returns-4 c = point-other _ (c .before .before .before .before .end .result) (omega arith) (c .before .before .before .if1 .left) (omega arith) (c .match .rest .1)
+returns-4 c =
+    let at-if1 = c .before .before .before in
+    let at-end = at-if1 .before in
+    point-other _ (at-end .end .result) (omega arith) (at-if1 .if1 .left) (omega arith) (c .match .rest .1)
 
 pub point-form-spec : {M : Type 1} → statement M
 point-form-spec =

@@ -20,10 +20,14 @@ is-one-of-requires : tie.Need-is-one-of-requires
 is-one-of-requires c κs = search needs
 
 returns-2 : tie.Need-returns-2
-returns-2 c = (sign-missing _ (c .before .before .before .before .if1 .left) (sym (c .before .is-one-of .ensures) ∙ not-true _ (c .if2 .taken)), omega arith)
+returns-2 c =
+    let at-if1 = c .before .before .before .before in
+    (sign-missing _ (at-if1 .if1 .left) (sym (c .before .is-one-of .ensures) ∙ not-true _ (c .if2 .taken)), omega arith)
 
 returns-3 : tie.Need-returns-3
-returns-3 c = (sign-there _ (c .before .before .before .before .if1 .left) (sym (c .before .is-one-of .ensures) ∙ not-false _ (c .if2 .left)), omega arith)
+returns-3 c =
+    let at-if1 = c .before .before .before .before in
+    (sign-there _ (at-if1 .if1 .left) (sym (c .before .is-one-of .ensures) ∙ not-false _ (c .if2 .left)), omega arith)
 
 pub sign-length-spec : {M : Type 1} → statement M
 sign-length-spec =

@@ -28,7 +28,10 @@ add-t9 : tie.Need-add-t9 Inv-loop μ-loop
 add-t9 c = search needs
 
 returns : tie.Need-returns Inv-loop μ-loop
-returns c = c .before .before .before .loop .inv .1 _ (finds _ _ _ _ _ _ _ (omega arith) (omega arith) refl (backtick-closes _ _ (c .before .before .loop-test .taken) (c .if1 .taken)))
+returns c =
+    let at-loop-test = c .before .before in
+    let at-loop = at-loop-test .before in
+    at-loop .loop .inv .1 _ (finds _ _ _ _ _ _ _ (omega arith) (omega arith) refl (backtick-closes _ _ (at-loop-test .loop-test .taken) (c .if1 .taken)))
 
 slice-aggregate-starts-with : tie.Need-slice-aggregate-starts-with Inv-loop μ-loop
 slice-aggregate-starts-with c = search needs
@@ -43,7 +46,11 @@ loop-less : tie.Need-loop-less Inv-loop μ-loop
 loop-less c = search needs
 
 loop-again : tie.Need-loop-again Inv-loop μ-loop
-loop-again c = (omega arith, λ r e. c .before .before .before .before .before .before .loop .inv .1 r (backtick-escaped _ _ (c .before .before .before .before .before .loop-test .taken) (c .before .before .before .if1 .left) (sym (c .before .starts-with .ensures) ∙ c .if2 .taken) e))
+loop-again c =
+    let at-if1 = c .before .before .before in
+    let at-loop-test = at-if1 .before .before in
+    let at-loop = at-loop-test .before in
+    (omega arith, λ r e. at-loop .loop .inv .1 r (backtick-escaped _ _ (at-loop-test .loop-test .taken) (at-if1 .if1 .left) (sym (c .before .starts-with .ensures) ∙ c .if2 .taken) e))
 
 add-i-2 : tie.Need-add-i-2 Inv-loop μ-loop
 add-i-2 c = search needs
@@ -52,13 +59,19 @@ loop-less-2 : tie.Need-loop-less-2 Inv-loop μ-loop
 loop-less-2 c = search needs
 
 loop-again-2 : tie.Need-loop-again-2 Inv-loop μ-loop
-loop-again-2 c = (omega arith, λ r e. c .before .before .before .before .before .before .loop .inv .1 r (backtick-itself _ _ (c .before .before .before .before .before .loop-test .taken) (c .before .before .before .if1 .left) (sym (c .before .starts-with .ensures) ∙ c .if2 .left) e))
+loop-again-2 c =
+    let at-if1 = c .before .before .before in
+    let at-loop-test = at-if1 .before .before in
+    let at-loop = at-loop-test .before in
+    (omega arith, λ r e. at-loop .loop .inv .1 r (backtick-itself _ _ (at-loop-test .loop-test .taken) (at-if1 .if1 .left) (sym (c .before .starts-with .ensures) ∙ c .if2 .left) e))
 
 cut-requires : tie.Need-cut-requires Inv-loop μ-loop
 cut-requires c κs = search needs
 
 returns-2 : tie.Need-returns-2 Inv-loop μ-loop
-returns-2 c = c .before .before .loop .inv .1 _ (cut-off _ _ _ _ _ (c .cut .ensures) (backtick-ends _ _ (c .before .loop-test .left)))
+returns-2 c =
+    let at-loop = c .before .before in
+    at-loop .loop .inv .1 _ (cut-off _ _ _ _ _ (c .cut .ensures) (backtick-ends _ _ (c .before .loop-test .left)))
 
 pub backtick-end-spec : {M : Type 1} → statement M
 backtick-end-spec =

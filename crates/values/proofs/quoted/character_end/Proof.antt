@@ -22,7 +22,9 @@ no-value-requires : tie.Need-no-value-requires
 no-value-requires c κs = search needs
 
 escape-end-requires : tie.Need-escape-end-requires
-escape-end-requires c κs = (c .before .before .if1 .left, c .match .keys2)
+escape-end-requires c κs =
+    let at-if1 = c .before .before in
+    (at-if1 .if1 .left, c .match .keys2)
 
 enum-known-escape : tie.Need-enum-known-escape
 enum-known-escape c = search needs
@@ -31,7 +33,11 @@ enum-told : tie.Need-enum-told
 enum-told c = search needs
 
 returns-2 : tie.Need-returns-2
-returns-2 c = character-refused _ _ (c .before .before .before .before .before .if1 .left) (c .before .before .before .match .keys2) _ (c .before .before .escape-end .ensures) _ _ (c .enum-told .given .1)
+returns-2 c =
+    let at-escape-end = c .before .before in
+    let at-match = at-escape-end .before in
+    let at-if1 = at-match .before .before in
+    character-refused _ _ (at-if1 .if1 .left) (at-match .match .keys2) _ (at-escape-end .escape-end .ensures) _ _ (c .enum-told .given .1)
 
 closing-quote-requires : tie.Need-closing-quote-requires
 closing-quote-requires c κs = search needs
@@ -47,22 +53,37 @@ no-value-requires-2 c κs = search needs
 
 returns-3 : tie.Need-returns-3
 returns-3 c =
+    let at-step = c .before .before in
+    let at-match = at-step .before in
+    let at-if1 = at-match .before .before in
     no-value _ _ _ _ _ _ (c .no-value2 .ensures) (omega arith)
-    (character-unread _ _ (c .before .before .before .before .before .if1 .left) (c .before .before .before .match .rest .0 .1) (c .before .before .before .match .rest .1) _ (c .before .before .step .ensures)
+    (character-unread _ _ (at-if1 .if1 .left) (at-match .match .rest .0 .1) (at-match .match .rest .1) _ (at-step .step .ensures)
     (λ v next e. ⊎-elim (λ k. omega (arith, rw e at k)) (λ k. omega (arith, rw e at k)) (c .before .match3 .keys2)))
 
 closing-quote-requires-2 : tie.Need-closing-quote-requires-2
 closing-quote-requires-2 c κs = search needs
 
 returns-4 : tie.Need-returns-4
-returns-4 c = no-value _ _ _ _ _ _ (c .no-value .ensures) (omega arith) (character-none _ _ (c .before .before .before .if1 .left) (c .before .match .keys1))
+returns-4 c =
+    let at-if1 = c .before .before .before in
+    no-value _ _ _ _ _ _ (c .no-value .ensures) (omega arith) (character-none _ _ (at-if1 .if1 .left) (c .before .match .keys1))
 
 returns-5 : tie.Need-returns-5
-returns-5 c = character-escaped _ _ (c .before .before .before .before .before .before .before .if1 .left) (c .before .before .before .before .before .match .keys2) _ (c .before .before .before .before .escape-end .ensures) _ _ (c .before .before .escape .given .1) (c .closing-quote .ensures)
+returns-5 c =
+    let at-escape = c .before .before in
+    let at-escape-end = at-escape .before .before in
+    let at-match = at-escape-end .before in
+    let at-if1 = at-match .before .before in
+    character-escaped _ _ (at-if1 .if1 .left) (at-match .match .keys2) _ (at-escape-end .escape-end .ensures) _ _ (at-escape .escape .given .1) (c .closing-quote .ensures)
 
 returns-6 : tie.Need-returns-6
 returns-6 c =
-    character-direct _ _ (c .before .before .before .before .before .before .before .if1 .left) (c .before .before .before .before .before .match .rest .0 .1) (c .before .before .before .before .before .match .rest .1) _ _ (stepped _ _ _ _ (sym (c .before .before .next .given .1) ∙ c .before .before .before .before .step .ensures)) (c .closing-quote2 .ensures)
+    let at-next = c .before .before in
+    let at-step = at-next .before .before in
+    let at-match = at-step .before in
+    let at-if1 = at-match .before .before in
+    character-direct _ _ (at-if1 .if1 .left) (at-match .match .rest .0 .1) (at-match .match .rest .1) _ _
+    (stepped _ _ _ _ (sym (at-next .next .given .1) ∙ at-step .step .ensures)) (c .closing-quote2 .ensures)
 
 pub character-end-spec : {M : Type 1} → statement M
 character-end-spec =

@@ -20,13 +20,17 @@ no-value-requires : tie.Need-no-value-requires
 no-value-requires c κs = search needs
 
 returns-2 : tie.Need-returns-2
-returns-2 c = λ ps. no-value _ _ _ _ _ _ (c .no-value .ensures) (omega arith) (quote-other ps _ _ (c .before .before .before .if1 .left) (c .before .if2 .taken))
+returns-2 c =
+    let at-if1 = c .before .before .before in
+    λ ps. no-value _ _ _ _ _ _ (c .no-value .ensures) (omega arith) (quote-other ps _ _ (at-if1 .if1 .left) (c .before .if2 .taken))
 
 add-t3 : tie.Need-add-t3
 add-t3 c = search needs
 
 returns-3 : tie.Need-returns-3
-returns-3 c = λ ps. finds _ _ _ _ _ _ _ (omega arith) (omega arith) refl (quote-there ps _ _ (c .before .before .if1 .left) (c .if2 .left))
+returns-3 c =
+    let at-if1 = c .before .before in
+    λ ps. finds _ _ _ _ _ _ _ (omega arith) (omega arith) refl (quote-there ps _ _ (at-if1 .if1 .left) (c .if2 .left))
 
 pub closing-quote-spec : {M : Type 1} → statement M
 closing-quote-spec =

@@ -28,10 +28,15 @@ add-t11 : tie.Need-add-t11 Inv-loop μ-loop
 add-t11 c = search needs
 
 returns : tie.Need-returns Inv-loop μ-loop
-returns c = c .before .before .before .loop .inv .1 _ (finds _ _ _ _ _ _ _ (omega arith) (omega arith) refl (string-closes _ _ (c .before .before .loop-test .taken) (c .match .keys1)))
+returns c =
+    let at-loop-test = c .before .before in
+    let at-loop = at-loop-test .before in
+    at-loop .loop .inv .1 _ (finds _ _ _ _ _ _ _ (omega arith) (omega arith) refl (string-closes _ _ (at-loop-test .loop-test .taken) (c .match .keys1)))
 
 escape-end-requires : tie.Need-escape-end-requires Inv-loop μ-loop
-escape-end-requires c κs = (c .before .before .loop-test .taken, c .match .keys2)
+escape-end-requires c κs =
+    let at-loop-test = c .before .before in
+    (at-loop-test .loop-test .taken, c .match .keys2)
 
 enum-known-escape : tie.Need-enum-known-escape Inv-loop μ-loop
 enum-known-escape c = search needs
@@ -40,21 +45,38 @@ enum-told : tie.Need-enum-told Inv-loop μ-loop
 enum-told c = search needs
 
 returns-2 : tie.Need-returns-2 Inv-loop μ-loop
-returns-2 c = c .before .before .before .before .before .before .loop .inv .1 _ (string-refused _ _ (c .before .before .before .before .before .loop-test .taken) (c .before .before .before .match .keys2) _ (c .before .before .escape-end .ensures) _ _ (c .enum-told .given .1))
+returns-2 c =
+    let at-escape-end = c .before .before in
+    let at-match = at-escape-end .before in
+    let at-loop-test = at-match .before .before in
+    let at-loop = at-loop-test .before in
+    at-loop .loop .inv .1 _ (string-refused _ _ (at-loop-test .loop-test .taken) (at-match .match .keys2) _ (at-escape-end .escape-end .ensures) _ _ (c .enum-told .given .1))
 
 loop-less : tie.Need-loop-less Inv-loop μ-loop
-loop-less c = omega (arith, c .before .before .before .escape-end .ensures .ahead _ _ (c .before .escape .given .1))
+loop-less c =
+    let at-escape-end = c .before .before .before in
+    omega (arith, at-escape-end .escape-end .ensures .ahead _ _ (c .before .escape .given .1))
 
 loop-again : tie.Need-loop-again Inv-loop μ-loop
 loop-again c =
-    let ahead = c .before .before .before .escape-end .ensures .ahead _ _ (c .before .escape .given .1) in
-    (omega arith, λ r e. c .before .before .before .before .before .before .before .loop .inv .1 r (string-escaped _ _ (c .before .before .before .before .before .before .loop-test .taken) (c .before .before .before .before .match .keys2) _ (c .before .before .before .escape-end .ensures) _ _ (c .before .escape .given .1) e))
+    let at-escape-end = c .before .before .before in
+    let at-match = at-escape-end .before in
+    let at-loop-test = at-match .before .before in
+    let at-loop = at-loop-test .before in
+    let ahead = at-escape-end .escape-end .ensures .ahead _ _ (c .before .escape .given .1) in (
+      omega arith,
+      λ r e. at-loop .loop .inv .1 r
+          (string-escaped _ _ (at-loop-test .loop-test .taken) (at-match .match .keys2) _ (at-escape-end .escape-end .ensures) _ _ (c .before .escape .given .1) e),
+    )
 
 no-value-requires : tie.Need-no-value-requires Inv-loop μ-loop
 no-value-requires c κs = search needs
 
 returns-3 : tie.Need-returns-3 Inv-loop μ-loop
-returns-3 c = c .before .before .before .before .loop .inv .1 _ (no-value _ _ _ _ _ _ (c .no-value .ensures) (omega arith) (string-breaks _ _ (c .before .before .before .loop-test .taken) (c .before .match .keys3)))
+returns-3 c =
+    let at-loop-test = c .before .before .before in
+    let at-loop = at-loop-test .before in
+    at-loop .loop .inv .1 _ (no-value _ _ _ _ _ _ (c .no-value .ensures) (omega arith) (string-breaks _ _ (at-loop-test .loop-test .taken) (c .before .match .keys3)))
 
 add-i : tie.Need-add-i Inv-loop μ-loop
 add-i c = search needs
@@ -64,14 +86,18 @@ loop-less-2 c = search needs
 
 loop-again-2 : tie.Need-loop-again-2 Inv-loop μ-loop
 loop-again-2 c =
+    let at-loop-test = c .before .before in
+    let at-loop = at-loop-test .before in
     let rest = c .match .rest in
-    (omega arith, λ r e. c .before .before .before .loop .inv .1 r (string-itself _ _ (c .before .before .loop-test .taken) (rest .0 .0 .1) (rest .0 .1) (rest .1) e))
+    (omega arith, λ r e. at-loop .loop .inv .1 r (string-itself _ _ (at-loop-test .loop-test .taken) (rest .0 .0 .1) (rest .0 .1) (rest .1) e))
 
 cut-requires : tie.Need-cut-requires Inv-loop μ-loop
 cut-requires c κs = search needs
 
 returns-4 : tie.Need-returns-4 Inv-loop μ-loop
-returns-4 c = c .before .before .loop .inv .1 _ (cut-off _ _ _ _ _ (c .cut .ensures) (string-ends _ _ (c .before .loop-test .left)))
+returns-4 c =
+    let at-loop = c .before .before in
+    at-loop .loop .inv .1 _ (cut-off _ _ _ _ _ (c .cut .ensures) (string-ends _ _ (c .before .loop-test .left)))
 
 pub string-end-spec : {M : Type 1} → statement M
 string-end-spec =

@@ -17,16 +17,25 @@ is-white-requires : tie.Need-is-white-requires
 is-white-requires c κs = search needs
 
 returns : tie.Need-returns
-returns c = ends-bracket (c .before .before .before .args .in-list) _ _ (c .before .before .before .pre) (c .match .keys1)
+returns c =
+    let start = c .before .before .before in
+    ends-bracket (start .args .in-list) _ _ (start .pre) (c .match .keys1)
 
 returns-2 : tie.Need-returns-2
-returns-2 c = ends-listed (c .before .before .before .args .in-list) _ _ (c .before .before .before .pre) (c .match .keys2)
+returns-2 c =
+    let start = c .before .before .before in
+    ends-listed (start .args .in-list) _ _ (start .pre) (c .match .keys2)
 
 returns-3 : tie.Need-returns-3
-returns-3 c = ends-slash (c .before .before .before .before .before .args .in-list) _ _ (c .before .before .before .before .before .pre) _ (c .before .before .match .keys3) (c .starts-with .ensures)
+returns-3 c =
+    let at-match = c .before .before in
+    let start = at-match .before .before .before in
+    ends-slash (start .args .in-list) _ _ (start .pre) _ (at-match .match .keys3) (c .starts-with .ensures)
 
 returns-4 : tie.Need-returns-4
-returns-4 c = ends-white (c .before .before .before .before .args .in-list) _ _ (c .before .before .before .before .pre) _ (c .before .match .rest .0 .0 .1) (c .before .match .rest .0 .1) (c .before .match .rest .1) (c .is-white .ensures)
+returns-4 c =
+    let start = c .before .before .before .before in
+    ends-white (start .args .in-list) _ _ (start .pre) _ (c .before .match .rest .0 .0 .1) (c .before .match .rest .0 .1) (c .before .match .rest .1) (c .is-white .ensures)
 
 pub ends-word-spec : {M : Type 1} → statement M
 ends-word-spec =

@@ -17,7 +17,10 @@ starts-with-requires : tie.Need-starts-with-requires
 starts-with-requires c κs = search needs
 
 returns : tie.Need-returns
-returns c = group-at _ _ _ _ (c .before .before .before .end .ensures .0) _ (c .before .before .if1 .taken) (c .starts-with .ensures)
+returns c =
+    let at-if1 = c .before .before in
+    let at-end = at-if1 .before in
+    group-at _ _ _ _ (at-end .end .ensures .0) _ (at-if1 .if1 .taken) (c .starts-with .ensures)
 
 returns-2 : tie.Need-returns-2
 returns-2 c = not-group _ _ _ _ (c .before .end .ensures .0) (c .if1 .left)

@@ -15,7 +15,9 @@ number-form-requires : tie.Need-number-form-requires
 number-form-requires c κs = search needs
 
 returns-2 : tie.Need-returns-2
-returns-2 c = c .number-form .ensures ∙ numeral-number _ (sym (c .before .before .is-uuid .ensures) ∙ c .before .if1 .left)
+returns-2 c =
+    let at-is-uuid = c .before .before in
+    c .number-form .ensures ∙ numeral-number _ (sym (at-is-uuid .is-uuid .ensures) ∙ c .before .if1 .left)
 
 pub numeral-form-spec : {M : Type 1} → statement M
 numeral-form-spec = tie.close (tie.spec is-uuid-requires returns number-form-requires returns-2)

@@ -23,7 +23,9 @@ ends-word-requires : tie.Need-ends-word-requires Inv-loop μ-loop
 ends-word-requires c κs = search needs
 
 returns : tie.Need-returns Inv-loop μ-loop
-returns c = (sym (word-stops _ _ _ (sym (c .before .ends-word .ensures) ∙ c .if1 .taken)) ∙ c .before .before .before .loop .inv .2, omega arith, omega arith)
+returns c =
+    let at-loop = c .before .before .before in
+    (sym (word-stops _ _ _ (sym (c .before .ends-word .ensures) ∙ c .if1 .taken)) ∙ at-loop .loop .inv .2, omega arith, omega arith)
 
 add-i : tie.Need-add-i Inv-loop μ-loop
 add-i c = search needs
@@ -32,7 +34,10 @@ loop-less : tie.Need-loop-less Inv-loop μ-loop
 loop-less c = search needs
 
 loop-again : tie.Need-loop-again Inv-loop μ-loop
-loop-again c = (omega arith, omega arith, sym (word-turns _ _ _ (c .before .before .loop-test .taken) (sym (c .before .ends-word .ensures) ∙ c .if1 .left)) ∙ c .before .before .before .loop .inv .2)
+loop-again c =
+    let at-loop-test = c .before .before in
+    let at-loop = at-loop-test .before in
+    (omega arith, omega arith, sym (word-turns _ _ _ (at-loop-test .loop-test .taken) (sym (c .before .ends-word .ensures) ∙ c .if1 .left)) ∙ at-loop .loop .inv .2)
 
 returns-2 : tie.Need-returns-2 Inv-loop μ-loop
 returns-2 c = (sym (word-out _ _ _ (c .loop-test .left)) ∙ c .before .loop .inv .2, omega arith, omega arith)

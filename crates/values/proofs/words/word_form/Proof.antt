@@ -32,28 +32,53 @@ numeral-form-requires : tie.Need-numeral-form-requires
 numeral-form-requires c κs = search needs
 
 returns-2 : tie.Need-returns-2
-returns-2 c = form-pascal _ _ _ (c .before .before .before .before .if1 .left) (c .before .before .match .keys1) (c .only-if .ensures) (c .before .is-token .ensures)
+returns-2 c =
+    let at-match = c .before .before in
+    let at-if1 = at-match .before .before in
+    form-pascal _ _ _ (at-if1 .if1 .left) (at-match .match .keys1) (c .only-if .ensures) (c .before .is-token .ensures)
 
 returns-3 : tie.Need-returns-3
-returns-3 c = form-camel _ _ _ (c .before .before .before .before .if1 .left) (c .before .before .match .keys2) (c .only-if2 .ensures) (c .before .is-token2 .ensures)
+returns-3 c =
+    let at-match = c .before .before in
+    let at-if1 = at-match .before .before in
+    form-camel _ _ _ (at-if1 .if1 .left) (at-match .match .keys2) (c .only-if2 .ensures) (c .before .is-token2 .ensures)
 
 returns-4 : tie.Need-returns-4
-returns-4 c = c .lettered-form .ensures ∙ form-letters _ (c .before .before .before .before .before .before .before .if1 .left) (⊎-elim (λ w. inl (omega arith)) (λ w. inr (omega arith)) (c .before .if5 .came))
+returns-4 c =
+    let at-if1 = c .before .before .before .before .before .before .before in
+    c .lettered-form .ensures ∙ form-letters _ (at-if1 .if1 .left) (⊎-elim (λ w. inl (omega arith)) (λ w. inr (omega arith)) (c .before .if5 .came))
 
 returns-5 : tie.Need-returns-5
-returns-5 c = form-none _ (c .before .before .before .if1 .left) (⊎-elim (λ h. omega arith) (λ h. omega arith)) (⊎-elim (c .before .match .rest .1) (λ h. omega arith)) (c .before .match .rest .0 .0 .1) (c .before .match .rest .0 .1)
+returns-5 c =
+    let at-if1 = c .before .before .before in
+    form-none _ (at-if1 .if1 .left) (⊎-elim (λ h. omega arith) (λ h. omega arith)) (⊎-elim (c .before .match .rest .1) (λ h. omega arith))
+    (c .before .match .rest .0 .0 .1) (c .before .match .rest .0 .1)
 
 returns-6 : tie.Need-returns-6
-returns-6 c = form-none _ (c .before .before .before .before .before .if1 .left) (⊎-elim (λ h. omega arith) (λ h. omega arith)) (⊎-elim (c .before .before .before .match .rest .1) (λ h. omega arith)) (c .before .before .before .match .rest .0 .0 .1) (c .before .before .before .match .rest .0 .1)
+returns-6 c =
+    let at-match = c .before .before .before in
+    let at-if1 = at-match .before .before in
+    form-none _ (at-if1 .if1 .left) (⊎-elim (λ h. omega arith) (λ h. omega arith)) (⊎-elim (at-match .match .rest .1) (λ h. omega arith))
+    (at-match .match .rest .0 .0 .1) (at-match .match .rest .0 .1)
 
 returns-7 : tie.Need-returns-7
-returns-7 c = form-none _ (c .before .before .before .before .before .before .before .if1 .left) (⊎-elim (λ h. omega arith) (λ h. omega arith)) (⊎-elim (c .before .before .before .before .before .match .rest .1) (λ h. omega arith)) (c .before .before .before .before .before .match .rest .0 .0 .1) (c .before .before .before .before .before .match .rest .0 .1)
+returns-7 c =
+    let at-match = c .before .before .before .before .before in
+    let at-if1 = at-match .before .before in
+    form-none _ (at-if1 .if1 .left) (⊎-elim (λ h. omega arith) (λ h. omega arith)) (⊎-elim (at-match .match .rest .1) (λ h. omega arith))
+    (at-match .match .rest .0 .0 .1) (at-match .match .rest .0 .1)
 
 returns-8 : tie.Need-returns-8
-returns-8 c = form-none _ (c .before .before .before .before .before .before .before .before .if1 .left) (⊎-elim (λ h. omega arith) (λ h. omega arith)) (⊎-elim (c .before .before .before .before .before .before .match .rest .1) (λ h. omega arith)) (c .before .before .before .before .before .before .match .rest .0 .0 .1) (c .before .before .before .before .before .before .match .rest .0 .1)
+returns-8 c =
+    let at-match = c .before .before .before .before .before .before in
+    let at-if1 = at-match .before .before in
+    form-none _ (at-if1 .if1 .left) (⊎-elim (λ h. omega arith) (λ h. omega arith)) (⊎-elim (at-match .match .rest .1) (λ h. omega arith))
+    (at-match .match .rest .0 .0 .1) (at-match .match .rest .0 .1)
 
 returns-9 : tie.Need-returns-9
-returns-9 c = c .numeral-form .ensures ∙ form-numerals _ (c .before .before .before .if1 .left) (⊎-elim (λ w. inl (w .keys3)) (λ w. inr (omega arith)) (c .before .match .came))
+returns-9 c =
+    let at-if1 = c .before .before .before in
+    c .numeral-form .ensures ∙ form-numerals _ (at-if1 .if1 .left) (⊎-elim (λ w. inl (w .keys3)) (λ w. inr (omega arith)) (c .before .match .came))
 
 pub word-form-spec : {M : Type 1} → statement M
 word-form-spec =
