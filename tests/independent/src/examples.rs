@@ -1,0 +1,485 @@
+//! Every example of document 01's "Sheets to try" and of READINGS.md that concerns tables, sheets, views and forms.
+//! The numbers in the comments are READINGS.md's; `7@4` there is (7, 4) here, an acceptance is ACCEPTED.
+
+use crate::reader::{read_sheet, table_answer, view, view_answer, Answer, Refusal};
+use crate::writer::write_form;
+
+/// Lab in children mode, Steps in content mode.
+const TABLE: &[u8] = b"\x01\x03Lab\x01\x05Steps";
+const ALL: usize = 8_192;
+const TOP: u32 = 4_294_967_295;
+const ACCEPTED: u32 = 0;
+
+fn answer(sheet: &[u8], lent: usize) -> Answer {
+    let (answer, cells) = read_sheet(TABLE, sheet, lent);
+    assert_eq!(cells.len(), lent);
+    if answer.number != ACCEPTED {
+        assert_eq!(answer.count, 0);
+        assert!(cells.iter().all(|&cell| cell == 0));
+    }
+    answer
+}
+
+fn shown(sheet: &[u8]) -> String {
+    String::from_utf8_lossy(sheet).escape_debug().to_string()
+}
+
+#[track_caller]
+fn refused_with(sheet: impl AsRef<[u8]>, lent: usize, number: u32, place: usize) {
+    let sheet = sheet.as_ref();
+    assert_eq!(answer(sheet, lent), Answer { number, place, count: 0 }, "{}", shown(sheet));
+}
+
+#[track_caller]
+fn refused(sheet: impl AsRef<[u8]>, number: u32, place: usize) {
+    refused_with(sheet, ALL, number, place);
+}
+
+/// A value at place 7 of a marker that is otherwise good.
+#[track_caller]
+fn value_refused(value: &str, number: u32, place: usize) {
+    refused(format!("<Lab n={value}"), number, place);
+}
+
+#[track_caller]
+fn value_no_kind(value: &str) {
+    value_refused(&format!("{value} />"), 6, 7);
+}
+
+#[track_caller]
+fn accepted(sheet: impl AsRef<[u8]>) {
+    let sheet = sheet.as_ref();
+    let answer = answer(sheet, ALL);
+    assert_eq!((answer.number, answer.place), (ACCEPTED, sheet.len()), "{}", shown(sheet));
+    assert!(answer.count > 0);
+}
+
+/// The form of the value at place 7.
+#[track_caller]
+fn value_form(value: &str, form: u32) {
+    let sheet = format!("<Lab n={value} />");
+    let (answer, cells) = read_sheet(TABLE, sheet.as_bytes(), ALL);
+    assert_eq!(answer.number, ACCEPTED, "{}", shown(sheet.as_bytes()));
+    assert_eq!(cells[8..16], [2, form, 0, cells[11], 5, 6, 7, 7 + value.len() as u32]);
+}
+
+#[track_caller]
+fn form(sheet: &str, right: &str) {
+    let (answer, form) = write_form(TABLE, sheet.as_bytes(), ALL, 16_384);
+    assert_eq!(String::from_utf8(form).unwrap(), right);
+    assert_eq!(answer, Answer { number: 0, place: 0, count: right.len() });
+    let (_, again) = write_form(TABLE, right.as_bytes(), ALL, 16_384);
+    assert_eq!(again, right.as_bytes());
+}
+
+/// How a value is written in the canonical form.
+#[track_caller]
+fn written(value: &str, right: &str) {
+    form(&format!("<Lab n={value} />"), &format!("<Lab n={right} />\n"));
+}
+
+#[track_caller]
+fn cells(sheet: &str, entries: &[[u32; 8]]) {
+    let (answer, cells) = read_sheet(TABLE, sheet.as_bytes(), ALL);
+    assert_eq!(answer, Answer { number: 0, place: sheet.len(), count: entries.len() });
+    let (used, rest) = cells.split_at(entries.len() * 8);
+    assert_eq!(used, entries.concat());
+    assert_eq!(rest, vec![0; ALL - used.len()]);
+}
+
+// ---- Sheets to try
+
+#[test]
+fn starred_refusals() {
+    refused("", 9, 0);
+    refused("<Lab>", 9, 5);
+    refused("<Lab n=04 />", 6, 7);
+    refused("<LABs />", 4, 1);
+    refused("<LAb />", 5, 1);
+    refused("<Lab>\n</Steps>", 8, 8);
+}
+
+#[test]
+fn starred_acceptances() {
+    form("<Lab/>", "<Lab />\n");
+    cells("<Lab u=x:y/>", &[[1, 1, TOP, 1, 1, 4, 0, 12], [2, 11, 0, 0, 5, 6, 7, 10]]);
+    cells("<Lab u=x:y/ >\n</Lab>", &[[1, 2, TOP, 1, 1, 4, 0, 20], [2, 11, 0, 0, 5, 6, 7, 11]]);
+    form("<Lab u=x:y/ >\n</Lab>", "<Lab u=x:y/ >\n</Lab>\n");
+}
+
+#[test]
+fn in_whole() {
+    let sheet = "<Lab  n=4>\n<Steps>\n\tboot 7\n</Steps>\n</Lab>";
+    let right = "<Lab n=4>\n\t<Steps>\n\t\tboot 7\n\t</Steps>\n</Lab>\n";
+    form(sheet, right);
+    assert_eq!(right.len(), 45);
+    cells(sheet, &[[1, 2, TOP, 2, 1, 4, 0, 42], [2, 4, 0, 0, 6, 7, 8, 9], [1, 3, 0, 1, 12, 17, 11, 35], [5, 0, 2, 0, 19, 19, 19, 27]]);
+}
+
+#[test]
+fn limits() {
+    accepted(format!("<Lab {}=1/>", "a".repeat(32)));
+    refused(format!("<Lab {}=1/>", "a".repeat(33)), 4, 5);
+    refused(format!("<L{}/>", "a".repeat(31)), 5, 1);
+    refused(format!("<L{}/>", "a".repeat(32)), 4, 1);
+    value_form(&format!("{}1{}", "[".repeat(8), "]".repeat(8)), 12);
+    value_refused(&format!("{}1{} />", "[".repeat(9), "]".repeat(9)), 10, 15);
+    accepted(format!("<Steps>\n\t{}\n</Steps>", "x".repeat(16_384 - 18)));
+    refused(format!("<Steps>\n\t{}\n</Steps>", "x".repeat(16_385 - 18)), 2, 16_384);
+    refused("\x01".repeat(16_385), 2, 16_384);
+}
+
+// ---- The place of 7, and what comes first
+
+#[test]
+fn readings_2_to_6() {
+    refused(" <Lab/>", 7, 1);
+    refused("\t \t<Lab/>", 7, 3);
+    refused("<Lab>\n </Lab>", 7, 7);
+    // 3
+    refused("[a]\n\n<Lab/>", 7, 4);
+    refused("[a]\n\t\n<Lab/>", 7, 5);
+    refused("[a]\n <Lab/>", 7, 4);
+    refused("[a]\r\n\r\n", 7, 5);
+    refused("[a]\n\n[b]\n<Lab/>", 7, 4);
+    // 4
+    refused("<Lab>\n[a]\n</Lab>", 7, 11);
+    refused("</Lab>", 7, 1);
+    // 5
+    refused("<Lab/x", 7, 5);
+    refused("<Lab / >", 7, 6);
+    refused("<Lab/", 9, 5);
+    // 6
+    refused("<>", 7, 1);
+    refused("<Lab =4>", 7, 5);
+    refused("<Lab>\n</>", 7, 8);
+    refused("<", 9, 1);
+}
+
+#[test]
+fn readings_7_to_11() {
+    refused("<Other?", 5, 1);
+    refused("<Lab N?", 4, 5);
+    refused_with("<Lab?", 0, 11, 1);
+    refused("<Lab?", 7, 4);
+    // 8
+    refused("<lab/>", 4, 1);
+    refused("<4ab/>", 4, 1);
+    refused("<Lab 9=1/>", 4, 5);
+    // 9
+    refused("<Lab aBCD 4>", 4, 5);
+    refused("<Lab n =1>", 7, 6);
+    refused("<Lab n>", 7, 6);
+    // 10
+    refused("<Lab n=\"a\"x=1/>", 7, 10);
+    refused("<Lab n=[1]x", 7, 10);
+    refused("<Lab n=\"a\"m=1", 7, 10);
+    // 11
+    refused("<Lab/>\n<Lab/>", 7, 7);
+    refused("<Lab/>\n</Lab>", 7, 7);
+    refused("<Lab/> x", 7, 7);
+}
+
+#[test]
+fn readings_12_to_15() {
+    accepted("<Lab>\r\n\r\n</Lab>\r\n");
+    accepted("<Steps>\r\n\tx\r\n</Steps>\r\n");
+    // 13
+    refused("<Lab></Lab>", 7, 5);
+    form("<Lab>\n</Lab>", "<Lab>\n</Lab>\n");
+    // 14
+    accepted("<Lab\t\r\n n=1\n/>");
+    refused("< Lab/>", 7, 1);
+    refused("<Lab n= 1/>", 6, 7);
+    // 15
+    accepted("\t\t<Lab>\n</Lab>");
+    accepted("<Lab>\n\t\t[a]\n\t<Lab/>\n\t\t\t</Lab>");
+}
+
+// ---- Input that ends too early
+
+#[test]
+fn readings_16_to_19() {
+    refused("<LABs", 9, 5);
+    refused("<Lab n=04", 9, 9);
+    refused("<Lab n=", 9, 7);
+    refused("<Lab n=1/", 9, 9);
+    // 17
+    for cut in ["\"\\uD8", "\"\\u{110000", "\"\\u{D800"] {
+        value_refused(cut, 9, 7 + cut.len());
+    }
+    for whole in ["\"\\uD800", "\"\\u{}", "\"\\u{1234567", "\"\\ug", "\"\\q"] {
+        value_refused(whole, 6, 7);
+    }
+    // 18
+    value_refused("'ab", 6, 7);
+    value_refused("''", 6, 7);
+    value_refused("'a", 9, 9);
+    // 19
+    refused("[a\\", 9, 3);
+    refused("[a\\\n", 7, 2);
+    refused("[a\n", 7, 2);
+}
+
+#[test]
+fn readings_20_to_23() {
+    refused("<Lab\r", 3, 4);
+    refused(b"<Lab \xC3", 3, 5);
+    // 21
+    refused("<Steps>\n</Ste", 7, 8);
+    refused("<Lab>\n</La", 9, 10);
+    refused("<Steps>\n\ta", 9, 10);
+    // 22
+    refused("<Steps>\nx\n", 7, 8);
+    // 23
+    refused(" \n\t", 9, 3);
+    accepted("<Lab/>\n \t");
+}
+
+// ---- Bytes and the mode table
+
+#[test]
+fn reading_24() {
+    refused("<Lab/>\r\r\n", 3, 6);
+    refused(b"\xEF\xBB\xBF<Lab/>", 3, 0);
+    refused(b"<Lab n=\"\x80\"/>", 3, 8);
+    refused(b"<Lab n=\"\xE0\x80\x80\"/>", 3, 8);
+    refused(b"<Lab n=\"\xED\xA0\x80\"/>", 3, 8);
+    refused(b"<Lab n=\"\xF4\x90\x80\x80\"/>", 3, 8);
+    refused(b"<Lab n=\"\x7F\x01\"/>", 3, 8);
+    accepted("<Lab n=\"\u{85}\u{FFFE}\u{FEFF}\"/>");
+}
+
+#[test]
+fn readings_25_and_26() {
+    let refused = |table: &[u8], place| assert_eq!(table_answer(table), Answer { number: 1, place, count: 0 });
+    refused(b"\x01\x03la", 4);
+    refused(b"\x01\x03lab\x00", 2);
+    refused(b"\x00", 1);
+    refused(b"", 0);
+    refused(b"\x01\x03Lab\x01\x03Lab", 7);
+    refused(b"\x02\x03Lab\x03Lab\x00", 6);
+    refused(b"\x41", 0);
+    refused(b"\x01\x00", 1);
+    refused(b"\x01\x21", 1);
+    refused(b"\x01", 1);
+    refused(b"\x00\x00\x00", 2);
+    assert_eq!(table_answer(b"\x00\x00"), Answer { number: 0, place: 2, count: 0 });
+    assert_eq!(table_answer(TABLE), Answer { number: 0, place: 12, count: 2 });
+    assert_eq!(read_sheet(b"\x00", b"\xFF", 9), (Answer { number: 1, place: 1, count: 0 }, vec![0; 9]));
+}
+
+// ---- Entries and their room
+
+#[test]
+fn readings_27_and_28() {
+    let many = |children| format!("<Lab>\n{}</Lab>", "<Lab/>\n".repeat(children));
+    assert_eq!(answer(many(1_023).as_bytes(), 100_000).count, 1_024);
+    refused_with(many(1_024), 100_000, 11, 6 + 1_023 * 7 + 1);
+    refused_with("<Lab n=4 />", 15, 11, 5);
+    assert_eq!(answer(b"<Lab n=4 />", 16).count, 2);
+    // 28
+    refused_with("<Lab n=4 />", 8, 11, 5);
+    refused_with("<Lab n=[4] />", 16, 11, 8);
+    refused_with("[]\n<Lab/>", 0, 11, 1);
+}
+
+#[test]
+fn readings_29_and_30() {
+    refused_with("<Lab n=04 />", 8, 6, 7);
+    refused_with("<Lab n=4", 8, 9, 8);
+    refused_with("<Lab n=\"a\"", 8, 11, 5);
+    refused_with("<Lab n=\"a\"?", 8, 11, 5);
+    refused_with("[a]?", 0, 11, 1);
+    refused_with("[a", 0, 9, 2);
+    // 30
+    refused_with("<Steps>\n", 8, 11, 8);
+    refused_with("<Steps>", 8, 9, 7);
+    refused_with("<Steps>?", 8, 7, 7);
+}
+
+#[test]
+fn readings_31_to_33() {
+    let open = "<Lab>\n".repeat(32);
+    refused(format!("{open}<La"), 9, 195);
+    refused(format!("{open}<>"), 7, 193);
+    refused(format!("{open}<lab/>"), 4, 193);
+    refused(format!("{open}<Lab/>"), 10, 192);
+    refused(format!("{open}<Other/>"), 10, 192);
+    refused_with(format!("{open}<Lab/>"), 32 * 8, 10, 192);
+    accepted(format!("{}<Lab/>\n{}", "<Lab>\n".repeat(31), "</Lab>\n".repeat(31)));
+    value_refused(&"[".repeat(9), 10, 15);
+    accepted(format!("<Lab n={0}{1} m={0}{1}/>", "[".repeat(8), "]".repeat(8)));
+    // 32
+    cells("<Steps/>", &[[1, 1, TOP, 0, 1, 6, 0, 8]]);
+    accepted("<Lab n=1 n=2/>");
+    // 33
+    cells(
+        "[r]\n<Lab n=[1, [2]]>\n[c]\n<Steps>\n</Steps>\n</Lab>",
+        &[
+            [4, 0, TOP, 0, 1, 1, 1, 2],
+            [1, 2, TOP, 3, 5, 8, 4, 48],
+            [2, 12, 1, 2, 9, 10, 11, 19],
+            [3, 4, 2, 0, 12, 12, 12, 13],
+            [3, 12, 2, 1, 15, 15, 15, 18],
+            [3, 4, 4, 0, 16, 16, 16, 17],
+            [4, 0, 1, 0, 22, 22, 22, 23],
+            [1, 3, 1, 1, 26, 31, 25, 41],
+            [5, 0, 7, 0, 33, 33, 33, 33],
+        ],
+    );
+}
+
+// ---- Closing markers and Content
+
+#[test]
+fn readings_34_and_35() {
+    refused("<Lab>\n</LABs>", 8, 8);
+    refused("<Lab>\n</Steps?", 8, 8);
+    refused("<Lab>\n</Lab?", 7, 11);
+    refused("<Lab>\n</Lab >", 7, 11);
+    // 35
+    refused("<Steps>\n</Lab>", 7, 8);
+    refused("<Steps>\n</Steps>x", 7, 8);
+}
+
+#[test]
+fn readings_36_and_37() {
+    accepted("<Steps\tn=1>\n\tx\n</Steps>");
+    cells("<Steps\n\t\tn=1>\r\n\tx\r\n</Steps>", &[[1, 3, TOP, 2, 1, 6, 0, 27], [2, 4, 0, 0, 9, 10, 11, 12], [5, 0, 0, 0, 15, 15, 15, 19]]);
+    // 37
+    form("<Steps>\n\t\t\t \n\tx \n\t\t</Steps>\n</Steps>", "<Steps>\n\n\tx \n\t\t</Steps>\n</Steps>\n");
+    accepted("\t<Steps>\n\t\tx\n\t</Steps>");
+    refused("\t<Steps>\n\tx\n\t</Steps>", 7, 10);
+    form("<Steps>\n\t</Steps>\n</Steps>", "<Steps>\n\t</Steps>\n</Steps>\n");
+    cells("\t<Steps>\n\n\t</Steps> ", &[[1, 3, TOP, 1, 2, 7, 1, 19], [5, 0, 0, 0, 9, 9, 9, 10]]);
+}
+
+// ---- Values
+
+#[test]
+fn readings_38_and_39() {
+    refused("<Lab n=>", 6, 7);
+    refused("<Lab n=/>", 6, 7);
+    refused("<Lab n= />", 6, 7);
+    // 39
+    for list in ["[ ]", "[ 1]", "[1 ]", "[1 ,2]", "[1,]", "[,1]", "[\"a\"b]", "[1>"] {
+        value_no_kind(list);
+    }
+    value_refused("[1 ", 6, 7);
+    value_refused("[1", 9, 9);
+    value_refused("[1,", 9, 10);
+    value_refused("[1, ", 9, 11);
+}
+
+#[test]
+fn readings_40_and_41() {
+    value_form("[x:[a]", 12);
+    value_refused("[x:[a]] />", 7, 13);
+    // 41
+    value_refused("[04,[[[[[[[[[", 6, 7);
+    value_refused("[[[[[[[[[?", 10, 15);
+    value_refused("[[[[[[[[[", 10, 15);
+}
+
+#[test]
+fn reading_42() {
+    let good = [
+        ("1/0", 7),
+        ("-0", 4),
+        ("+0", 4),
+        ("0e0", 6),
+        ("1e+0", 6),
+        ("0.00", 5),
+        ("x:", 11),
+        ("x:%zz", 11),
+        ("true", 3),
+        ("false", 3),
+        ("$ABC", 8),
+        ("~aBCD", 9),
+        ("123e4567-E89b-12d3-a456-426614174000", 10),
+        ("\"a\"", 1),
+        ("'a'", 2),
+        ("`a`", 1),
+        ("[]", 12),
+        ("1.5E-3", 6),
+    ];
+    for (value, form) in good {
+        value_form(value, form);
+    }
+    let bad = [
+        "1.", ".5", "1/-2", "01/2", "1e05", "1/02", "truex", "-Infinity", "Infinity", "$", "$a", "~A", "~", "-", "1e", "1/2/3", "-x:y",
+        "1:", "123e4567-E89b-12d3-a456-42661417400", "1e1/2", "1i", "1.5p", "#fff", "{now}", "(1)", "set[1]",
+    ];
+    for value in bad {
+        value_no_kind(value);
+    }
+}
+
+#[test]
+fn readings_43_to_45() {
+    for scalar in ['\u{A0}', '\u{200F}', '\u{FEFF}', '\u{10000}', '\u{E1000}', '\u{EFFFD}', '\u{DFFFD}'] {
+        value_form(&format!("x:{scalar}"), 11);
+    }
+    for scalar in ['\u{E000}', '\u{E0FFF}', '\u{FDD0}', '\u{1FFFE}', '\u{80}', '\u{F0000}', '\u{FFF0}'] {
+        value_no_kind(&format!("x:{scalar}"));
+    }
+    value_no_kind("\u{e9}:a");
+    // 44
+    written("\"\t\"", "\"\\t\"");
+    written("'\t'", "'\\t'");
+    value_no_kind("\"\\uD83D\\uDE00\"");
+    written("\"\\u{000041}\"", "\"A\"");
+    value_no_kind("\"\\u{0000041}\"");
+    // 45
+    written("`a\\\\`b`", "\"a\\\\`b\"");
+    written("` a\r\n\t b\u{A0} `", "\"a b\u{A0}\"");
+}
+
+// ---- Canonical form and view
+
+#[test]
+fn reading_46() {
+    let sheet = b"<Lab u=x:y/ >\n</Lab>";
+    assert_eq!(write_form(TABLE, sheet, 8, 0), (Answer { number: 11, place: 5, count: 0 }, vec![]));
+    assert_eq!(write_form(TABLE, sheet, 16, 20), (Answer { number: 12, place: 0, count: 0 }, vec![]));
+    assert_eq!(write_form(TABLE, sheet, 16, 21).0, Answer { number: 0, place: 0, count: 21 });
+    form("<Lab a=1 b=2 u=x:/ >\n</Lab>", "<Lab\n\ta=1\n\tb=2\n\tu=x:/\n>\n</Lab>\n");
+    form("<Lab u=x:/ />", "<Lab u=x:/ />\n");
+    let wide = format!("<Steps>\n{}</Steps>", "\tx\n".repeat(5_450));
+    let text = format!("<Lab>\n{wide}\n</Lab>");
+    assert_eq!(answer(text.as_bytes(), ALL).number, ACCEPTED);
+    assert_eq!(write_form(TABLE, text.as_bytes(), ALL, 70_000).0, Answer { number: 12, place: 0, count: 0 });
+}
+
+#[test]
+fn reading_47() {
+    form("[ ]\n<Lab/>", "[]\n<Lab />\n");
+    form("[ a\\] \t b\\\\ ]\n<Lab/>", "[a\\] b\\\\]\n<Lab />\n");
+    written("'\"'", "'\"'");
+    written("'\\''", "'\\''");
+    written("\"'\\\"\\\\\"", "\"'\\\"\\\\\"");
+    written("\"\\n\\r\\u{1F}\\u007f\\u0000\\u0080\u{85}\"", "\"\\n\\r\\u{1f}\\u{7f}\\u{0}\u{80}\u{85}\"");
+    written("[1,\n2,[ABCDEF01-0000-0000-0000-ABCDEF012345,`a  b`]]", "[1, 2, [abcdef01-0000-0000-0000-abcdef012345, \"a b\"]]");
+    form(
+        "[a]\n<Lab a=1 b=2>\n<Lab/>\n[b]\n[c]\n<Lab a=1\nb=2 c=3/>\n\n<Steps/>\n</Lab>",
+        "[a]\n<Lab a=1 b=2>\n\t<Lab />\n\n\t[b]\n\t[c]\n\t<Lab\n\t\ta=1\n\t\tb=2\n\t\tc=3\n\t/>\n\n\t<Steps />\n</Lab>\n",
+    );
+}
+
+#[test]
+fn reading_48() {
+    let refused = Answer { number: 17, place: 0, count: 0 };
+    let sheet = b"<Lab n=4 />";
+    let (_, cells) = read_sheet(TABLE, sheet, 17);
+    assert_eq!(view(sheet, &cells, 0), Ok(&sheet[..]));
+    assert_eq!(view(sheet, &cells, 1), Ok(&b"4"[..]));
+    assert_eq!(view(sheet, &cells, 2), Err(Refusal { number: 17, place: 0 }));
+    assert_eq!(view_answer(sheet, &cells, 1), Answer { number: 0, place: 0, count: 1 });
+    assert_eq!(view_answer(sheet, &cells, usize::MAX), refused);
+    assert_eq!(view_answer(sheet, &cells[..15], 1), refused);
+    assert_eq!(view_answer(sheet, &[0; 8], 0), refused);
+    assert_eq!(view_answer(sheet, &[9, 0, 0, 0, 0, 0, 11, 11], 0), Answer { number: 0, place: 0, count: 0 });
+    assert_eq!(view_answer(sheet, &[9, 0, 0, 0, 0, 0, 11, 12], 0), refused);
+    assert_eq!(view_answer(sheet, &[9, 0, 0, 0, 0, 0, 5, 4], 0), refused);
+}

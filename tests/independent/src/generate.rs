@@ -1,0 +1,618 @@
+//! Makes request lines from a seed: tables and sheets that are valid, nearly valid, damaged, cut or at a limit.
+//! Follows document 01's grammar to print trees in random layouts; each printed rule may be broken once.
+
+use crate::reader::{read_sheet, CONCEPTS_DEEP, ENTRIES, ENTRY_CELLS, NAME_BYTES, SHEET_BYTES};
+use crate::to_hex;
+use crate::values::LISTS_DEEP;
+use crate::writer::write_form;
+
+/// Cells for every entry a sheet may have.
+const PLENTY: usize = ENTRIES * ENTRY_CELLS;
+
+/// `count` request lines, none with a sheet longer than `longest`.
+pub fn requests(seed: u64, count: usize, longest: usize) -> Vec<String> {
+    let mut chance = Chance(seed);
+    let mut lines = Vec::new();
+    while lines.len() < count {
+        let names = Names::random(&mut chance);
+        match chance.below(200) {
+            0..=19 => lines.push(format!("table {}", to_hex(&damaged_table(&mut chance, &names)))),
+            20..=27 => add_limit(&mut lines, &mut chance, longest),
+            28 => add_cuts(&mut lines, &mut chance, &names, longest),
+            29..=69 => {
+                let sheet = pieces_in_a_row(&mut chance);
+                add_sheet(&mut lines, &mut chance, &Names::papers().table(), sheet.as_bytes(), longest);
+            }
+            70..=89 => {
+                let sheet = one_value(&mut chance);
+                add_sheet(&mut lines, &mut chance, &Names::papers().table(), sheet.as_bytes(), longest);
+            }
+            _ => {
+                let sheet = any_sheet(&mut chance, &names);
+                add_sheet(&mut lines, &mut chance, &names.table(), &sheet, longest);
+            }
+        }
+    }
+    lines.truncate(count);
+    lines
+}
+
+/// The requests about one sheet: its reading, mostly its form, and at times a view.
+fn add_sheet(lines: &mut Vec<String>, chance: &mut Chance, table: &[u8], sheet: &[u8], longest: usize) {
+    if sheet.len() > longest {
+        return;
+    }
+    let lent = random_lent(chance, table, sheet);
+    let rest = format!("{} {} {}", to_hex(table), to_hex(sheet), lent);
+    lines.push(format!("sheet {rest}"));
+    if !chance.one_in(4) {
+        lines.push(format!("form {rest}"));
+    }
+    if chance.one_in(8) {
+        lines.push(format!("form {rest} {}", random_room(chance, table, sheet)));
+    }
+    if chance.one_in(8) {
+        lines.push(view_request(chance, table, sheet));
+    }
+}
+
+/// Room for a form: exactly enough, one byte too few, or more than any form may take.
+fn random_room(chance: &mut Chance, table: &[u8], sheet: &[u8]) -> usize {
+    let enough = write_form(table, sheet, PLENTY, SHEET_BYTES).0.count;
+    *chance.pick(&[&enough, &enough.saturating_sub(1), &(4 * SHEET_BYTES)])
+}
+
+/// A view of some entry, at times over cells of which one was changed or the last were taken away.
+fn view_request(chance: &mut Chance, table: &[u8], sheet: &[u8]) -> String {
+    let (answer, mut cells) = read_sheet(table, sheet, PLENTY);
+    cells.truncate((answer.count + chance.below(2)) * ENTRY_CELLS);
+    if !cells.is_empty() && chance.one_in(2) {
+        let length = sheet.len() as u32;
+        let at = chance.below(cells.len());
+        cells[at] = *chance.pick(&[&0, &1, &9, &length, &(length + 1), &u32::MAX]);
+    }
+    if chance.one_in(8) {
+        cells.truncate(chance.below(cells.len() + 1));
+    }
+    let number = chance.below(answer.count + 2);
+    let cells: String = cells.iter().map(|cell| format!(" {cell}")).collect();
+    format!("view {} {number}{cells}", to_hex(sheet))
+}
+
+/// Cells to lend: mostly plenty or more; else none, few, exactly enough or one too few.
+fn random_lent(chance: &mut Chance, table: &[u8], sheet: &[u8]) -> usize {
+    let enough = read_sheet(table, sheet, PLENTY).0.count * ENTRY_CELLS;
+    match chance.below(20) {
+        0 => 0,
+        1 => chance.below(40),
+        2 => enough + chance.below(12),
+        3..=6 => PLENTY + chance.below(40),
+        7..=8 if enough > 0 => enough,
+        9..=10 if enough > 0 => enough - 1,
+        _ => PLENTY,
+    }
+}
+
+fn any_sheet(chance: &mut Chance, names: &Names) -> Vec<u8> {
+    let slips = chance.one_in(2);
+    let concepts = if chance.one_in(20) { 60 } else { 1 + chance.below(6) };
+    let sheet = Printer::new(chance, names, slips).sheet(concepts);
+    match chance.below(4) {
+        0 if !slips => damaged(chance, sheet),
+        1 if chance.one_in(4) => {
+            let length = chance.below(sheet.len() + 1);
+            sheet[..length].to_vec()
+        }
+        _ => sheet,
+    }
+}
+
+/// One sheet cut at every byte.
+fn add_cuts(lines: &mut Vec<String>, chance: &mut Chance, names: &Names, longest: usize) {
+    let sheet = Printer::new(chance, names, false).sheet(2);
+    let table = names.table();
+    if sheet.len() > longest.min(200) {
+        return;
+    }
+    for length in 0..=sheet.len() {
+        let lent = if chance.one_in(4) { chance.below(40) } else { PLENTY };
+        lines.push(format!("sheet {} {} {}", to_hex(&table), to_hex(&sheet[..length]), lent));
+    }
+}
+
+// ---- Chance
+
+/// A splitmix64 sequence.
+struct Chance(u64);
+
+impl Chance {
+    fn next(&mut self) -> u64 {
+        self.0 = self.0.wrapping_add(0x9E37_79B9_7F4A_7C15);
+        let mut mixed = self.0;
+        mixed = (mixed ^ (mixed >> 30)).wrapping_mul(0xBF58_476D_1CE4_E5B9);
+        mixed = (mixed ^ (mixed >> 27)).wrapping_mul(0x94D0_49BB_1331_11EB);
+        mixed ^ (mixed >> 31)
+    }
+
+    fn below(&mut self, bound: usize) -> usize {
+        (self.next() % bound as u64) as usize
+    }
+
+    fn one_in(&mut self, odds: usize) -> bool {
+        self.below(odds) == 0
+    }
+
+    fn pick<'a, T: ?Sized>(&mut self, choices: &[&'a T]) -> &'a T {
+        choices[self.below(choices.len())]
+    }
+}
+
+// ---- Names and mode tables
+
+/// The names of a mode table.
+struct Names {
+    children: Vec<String>,
+    content: Vec<String>,
+}
+
+impl Names {
+    fn of(children: &[&str], content: &[&str]) -> Names {
+        let owned = |names: &[&str]| names.iter().map(|name| name.to_string()).collect();
+        Names { children: owned(children), content: owned(content) }
+    }
+
+    /// The table of "Sheets to try".
+    fn papers() -> Names {
+        Names::of(&["Lab"], &["Steps"])
+    }
+
+    /// The paper's table mostly, else one of a few others.
+    fn random(chance: &mut Chance) -> Names {
+        match chance.below(8) {
+            0 => Names::of(&["A", "Ab", "AbC", "AB"], &["A1", "Abc"]),
+            1 => Names::of(&["Lab", "Steps"], &[]),
+            2 => Names::of(&["Box"], &["La", "Lab", "Labs"]),
+            3 => Names::of(&["L123456789012345678901234567890x"], &["Steps"]),
+            _ => Names::papers(),
+        }
+    }
+
+    /// The table's bytes: two sections, each a count byte and names with their length bytes.
+    fn table(&self) -> Vec<u8> {
+        let mut table = Vec::new();
+        for section in [&self.children, &self.content] {
+            table.push(section.len() as u8);
+            for name in section {
+                table.push(name.len() as u8);
+                table.extend_from_slice(name.as_bytes());
+            }
+        }
+        table
+    }
+}
+
+/// A table: as it is, with a byte changed, cut, or with a name that the rule forbids.
+fn damaged_table(chance: &mut Chance, names: &Names) -> Vec<u8> {
+    let bad_names = ["lab", "LABs", "4ab", "La-b", "", "Lab", "Steps", "La b", "L\u{e9}"];
+    let long = "L".to_string() + &"a".repeat(chance.below(40));
+    let many: Vec<String> = (0..60 + chance.below(8)).map(|number| format!("N{number}")).collect();
+    match chance.below(6) {
+        0 => names.table(),
+        1 => damaged(chance, names.table()),
+        2 => names.table()[..chance.below(names.table().len())].to_vec(),
+        3 => Names { children: vec!["Lab".into(), chance.pick(&bad_names).into()], content: vec!["Steps".into()] }.table(),
+        4 => Names { children: vec!["Lab".into()], content: vec![chance.pick(&bad_names).into(), long] }.table(),
+        _ => Names { children: many, content: vec!["Steps".into()] }.table(),
+    }
+}
+
+// ---- Pieces of the grammar in no order
+
+/// A beginning that reads well, then pieces as chance strings them together.
+fn pieces_in_a_row(chance: &mut Chance) -> String {
+    let lines =
+        ["<Lab", ">", "/>", "</Lab>", "</Steps>", "\n", "\r\n", "\t", " ", "[a]", "[", "]", "x", "<Steps", "<", "/", "n=1", "\\", "\n\t"];
+    let values = [
+        "\"", "\\", "\\u", "{", "}", "0", "1", "D8", "'", "`", "[", "]", ",", " ", "\n", "/", ">", "x:", ".", "e", "-", "a", "true",
+        "\u{e9}", "$", "~",
+    ];
+    let (start, pieces) = match chance.below(7) {
+        0 => ("", &lines[..]),
+        1 => ("<Lab>\n", &lines[..]),
+        2 => ("\t<Steps>\n", &lines[..]),
+        3 => ("[a", &lines[..]),
+        4 => ("<Lab n=\"", &values[..]),
+        5 => ("<Lab n=[", &values[..]),
+        _ => ("<Lab n=", &values[..]),
+    };
+    let mut sheet = start.to_string();
+    for _ in 0..chance.below(8) {
+        sheet.push_str(chance.pick(pieces));
+    }
+    let end = chance.pick(&["", "", "/>", " />", ">\n</Lab>", "\n\t</Steps>", "\n</Lab>", "]/>", "\"/>"]);
+    sheet + end
+}
+
+/// A marker with one value: a spelling that fits or nearly fits a kind, or digits, signs and letters in a row.
+fn one_value(chance: &mut Chance) -> String {
+    let parts = [
+        "0", "1", "10", ".", "/", "e", "E", "+", "-", ":", "x", "A", "$", "~", "_", "%", "\u{e9}", "\u{E0FFF}", "\u{E1000}", "\u{1FFFD}",
+        "\u{1FFFE}",
+    ];
+    let value = match chance.below(4) {
+        0 => chance.pick(&WORDS).to_string(),
+        1 | 2 => chance.pick(&FAULTY_VALUES).to_string(),
+        _ => (0..1 + chance.below(5)).map(|_| chance.pick(&parts)).collect(),
+    };
+    let (before, behind) = *chance.pick(&[&("", ""), &("[", "]"), &("[1,", ",x:]"), &("[[], ", ", \"a\"]")]);
+    format!("<Lab n={before}{value}{behind}{}", chance.pick(&["/>", " />", ">\n</Lab>", " m=1/>", ""]))
+}
+
+// ---- Damage
+
+/// The bytes with one to three of them changed, inserted or removed.
+fn damaged(chance: &mut Chance, mut bytes: Vec<u8>) -> Vec<u8> {
+    for _ in 0..1 + chance.below(3) {
+        let at = chance.below(bytes.len() + 1);
+        match chance.below(3) {
+            0 => bytes.insert(at, random_byte(chance)),
+            1 if at < bytes.len() => bytes[at] = random_byte(chance),
+            _ if at < bytes.len() => drop(bytes.remove(at)),
+            _ => {}
+        }
+    }
+    bytes
+}
+
+fn random_byte(chance: &mut Chance) -> u8 {
+    let telling = b"<>/[]\"'`\\=,: \t\n\r$~-+.eE01u{}LabSx\x7F\x00\xEF\xC3\x80";
+    match chance.below(6) {
+        0 => chance.below(256) as u8,
+        _ => telling[chance.below(telling.len())],
+    }
+}
+
+// ---- Limits
+
+/// A sheet at or just past one of the limits of "Sizes", with more room for its form than any form may take.
+fn add_limit(lines: &mut Vec<String>, chance: &mut Chance, longest: usize) {
+    let over = chance.below(2);
+    let sheet = match chance.below(7) {
+        0 => format!("<Lab {}=1/>", "n".repeat(NAME_BYTES + over)),
+        1 => format!("<L{}/>", "a".repeat(NAME_BYTES - 1 + over)),
+        2 => format!("<Lab n={}1{} />", "[".repeat(LISTS_DEEP + over), "]".repeat(LISTS_DEEP + over)),
+        3 => nested(CONCEPTS_DEEP + over),
+        4 => format!("<Lab>\n{}</Lab>", "<Lab/>\n".repeat(ENTRIES - 1 + over)),
+        5 => of_length(SHEET_BYTES + over),
+        _ => of_length(SHEET_BYTES - 1 + over) + "\n",
+    };
+    let table = Names::papers().table();
+    if sheet.len() <= longest {
+        lines.push(format!("form {} {} {PLENTY} {}", to_hex(&table), to_hex(sheet.as_bytes()), 4 * SHEET_BYTES));
+    }
+    add_sheet(lines, chance, &table, sheet.as_bytes(), longest);
+}
+
+/// `depth` Concepts in one another.
+fn nested(depth: usize) -> String {
+    format!("{}<Lab/>\n{}", "<Lab>\n".repeat(depth - 1), "</Lab>\n".repeat(depth - 1))
+}
+
+/// A sheet of `length` bytes, most of them Content.
+fn of_length(length: usize) -> String {
+    let frame = "<Steps>\n\t\n</Steps>".len();
+    format!("<Steps>\n\t{}\n</Steps>", "x".repeat(length - frame))
+}
+
+// ---- Sheets
+
+/// Prints a random tree in a random layout. Where `kept` is set, one rule is broken after that many kept ones.
+struct Printer<'a> {
+    chance: &'a mut Chance,
+    names: &'a Names,
+    kept: Option<usize>,
+    text: Vec<u8>,
+}
+
+impl<'a> Printer<'a> {
+    fn new(chance: &'a mut Chance, names: &'a Names, slips: bool) -> Printer<'a> {
+        let kept = slips.then(|| chance.below(50));
+        Printer { chance, names, kept, text: Vec::new() }
+    }
+
+    fn put(&mut self, text: &str) {
+        self.text.extend_from_slice(text.as_bytes());
+    }
+
+    fn put_one_of(&mut self, choices: &[&str]) {
+        let choice = self.chance.pick(choices);
+        self.put(choice);
+    }
+
+    /// Whether the rule that is printed next is broken.
+    fn slip(&mut self) -> bool {
+        let now = self.kept == Some(0);
+        self.kept = self.kept.and_then(|kept| kept.checked_sub(1));
+        now
+    }
+
+    /// Puts what stands rightly, or the one fault.
+    fn put_or_slip(&mut self, right: &str, faults: &[&str]) {
+        if self.slip() {
+            self.put_one_of(faults);
+        } else {
+            self.put(right);
+        }
+    }
+
+    fn sheet(mut self, concepts: usize) -> Vec<u8> {
+        let mut left = concepts;
+        if self.slip() {
+            let faults: [&[u8]; 5] = [b"\xEF\xBB\xBF", b"\x01", b"\xC3(", b"\r", b"x"];
+            let fault = self.chance.pick(&faults);
+            self.text.extend_from_slice(fault);
+        }
+        self.blank_lines();
+        self.concept(&mut left, 0);
+        self.blank_lines();
+        if self.slip() {
+            self.put_one_of(&["x", "<Lab/>", "</Lab>", "[a]", " \t<", "\n\nx", "\x7F"]);
+        }
+        if self.chance.one_in(3) {
+            while self.text.last().is_some_and(|last| b" \t\r\n".contains(last)) {
+                self.text.pop();
+            }
+        }
+        self.text
+    }
+
+    // ---- Lines
+
+    fn line_end(&mut self) {
+        self.put_one_of(&["\n", "\n", "\n", "\r\n"]);
+    }
+
+    /// The end of a marker's or an annotation's line.
+    fn end_line(&mut self) {
+        if self.chance.one_in(4) {
+            self.put_one_of(&[" ", "\t", " \t "]);
+        }
+        if self.slip() {
+            self.put_one_of(&["x", "<", "[", ">", " 1"]);
+        }
+        self.line_end();
+    }
+
+    fn blank_lines(&mut self) {
+        while self.chance.one_in(5) {
+            self.put_one_of(&["", " ", "\t", "\t \t"]);
+            self.line_end();
+        }
+    }
+
+    /// The tabs before a marker or an annotation; gives their number.
+    fn tabs(&mut self, depth: usize) -> usize {
+        let tabs = if self.chance.one_in(3) { self.chance.below(4) } else { depth };
+        self.put(&"\t".repeat(tabs));
+        if self.slip() {
+            self.put_one_of(&[" ", "x", "\n ", ">"]);
+        }
+        tabs
+    }
+
+    fn white_space(&mut self) {
+        for _ in 0..1 + self.chance.below(2) * self.chance.below(3) {
+            self.put_one_of(&[" ", " ", " ", "\t", "\n", "\r\n"]);
+        }
+    }
+
+    // ---- Concepts
+
+    /// A Concept with its annotations. `left` Concepts may still be printed, this one with them.
+    fn concept(&mut self, left: &mut usize, depth: usize) {
+        *left = left.saturating_sub(1);
+        while self.chance.one_in(5) {
+            self.annotation(depth);
+        }
+        let is_content = self.names.children.is_empty() || (!self.names.content.is_empty() && self.chance.one_in(3));
+        let known = if is_content { &self.names.content } else { &self.names.children };
+        let name = known[self.chance.below(known.len())].clone();
+        let tabs = self.tabs(depth);
+        self.put_or_slip("<", &["", "< ", "<<", "</", "<\t"]);
+        self.put_or_slip(&name, &["lab", "LABs", "Other", "4ab", "", "LAb", "Stepss", "L-b"]);
+        self.traits();
+        if self.chance.one_in(4) {
+            self.put_or_slip("/>", &["/", "/ >", "//>", "/x"]);
+            self.end_line();
+            return;
+        }
+        self.put_or_slip(">", &["", ">>", "/ >", "=>"]);
+        self.end_line();
+        if is_content {
+            self.content(&name, tabs);
+        } else {
+            self.children(&name, left, depth);
+        }
+        self.end_line();
+    }
+
+    fn children(&mut self, name: &str, left: &mut usize, depth: usize) {
+        self.blank_lines();
+        while *left > 0 && !self.chance.one_in(4) {
+            self.concept(left, depth + 1);
+            self.blank_lines();
+        }
+        if self.slip() {
+            self.annotation(depth);
+        }
+        self.tabs(depth);
+        if self.kept.is_some() && self.chance.one_in(3) {
+            self.kept = Some(0);
+        }
+        let right = format!("</{name}>");
+        let spaced = format!("</{name} >");
+        let longer = format!("</{name}s>");
+        self.put_or_slip(&right, &[&spaced, &longer, "</>", "</LABs>", "</Steps?", "</", "<", "< /Lab>", "</Lab?"]);
+    }
+
+    /// Content lines at one tab more than the marker, and the closing line.
+    fn content(&mut self, name: &str, tabs: usize) {
+        while !self.chance.one_in(3) {
+            if self.chance.one_in(4) {
+                self.put_one_of(&["", " ", "\t\t\t\t", " \t"]);
+            } else {
+                self.content_line(name, tabs);
+            }
+            self.line_end();
+        }
+        let closing = format!("{}</{name}>", "\t".repeat(tabs));
+        let faults = [format!("{closing}x"), format!(" {closing}"), format!("{}</Lab>", "\t".repeat(tabs)), closing[1..].to_string()];
+        self.put_or_slip(&closing, &[&faults[0], &faults[1], &faults[2], &faults[3]]);
+    }
+
+    fn content_line(&mut self, name: &str, tabs: usize) {
+        let deeper = "\t".repeat(tabs + 1);
+        self.put_or_slip(&deeper, &[" ", &deeper[1..], "", " \t\t\t"]);
+        if self.chance.one_in(5) {
+            self.put(&format!("</{name}>"));
+        }
+        self.put_one_of(&["boot 7", "a", " x ", "\ty", "<Lab>", "\\[", "\u{e9}\u{1F600} ", "[a]", "0\t"]);
+    }
+
+    fn annotation(&mut self, depth: usize) {
+        self.tabs(depth);
+        self.put("[");
+        let texts = ["", " ", "a", "  a \t b ", "\\]", "\\\\", "a\\\\ ", "[", "<Lab>", "\u{e9}", "\t\\] x\\]\t"];
+        for _ in 0..self.chance.below(3) {
+            self.put_one_of(&texts);
+        }
+        self.put_or_slip("]", &["\n]", "\\n]", "\\", "", "]]", "\\ ]", "\r\n"]);
+        self.end_line();
+        if self.slip() {
+            self.put_one_of(&["\n", " \n", "\t\r\n", " "]);
+        }
+    }
+
+    // ---- Traits and values
+
+    fn traits(&mut self) {
+        for _ in 0..self.chance.below(3) + self.chance.below(3) * self.chance.below(2) {
+            self.white_space();
+            let name = self.chance.pick(&["n", "u", "aB", "abC9", "x1", "aBCd"]);
+            self.put_or_slip(name, &["N", "aBCD", "9", "", "-", "n-", "n1234567890123456789012345678901x"]);
+            self.put_or_slip("=", &["", " =", "= ", "==", ":"]);
+            self.value(LISTS_DEEP, false);
+            if self.slip() {
+                self.put_one_of(&["x", "\"", ",", "]", "[", "m=1", "'a'"]);
+            }
+        }
+        let slash_last = self.text.last() == Some(&b'/');
+        if self.chance.one_in(2) || (slash_last && !self.slip()) {
+            self.white_space();
+        }
+    }
+
+    /// A value of a random kind. A word is kept from running into the byte behind it by the caller's white space.
+    fn value(&mut self, lists: usize, in_list: bool) {
+        if self.slip() {
+            self.put_one_of(&FAULTY_VALUES);
+            return;
+        }
+        match self.chance.below(9) {
+            0 | 1 if lists > 0 => self.list(lists - 1),
+            2 => self.quoted('"'),
+            3 => self.quoted('\''),
+            4 => self.backtick(),
+            5 => self.iri(in_list),
+            _ => self.put_one_of(&WORDS),
+        }
+    }
+
+    fn list(&mut self, lists: usize) {
+        self.put_or_slip("[", &["[ ", "[,", "[[[[[[[[["]);
+        let items = self.chance.below(4);
+        for number in 0..items {
+            if number > 0 {
+                self.put_or_slip(",", &[" ,", ";", ",,", ""]);
+                if self.chance.one_in(2) {
+                    self.white_space();
+                }
+            }
+            self.value(lists, true);
+        }
+        self.put_or_slip("]", &[" ]", ",]", "", ">", "/>", "]]"]);
+    }
+
+    /// A string or a character.
+    fn quoted(&mut self, quote: char) {
+        let (own, other) = if quote == '"' { ("\\\"", "'") } else { ("\\'", "\"") };
+        let scalars = [
+            "a", "\\\\", "\\n", "\\r", "\\t", "\t", "\\u0041", "\\u00e9", "\\u{7f}", "\\u{0}", "\\u{1F}", "\\u{10ffff}", "\\u{00000a}",
+            "\u{e9}", "\u{1F600}", "\u{2028}", " ", "\u{85}", "\u{FEFF}", "/", ">", "<", own, other,
+        ];
+        let count = if quote == '"' { self.chance.below(5) } else { 1 };
+        self.put(&quote.to_string());
+        for _ in 0..count {
+            self.put_one_of(&scalars);
+        }
+        self.put(&quote.to_string());
+    }
+
+    fn backtick(&mut self) {
+        self.put("`");
+        for _ in 0..self.chance.below(6) {
+            self.put_one_of(&["a", " ", "\t", "\n", "\r\n", "\\`", "\\", "\\\\`", "\"", "'", "\u{e9}", "\u{a0}", "\\n", ">"]);
+        }
+        if self.text.last() == Some(&b'\\') {
+            self.put(" ");
+        }
+        self.put("`");
+    }
+
+    fn iri(&mut self, in_list: bool) {
+        self.put_one_of(&["x:", "http://", "a+b-c.9:", "Z:"]);
+        for _ in 0..self.chance.below(5) {
+            self.put_one_of(&["y", "/", "?q=1", "#f", "[", "@!$&'()*+;=", "%zz", "\u{a0}", "\u{e9}", "\u{FEFF}", "\u{E1000}", ":", "~._-"]);
+        }
+        if !in_list {
+            self.put_one_of(&["", "", ",]", "/"]);
+        }
+    }
+}
+
+/// Words that are values.
+const WORDS: [&str; 29] = [
+    "true", "false", "0", "-0", "+7", "12", "1.50", "-0.0", "1e5", "2.5E-3", "0e0", "1e+0", "1/2", "-3/4", "1/0", "$Ab", "$ABCD", "$A1",
+    "~a", "~aBCD", "~a1", "123e4567-E89b-12d3-a456-426614174000", "AAAAAAAA-BBBB-CCCC-DDDD-EEEEEEEEEEEE",
+    "00000000-0000-0000-0000-000000000000", "99", "4", "1E1", "10/10", "0.00",
+];
+
+/// Spellings that are no value, or that stop short of one.
+const FAULTY_VALUES: [&str; 70] = [
+    "", "04", "1.", ".5", "1/-2", "01/2", "1e05", "1/02", "truex", "Infinity", "-Infinity", "+", "-", "1e", "e1", "1/2/3", "00", "--1",
+    "1:", "-x:y", "$", "$a", "~A", "~", "$A-", "True", "null", "1.5.", "1.2e", "1e1.5", "1.e1", "+-1", "1/", "/2",
+    "123e4567-E89b-12d3-a456-42661417400", "123e4567-E89b-12d3-a45-6426614174000", "g23e4567-E89b-12d3-a456-426614174000", "x:\u{E000}",
+    "x:\u{FDD0}", "x:\u{1FFFE}", "x:\"", "x:<", "x:\\", "x:{", "x:|", "x:^", "\u{e9}:a", ":a", "\"a", "\"\\q\"", "\"\\uD800\"",
+    "\"\\u{}\"", "\"\\u{1234567}\"", "\"\\u{110000}\"", "\"\\'\"", "\"a\nb\"", "''", "'ab'", "'", "'\n'", "'\\\"'", "'\\uDFFF'", "[1",
+    "`a", "[ ]", "[1 ]", "\"\\u{0000041}\"", "'''", "$aB", "x:\u{E0FFF}",
+];
+
+#[cfg(test)]
+mod tests {
+    use super::*;
+
+    /// Where no rule is broken the sheet is accepted, and the form of its form is the form itself.
+    #[test]
+    fn printed_sheets_are_accepted() {
+        for seed in 0..2_000 {
+            let mut chance = Chance(seed);
+            let names = Names::random(&mut chance);
+            let sheet = Printer::new(&mut chance, &names, false).sheet(8);
+            let shown = String::from_utf8_lossy(&sheet).escape_debug().to_string();
+            assert_eq!(read_sheet(&names.table(), &sheet, PLENTY).0.number, 0, "{shown}");
+            let (_, form) = write_form(&names.table(), &sheet, PLENTY, SHEET_BYTES);
+            let (answer, again) = write_form(&names.table(), &form, PLENTY, SHEET_BYTES);
+            assert_eq!((answer.number, again), (0, form), "{shown}");
+        }
+    }
+}

@@ -1,0 +1,147 @@
+//! Answers requests on standard input, one a line, or prints such requests made from a seed.
+//! The answers are those of document 01 as reader.rs and writer.rs read it; see README.md for the lines.
+
+mod definitions;
+mod generate;
+mod reader;
+mod values;
+mod writer;
+
+#[cfg(test)]
+mod examples;
+
+use reader::{read_sheet, table_answer, view, view_answer, Answer, SHEET_BYTES};
+use std::io::{BufRead, Write};
+use writer::write_form;
+
+fn main() {
+    let words: Vec<String> = std::env::args().skip(1).collect();
+    let words: Vec<&str> = words.iter().map(String::as_str).collect();
+    let done = match words.as_slice() {
+        [] => answer_requests(),
+        ["generate", seed, count] => print_requests(seed, count, "16385"),
+        ["generate", seed, count, longest] => print_requests(seed, count, longest),
+        ["definitions", specs] => print_module(specs),
+        _ => usage(),
+    };
+    if !done {
+        std::process::exit(2);
+    }
+}
+
+fn usage() -> bool {
+    eprintln!("independent                                answers request lines");
+    eprintln!("independent generate SEED COUNT [LONGEST]  prints COUNT request lines, with sheets up to LONGEST bytes");
+    eprintln!("independent definitions SPECS              prints request lines and their answers as statements about SPECS");
+    false
+}
+
+/// Prints `count` request lines; false where an argument is no number.
+fn print_requests(seed: &str, count: &str, longest: &str) -> bool {
+    let (Ok(seed), Ok(count), Ok(longest)) = (seed.parse(), count.parse(), longest.parse()) else {
+        return usage();
+    };
+    let mut out = std::io::stdout().lock();
+    generate::requests(seed, count, longest).iter().all(|line| writeln!(out, "{line}").is_ok())
+}
+
+/// Prints the request lines of standard input as a module of statements about the definitions in the folder `specs`.
+fn print_module(specs: &str) -> bool {
+    let Ok(requests) = std::io::stdin().lock().lines().collect::<Result<Vec<String>, _>>() else {
+        return false;
+    };
+    match definitions::module(specs.as_ref(), &requests) {
+        Ok(module) => write!(std::io::stdout(), "{module}").is_ok(),
+        Err(_) => false,
+    }
+}
+
+fn answer_requests() -> bool {
+    let mut out = std::io::stdout().lock();
+    for line in std::io::stdin().lock().lines() {
+        let Ok(line) = line else {
+            return false;
+        };
+        let answer = answer_line(&line).unwrap_or("not a request".to_string());
+        if writeln!(out, "{answer}").is_err() {
+            return false;
+        }
+    }
+    true
+}
+
+/// A table, a sheet and the number of cells lent, as the words of a request.
+struct SheetRequest {
+    table: Vec<u8>,
+    sheet: Vec<u8>,
+    lent: usize,
+}
+
+impl SheetRequest {
+    fn of(words: &[&str]) -> Option<SheetRequest> {
+        let [table, sheet, lent] = words else {
+            return None;
+        };
+        Some(SheetRequest { table: from_hex(table)?, sheet: from_hex(sheet)?, lent: lent.parse().ok()? })
+    }
+}
+
+/// The answer to one request, or nothing where the line is none.
+fn answer_line(line: &str) -> Option<String> {
+    let words: Vec<&str> = line.split_whitespace().collect();
+    match words.as_slice() {
+        ["table", table] => Some(in_words(table_answer(&from_hex(table)?))),
+        ["sheet", rest @ ..] => {
+            let request = SheetRequest::of(rest)?;
+            let (answer, cells) = read_sheet(&request.table, &request.sheet, request.lent);
+            Some(in_words(answer) + &cells_in_words(&cells))
+        }
+        ["form", rest @ .., room] if rest.len() == 3 => form_words(&SheetRequest::of(rest)?, room.parse().ok()?),
+        ["form", rest @ ..] => form_words(&SheetRequest::of(rest)?, SHEET_BYTES),
+        ["view", sheet, number, cells @ ..] => view_words(&from_hex(sheet)?, number.parse().ok()?, &numbers(cells)?),
+        _ => None,
+    }
+}
+
+/// The canonical form in hex, or the refusal.
+fn form_words(request: &SheetRequest, room: usize) -> Option<String> {
+    let (answer, form) = write_form(&request.table, &request.sheet, request.lent, room);
+    Some(if answer.number == 0 { to_hex(&form) } else { in_words(answer) })
+}
+
+fn numbers(words: &[&str]) -> Option<Vec<u32>> {
+    words.iter().map(|word| word.parse().ok()).collect()
+}
+
+/// The second call's answer, and the part in hex, which is empty where the view is refused.
+fn view_words(sheet: &[u8], number: usize, cells: &[u32]) -> Option<String> {
+    let part = view(sheet, cells, number).unwrap_or_default();
+    Some(format!("{} {}", in_words(view_answer(sheet, cells, number)), to_hex(part)))
+}
+
+fn in_words(answer: Answer) -> String {
+    format!("{} {} {}", answer.number, answer.place, answer.count)
+}
+
+/// The cells up to the last that is not zero, each after a space.
+fn cells_in_words(cells: &[u32]) -> String {
+    let used = cells.iter().rposition(|&cell| cell != 0).map_or(0, |last| last + 1);
+    cells[..used].iter().map(|cell| format!(" {cell}")).collect()
+}
+
+/// Bytes from pairs of hex digits; "-" is no bytes.
+fn from_hex(hex: &str) -> Option<Vec<u8>> {
+    if hex == "-" {
+        return Some(Vec::new());
+    }
+    let digits: Option<Vec<u32>> = hex.chars().map(|digit| digit.to_digit(16)).collect();
+    let pairs = digits.filter(|digits| digits.len() % 2 == 0)?;
+    Some(pairs.chunks(2).map(|pair| (pair[0] * 16 + pair[1]) as u8).collect())
+}
+
+fn to_hex(bytes: &[u8]) -> String {
+    if bytes.is_empty() {
+        return "-".to_string();
+    }
+    bytes.iter().map(|byte| format!("{byte:02x}")).collect()
+}

@@ -1,0 +1,339 @@
+//! Reads one value of a trait or a list: where its spelling ends, of which kind it is, what it spells.
+//! Follows document 01, "Values", with 001 §12 (numbers), §14 (IRIs) and §19 (lists).
+
+use crate::reader::{Refusal, Span};
+
+/// How deep lists may stand in one another, the outermost counting as one ("Sizes").
+pub const LISTS_DEEP: usize = 8;
+
+/// A value: where its spelling stands and what it is.
+#[derive(Debug)]
+pub struct Value {
+    pub span: Span,
+    pub kind: Kind,
+}
+
+/// The kinds of "Values". Strings and characters carry what they spell, since the writer spells it anew.
+#[derive(Debug)]
+pub enum Kind {
+    String(String),
+    Character(char),
+    Boolean,
+    Integer,
+    Decimal,
+    Scientific,
+    Fraction,
+    /// "$" and a Pascal-case run
+    Enumerated,
+    /// "~" and a camel-case run
+    Lookup,
+    Uuid,
+    Iri,
+    List(Vec<Value>),
+}
+
+impl Kind {
+    /// The value form of "Entries".
+    pub fn form(&self) -> u32 {
+        match self {
+            Kind::String(_) => 1,
+            Kind::Character(_) => 2,
+            Kind::Boolean => 3,
+            Kind::Integer => 4,
+            Kind::Decimal => 5,
+            Kind::Scientific => 6,
+            Kind::Fraction => 7,
+            Kind::Enumerated => 8,
+            Kind::Lookup => 9,
+            Kind::Uuid => 10,
+            Kind::Iri => 11,
+            Kind::List(_) => 12,
+        }
+    }
+}
+
+/// Why a value is not read: refusals 6, 9 and 10, before their places are known.
+enum Fault {
+    NoKindFits,
+    InputEnds,
+    TooDeep { bracket: usize },
+}
+
+/// A scalar or a whole value, and the place just past it.
+type Past<T> = Result<(T, usize), Fault>;
+
+/// Reads the whole value of a trait, which begins at `start`. 6 is placed at the whole value, 9 at the input's end.
+pub fn read_value(sheet: &[u8], start: usize) -> Result<Value, Refusal> {
+    value(sheet, start, LISTS_DEEP, false).map_err(|fault| match fault {
+        Fault::NoKindFits => Refusal { number: 6, place: start },
+        Fault::InputEnds => Refusal { number: 9, place: sheet.len() },
+        Fault::TooDeep { bracket } => Refusal { number: 10, place: bracket },
+    })
+}
+
+/// A value by its first byte. `lists` is how many lists may still open, `in_list` whether "," and "]" end a word.
+fn value(sheet: &[u8], start: usize, lists: usize, in_list: bool) -> Result<Value, Fault> {
+    let (kind, end) = match byte(sheet, start)? {
+        b'"' => string(sheet, start)?,
+        b'\'' => character(sheet, start)?,
+        b'`' => backtick(sheet, start)?,
+        b'[' => list(sheet, start, lists)?,
+        _ => word(sheet, start, in_list)?,
+    };
+    Ok(Value { span: Span { start, end }, kind })
+}
+
+fn byte(sheet: &[u8], at: usize) -> Result<u8, Fault> {
+    sheet.get(at).copied().ok_or(Fault::InputEnds)
+}
+
+/// The scalar that begins at `at`. The sheet's bytes are known to be UTF-8.
+fn scalar(sheet: &[u8], at: usize) -> (char, usize) {
+    let length = match sheet[at] {
+        0..=0x7F => 1,
+        0x80..=0xDF => 2,
+        0xE0..=0xEF => 3,
+        0xF0..=0xFF => 4,
+    };
+    let text = std::str::from_utf8(&sheet[at..at + length]).expect("the bytes were checked");
+    (text.chars().next().expect("one scalar"), at + length)
+}
+
+fn string(sheet: &[u8], start: usize) -> Past<Kind> {
+    let mut text = String::new();
+    let mut at = start + 1;
+    loop {
+        let (one, past) = match byte(sheet, at)? {
+            b'"' => return Ok((Kind::String(text), at + 1)),
+            b'\n' | b'\r' => return Err(Fault::NoKindFits),
+            b'\\' => escape(sheet, at, b'"')?,
+            _ => scalar(sheet, at),
+        };
+        text.push(one);
+        at = past;
+    }
+}
+
+fn character(sheet: &[u8], start: usize) -> Past<Kind> {
+    let (one, past) = match byte(sheet, start + 1)? {
+        b'\'' | b'\n' | b'\r' => return Err(Fault::NoKindFits),
+        b'\\' => escape(sheet, start + 1, b'\'')?,
+        _ => scalar(sheet, start + 1),
+    };
+    match byte(sheet, past)? {
+        b'\'' => Ok((Kind::Character(one), past + 1)),
+        _ => Err(Fault::NoKindFits),
+    }
+}
+
+/// An escape whose backslash stands at `at`; `quote` is the quote that may be escaped.
+fn escape(sheet: &[u8], at: usize, quote: u8) -> Past<char> {
+    match byte(sheet, at + 1)? {
+        b'\\' => Ok(('\\', at + 2)),
+        b'n' => Ok(('\n', at + 2)),
+        b'r' => Ok(('\r', at + 2)),
+        b't' => Ok(('\t', at + 2)),
+        b'u' if byte(sheet, at + 2)? == b'{' => escape_in_braces(sheet, at + 3),
+        b'u' => escape_of_four(sheet, at + 2),
+        other if other == quote => Ok((quote as char, at + 2)),
+        _ => Err(Fault::NoKindFits),
+    }
+}
+
+/// `\uXXXX`, judged at its fourth digit.
+fn escape_of_four(sheet: &[u8], digits: usize) -> Past<char> {
+    let mut number = 0;
+    for at in digits..digits + 4 {
+        number = number * 16 + hex_digit(byte(sheet, at)?).ok_or(Fault::NoKindFits)?;
+    }
+    Ok((char::from_u32(number).ok_or(Fault::NoKindFits)?, digits + 4))
+}
+
+/// `\u{..}` with 1 to 6 digits, judged at its brace or at the first byte that cannot stand there.
+fn escape_in_braces(sheet: &[u8], digits: usize) -> Past<char> {
+    let mut number = 0;
+    let mut at = digits;
+    while byte(sheet, at)? != b'}' {
+        let digit = hex_digit(sheet[at]).ok_or(Fault::NoKindFits)?;
+        if at == digits + 6 {
+            return Err(Fault::NoKindFits);
+        }
+        number = number * 16 + digit;
+        at += 1;
+    }
+    if at == digits {
+        return Err(Fault::NoKindFits);
+    }
+    Ok((char::from_u32(number).ok_or(Fault::NoKindFits)?, at + 1))
+}
+
+fn hex_digit(byte: u8) -> Option<u32> {
+    (byte as char).to_digit(16)
+}
+
+/// A backtick string: "\`" is the only escape; white space runs become one space, the ends are trimmed.
+fn backtick(sheet: &[u8], start: usize) -> Past<Kind> {
+    let mut raw = String::new();
+    let mut at = start + 1;
+    while byte(sheet, at)? != b'`' {
+        if sheet[at..].starts_with(b"\\`") {
+            raw.push('`');
+            at += 2;
+        } else {
+            let (one, past) = scalar(sheet, at);
+            raw.push(one);
+            at = past;
+        }
+    }
+    Ok((Kind::String(spaces_joined(&raw)), at + 1))
+}
+
+/// The text with each run of spaces, tabs and line ends made one space, and none at its ends.
+pub fn spaces_joined(text: &str) -> String {
+    let pieces: Vec<&str> = text.split([' ', '\t', '\n', '\r']).filter(|piece| !piece.is_empty()).collect();
+    pieces.join(" ")
+}
+
+/// A list: no items, or values split by "," and optional white space (001 §19).
+fn list(sheet: &[u8], start: usize, lists: usize) -> Past<Kind> {
+    if lists == 0 {
+        return Err(Fault::TooDeep { bracket: start });
+    }
+    let mut items = Vec::new();
+    let mut at = start + 1;
+    if byte(sheet, at)? == b']' {
+        return Ok((Kind::List(items), at + 1));
+    }
+    loop {
+        let item = value(sheet, at, lists - 1, true)?;
+        at = item.span.end;
+        items.push(item);
+        match byte(sheet, at)? {
+            b']' => return Ok((Kind::List(items), at + 1)),
+            b',' => at = past_white_space(sheet, at + 1),
+            _ => return Err(Fault::NoKindFits),
+        }
+    }
+}
+
+/// White space is spaces, tabs and line ends; a CR is known to stand before a LF.
+pub fn is_white_space(byte: u8) -> bool {
+    matches!(byte, b' ' | b'\t' | b'\n' | b'\r')
+}
+
+fn past_white_space(sheet: &[u8], mut at: usize) -> usize {
+    while at < sheet.len() && is_white_space(sheet[at]) {
+        at += 1;
+    }
+    at
+}
+
+/// A word is judged only at its end, so one that runs to the end of input is cut, whatever it spells so far.
+fn word(sheet: &[u8], start: usize, in_list: bool) -> Past<Kind> {
+    let mut at = start;
+    while !ends_word(sheet, at, in_list) {
+        at += 1;
+    }
+    byte(sheet, at)?;
+    let kind = kind_of_word(&sheet[start..at]).ok_or(Fault::NoKindFits)?;
+    Ok((kind, at))
+}
+
+fn ends_word(sheet: &[u8], at: usize, in_list: bool) -> bool {
+    match sheet.get(at) {
+        None | Some(b'>') => true,
+        Some(b'/') => sheet.get(at + 1) == Some(&b'>'),
+        Some(b',' | b']') => in_list,
+        Some(&other) => is_white_space(other),
+    }
+}
+
+fn kind_of_word(word: &[u8]) -> Option<Kind> {
+    if word == b"true" || word == b"false" {
+        return Some(Kind::Boolean);
+    }
+    match word.first()? {
+        b'$' => is_run(&word[1..], u8::is_ascii_uppercase).then_some(Kind::Enumerated),
+        b'~' => is_run(&word[1..], u8::is_ascii_lowercase).then_some(Kind::Lookup),
+        _ if is_uuid(word) => Some(Kind::Uuid),
+        _ if is_iri(word) => Some(Kind::Iri),
+        _ => kind_of_number(word),
+    }
+}
+
+/// Letters and digits of which the first meets `first`: Pascal case or camel case.
+fn is_run(run: &[u8], first: fn(&u8) -> bool) -> bool {
+    run.first().is_some_and(first) && run.iter().all(u8::is_ascii_alphanumeric)
+}
+
+fn is_uuid(word: &[u8]) -> bool {
+    let parts: Vec<&[u8]> = word.split(|&byte| byte == b'-').collect();
+    let lengths: Vec<usize> = parts.iter().map(|part| part.len()).collect();
+    lengths == [8, 4, 4, 4, 12] && parts.iter().all(|part| part.iter().all(u8::is_ascii_hexdigit))
+}
+
+/// Integer, decimal, scientific and fraction of 001 §12, without leading zeros (000 §5.4).
+fn kind_of_number(word: &[u8]) -> Option<Kind> {
+    let unsigned = without_sign(word);
+    if let Some((integer, denominator)) = split_at(unsigned, |byte| byte == b'/') {
+        return (is_whole(integer) && is_whole(denominator)).then_some(Kind::Fraction);
+    }
+    if let Some((front, exponent)) = split_at(unsigned, |byte| byte == b'e' || byte == b'E') {
+        let fits = (is_whole(front) || is_decimal(front)) && is_whole(without_sign(exponent));
+        return fits.then_some(Kind::Scientific);
+    }
+    if is_decimal(unsigned) {
+        return Some(Kind::Decimal);
+    }
+    is_whole(unsigned).then_some(Kind::Integer)
+}
+
+fn without_sign(digits: &[u8]) -> &[u8] {
+    match digits {
+        [b'+' | b'-', rest @ ..] => rest,
+        _ => digits,
+    }
+}
+
+/// What stands before and behind the first byte that meets `splits`.
+fn split_at(bytes: &[u8], splits: fn(u8) -> bool) -> Option<(&[u8], &[u8])> {
+    let at = bytes.iter().position(|&byte| splits(byte))?;
+    Some((&bytes[..at], &bytes[at + 1..]))
+}
+
+fn is_digits(digits: &[u8]) -> bool {
+    !digits.is_empty() && digits.iter().all(u8::is_ascii_digit)
+}
+
+/// Digits without a leading zero; the single digit 0 is good.
+fn is_whole(digits: &[u8]) -> bool {
+    is_digits(digits) && (digits.len() == 1 || digits[0] != b'0')
+}
+
+fn is_decimal(unsigned: &[u8]) -> bool {
+    split_at(unsigned, |byte| byte == b'.').is_some_and(|(integer, rest)| is_whole(integer) && is_digits(rest))
+}
+
+/// Scheme, ":", body of 001 §14. The scheme ends at the first colon.
+fn is_iri(word: &[u8]) -> bool {
+    let Some((scheme, body)) = split_at(word, |byte| byte == b':') else {
+        return false;
+    };
+    let scheme_byte = |byte: &u8| byte.is_ascii_alphanumeric() || b"+-.".contains(byte);
+    let body_text = std::str::from_utf8(body).expect("the bytes were checked");
+    scheme.first().is_some_and(u8::is_ascii_alphabetic) && scheme.iter().all(scheme_byte) && body_text.chars().all(is_iri_scalar)
+}
+
+fn is_iri_scalar(one: char) -> bool {
+    one.is_ascii_alphanumeric() || "-._~:/?#[]@!$&'()*+,;=%".contains(one) || is_ucschar(one as u32)
+}
+
+/// RFC 3987's ucschar ranges, as 001 §14 prints them.
+fn is_ucschar(scalar: u32) -> bool {
+    match scalar {
+        0xA0..=0xD7FF | 0xF900..=0xFDCF | 0xFDF0..=0xFFEF => true,
+        0x10000..=0xDFFFF => scalar & 0xFFFF <= 0xFFFD,
+        0xE1000..=0xEFFFD => true,
+        _ => false,
+    }
+}
