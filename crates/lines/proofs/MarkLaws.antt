@@ -1,17 +1,16 @@
 -- Closing markers and the endings of opening ones at a place: a law for each way out. Over plain lists. Assumes nothing.
 use Prim.Native.Nat.{ℕ, _+_, _-_, _≤_, _<_}
 use mathlib.Core.Path.{_≡_, refl, sym, ap, _∙_}
-use mathlib.Core.Bool.{Bool, true, false, not}
-use mathlib.Core.List.{List, [], _∷_, _++_}
+use mathlib.Core.Bool.{true, false}
+use mathlib.Core.List.{List, [], _∷_}
 use native.Mathlib.Omega.{arith}
 use lib.ListN.{length, take, drop, getD, length-drop, length-append, drop-of-length-le}
 use lib.Seq.{take-append-seam, drop-drop}
 use lib.Dec.{eqb}
 use native.Mathlib.Nat.{sub-zero}
-use borrow.Author.Tests.{not-true, not-false}
 use Rattle.paper.specs.declared.Refusal.{Refusal}
 use Rattle.paper.specs.declared.Refusal.the-variants.{Cut, Due, ClosingName}
-use Rattle.paper.specs.Found.{Found, found, fault, andThen, placeIn}
+use Rattle.paper.specs.Found.{placeIn}
 use Rattle.paper.specs.Bytes.{byte, bytes, same, startsWith}
 use Rattle.paper.specs.Reading.{due, name, ending, closing}
 use Rattle.paper.proofs.Tests.{split, true-false, when-true, when-false}
@@ -26,47 +25,65 @@ use Rattle.lines.specs.declared.part.Part.{Part}
 use Rattle.lines.specs.declared.part.Part.the-variants.{Read, Refused}
 use Rattle.lines.proofs.Crossing.{FoundAt, found-at, refused-then, says-refused}
 
--- ---- a byte that is due, and a name, found at a place
+-- ---- a closing marker: "<", "/", its name, ">"; the answer on each is what is known
 
-pub due-found : (s : List ℕ) (b at : ℕ) (r : Part) (end made mine : ℕ) → at ≤ length s → seen r ≡ passed s (due b (drop at s)) → r ≡ Read end made mine → FoundAt (λ a. 0) (λ a. 0) (λ c left. drop at s ≡ b ∷ left) s at (due b (drop at s)) end made mine
-due-found s b at r end made mine h e q = found-at (λ a. 0) (λ a. 0) s r (λ c left. drop at s ≡ b ∷ left) at (due b (drop at s)) end made mine e (due-reads b (drop at s)) h q
-
--- ---- a closing marker
-
-module _ (s w : List ℕ) (at : ℕ) where
-  pub no-less : (r : Part) (why : Refusal) (place : ℕ) → seen r ≡ passed s (due (byte "<") (drop at s)) → r ≡ Refused why place → seen r ≡ passed s (closing w (drop at s))
+module _ (s : List ℕ) (at : ℕ) where
+  pub no-less : (w : List ℕ) (r : Part) (why : Refusal) (place : ℕ) → seen r ≡ passed s (due (byte "<") (drop at s)) → r ≡ Refused why place → seen r ≡ passed s (closing w (drop at s))
   unfolding closing
-  no-less r why place e q = refused-then (λ a. 0) (λ a. 0) s r (λ a. 0) (λ a. 0) _ (due (byte "<") (drop at s)) why place e q
+  no-less w r why place e q = refused-then (λ a. 0) (λ a. 0) s r (λ a. 0) (λ a. 0) _ (due (byte "<") (drop at s)) why place e q
 
-  module _ (b slash : ℕ) (f : due (byte "<") (drop at s) ≡ found b (drop slash s)) where
-    pub no-slash : (r : Part) (why : Refusal) (place : ℕ) → seen r ≡ passed s (due (byte "/") (drop slash s)) → r ≡ Refused why place → seen r ≡ passed s (closing w (drop at s))
+  module _ (h : at ≤ length s) (less : Part) (slash lm lo : ℕ) (less-says : seen less ≡ passed s (due (byte "<") (drop at s))) (less-is : less ≡ Read slash lm lo) where
+    less-found : FoundAt (λ a. 0) (λ a. 0) (λ c left. drop at s ≡ byte "<" ∷ left) s at (due (byte "<") (drop at s)) slash lm lo
+    less-found = found-at (λ a. 0) (λ a. 0) s less (λ c left. drop at s ≡ byte "<" ∷ left) at (due (byte "<") (drop at s)) slash lm lo less-says (due-reads (byte "<") (drop at s)) h less-is
+
+    pub less-inside : slash ≤ length s
+    less-inside = less-found .inside
+
+    pub no-slash : (w : List ℕ) (r : Part) (why : Refusal) (place : ℕ) → seen r ≡ passed s (due (byte "/") (drop slash s)) → r ≡ Refused why place → seen r ≡ passed s (closing w (drop at s))
     unfolding closing
-    no-slash r why place e q = rw f (refused-then (λ a. 0) (λ a. 0) s r (λ a. 0) (λ a. 0) _ (due (byte "/") (drop slash s)) why place e q)
+    no-slash w r why place e q = rw (less-found .finds) (refused-then (λ a. 0) (λ a. 0) s r (λ a. 0) (λ a. 0) _ (due (byte "/") (drop slash s)) why place e q)
 
-    module _ (c start : ℕ) (g : due (byte "/") (drop slash s) ≡ found c (drop start s)) where
-      pub no-name : (r : Part) (why : Refusal) (place : ℕ) → seen r ≡ passed s (name (λ v. true) (drop start s)) → r ≡ Refused why place → seen r ≡ passed s (closing w (drop at s))
+    module _ (mark : Part) (start mm mo : ℕ) (mark-says : seen mark ≡ passed s (due (byte "/") (drop slash s))) (mark-is : mark ≡ Read start mm mo) where
+      mark-found : FoundAt (λ a. 0) (λ a. 0) (λ c left. drop slash s ≡ byte "/" ∷ left) s slash (due (byte "/") (drop slash s)) start mm mo
+      mark-found = found-at (λ a. 0) (λ a. 0) s mark (λ c left. drop slash s ≡ byte "/" ∷ left) slash (due (byte "/") (drop slash s)) start mm mo mark-says (due-reads (byte "/") (drop slash s)) less-inside mark-is
+
+      pub mark-inside : start ≤ length s
+      mark-inside = mark-found .inside
+
+      pub no-name : (w : List ℕ) (r : Part) (why : Refusal) (place : ℕ) → seen r ≡ passed s (name (λ v. true) (drop start s)) → r ≡ Refused why place → seen r ≡ passed s (closing w (drop at s))
       unfolding closing
-      no-name r why place e q = rw (f, g) (refused-then (λ a. 0) (λ a. 0) s r (λ a. 0) (λ a. 0) _ (name (λ v. true) (drop start s)) why place e q)
+      no-name w r why place e q = rw (less-found .finds, mark-found .finds) (refused-then (λ a. 0) (λ a. 0) s r (λ a. 0) (λ a. 0) _ (name (λ v. true) (drop start s)) why place e q)
 
-      module _ (v : List ℕ) (end : ℕ) (n : name (λ v. true) (drop start s) ≡ found v (drop end s)) where
-        pub other-name : (r : Part) → r ≡ Refused ClosingName start → start ≤ length s → same w v ≡ false → seen r ≡ passed s (closing w (drop at s))
+      module _ (named : Part) (end nm no : ℕ) (name-says : seen named ≡ passed s (name (λ v. true) (drop start s))) (name-is : named ≡ Read end nm no) where
+        name-found : FoundAt (λ a. 0) (λ a. 0) (λ v left. ReadName (λ v. true) (drop start s) v left) s start (name (λ v. true) (drop start s)) end nm no
+        name-found = found-at (λ a. 0) (λ a. 0) s named (λ v left. ReadName (λ v. true) (drop start s) v left) start (name (λ v. true) (drop start s)) end nm no name-says (name-reads (λ v. true) (drop start s)) mark-inside name-is
+
+        pub name-ahead : start ≤ end
+        name-ahead = name-found .ahead
+
+        pub name-inside : end ≤ length s
+        name-inside = name-found .inside
+
+        -- the name that is read is the part between its places
+        name-part : name-found .it ≡ part s start end
+        name-part =
+            let v = name-found .it in
+            let c = name-found .holds .covers in
+            let n : length v ≡ end - start = omega (arith, ap length c, length-append v (drop end s), length-drop start s, length-drop end s, name-ahead, name-inside) in
+            sym (ap (λ (l : List ℕ). take (end - start) l) c ∙ rw (← n) (take-append-seam v (drop end s)))
+
+        pub other-name : (w : List ℕ) (r : Part) → same w (part s start end) ≡ false → r ≡ Refused ClosingName start → seen r ≡ passed s (closing w (drop at s))
         unfolding closing
-        other-name r q h e = says-refused (λ a. 0) (λ a. 0) s (closing w (drop at s)) r ClosingName start q h (rw (f, g, n) (when-false (same w v) _ _ e))
+        other-name w r z p =
+            let y : same w (name-found .it) ≡ false = ap (same w) name-part ∙ z in
+            says-refused (λ a. 0) (λ a. 0) s (closing w (drop at s)) r ClosingName start p mark-inside (rw (less-found .finds, mark-found .finds, name-found .finds) (when-false (same w (name-found .it)) _ _ y))
 
-        pub same-name : (r : Part) → same w v ≡ true → seen r ≡ passed s (due (byte ">") (drop end s)) → seen r ≡ passed s (closing w (drop at s))
+        pub same-name : (w : List ℕ) (r : Part) → same w (part s start end) ≡ true → seen r ≡ passed s (due (byte ">") (drop end s)) → seen r ≡ passed s (closing w (drop at s))
         unfolding closing
-        same-name r e k =
-            let q : closing w (drop at s) ≡ due (byte ">") (drop end s) = rw (f, g, n) (when-true (same w v) _ _ e) in
-            k ∙ ap (passed s) (sym q)
-
--- the name that is read is the part between its places
-pub name-part : (s : List ℕ) (rule : List ℕ → Bool) (start end : ℕ) (v : List ℕ) → start ≤ end → end ≤ length s → ReadName rule (drop start s) v (drop end s) → v ≡ part s start end
-name-part s rule start end v h k r =
-    let n : length v ≡ end - start = omega (arith, ap length (r .covers), length-append v (drop end s), length-drop start s, length-drop end s) in
-    sym (ap (λ (l : List ℕ). take (end - start) l) (r .covers) ∙ rw (← n) (take-append-seam v (drop end s)))
-
-pub name-found : (s : List ℕ) (rule : List ℕ → Bool) (at : ℕ) (r : Part) (end made mine : ℕ) → at ≤ length s → seen r ≡ passed s (name rule (drop at s)) → r ≡ Read end made mine → FoundAt (λ a. 0) (λ a. 0) (λ w left. ReadName rule (drop at s) w left) s at (name rule (drop at s)) end made mine
-name-found s rule at r end made mine h e q = found-at (λ a. 0) (λ a. 0) s r (λ w left. ReadName rule (drop at s) w left) at (name rule (drop at s)) end made mine e (name-reads rule (drop at s)) h q
+        same-name w r z p =
+            let y : same w (name-found .it) ≡ true = ap (same w) name-part ∙ z in
+            let c : closing w (drop at s) ≡ due (byte ">") (drop end s) = rw (less-found .finds, mark-found .finds, name-found .finds) (when-true (same w (name-found .it)) _ _ y) in
+            p ∙ ap (passed s) (sym c)
 
 -- ---- the ending of an opening marker
 

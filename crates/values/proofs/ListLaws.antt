@@ -1,8 +1,8 @@
 -- Values at a place: no list, an empty list, a list too deep, items, and what stands behind an item. Over plain lists. Assumes nothing.
-use Prim.Native.Nat.{ℕ, zero, suc, _+_, _-_, _≤_, _<_}
+use Prim.Native.Nat.{ℕ, suc, _+_, _≤_, _<_}
 use mathlib.Core.Path.{_≡_, refl, sym, ap, _∙_, subst}
-use mathlib.Core.Bool.{Bool, true, false}
-use mathlib.Core.List.{List, [], _∷_, _++_}
+use mathlib.Core.Bool.{true, false}
+use mathlib.Core.List.{List, [], _∷_}
 use native.Mathlib.Omega.{arith}
 use lib.ListN.{length, getD, drop, length-drop, drop-of-length-le}
 use lib.Seq.{drop-drop}
@@ -11,16 +11,16 @@ use borrow.Author.Tests.{ne-eqb}
 use Rattle.paper.specs.declared.Refusal.{Refusal}
 use Rattle.paper.specs.declared.Refusal.the-variants.{TooDeep}
 use Rattle.paper.specs.Answer.{numberOf}
-use Rattle.paper.specs.Found.{Found, found, fault, andThen, placeIn}
+use Rattle.paper.specs.Found.{Found, found, fault, andThen}
 use Rattle.paper.specs.Bytes.{byte, bytes, isWhite, lengthIn, front, behind, startsWith}
-use Rattle.paper.specs.Values.{listEnders, Leaf, leafForm, Value, leaf, emptyList, list, valueForm, More, close, comma}
+use Rattle.paper.specs.Values.{listEnders, leafForm, Value, leaf, emptyList, list, valueForm, More, close, comma}
 use Rattle.paper.specs.ReadingValues.{leafOf, valueOf, moreOf, itemAnd, wholeValue}
 use Rattle.paper.proofs.Lists.{starts-is}
-use Rattle.paper.proofs.Finds.{Tail, tail-drop, Reads}
+use Rattle.paper.proofs.Finds.{tail-drop}
 use Rattle.paper.proofs.ReadValues.{ReadValue, value-reads, value-of-leaf, value-of-deep, value-of-empty, value-of-list, more-of-end, more-of-close, more-of-comma, more-of-other, whole-found, whole-fault}
 use Rattle.text.proofs.Places.{here, place-back}
 use Rattle.values.specs.declared.read.Read.{Read}
-use Rattle.values.specs.Seen.{Seen, foundAt, refusedAt, seen, seenOf, Reading, listForm}
+use Rattle.values.specs.Seen.{Seen, seen, seenOf, Reading, listForm}
 use Rattle.values.proofs.Seeing.{finds, no-value, cut-off, refuses, Stands, stands, fails, passes}
 
 -- what is made of something found looks like it, where the forms agree

@@ -1,4 +1,3 @@
-use borrow.Author.Needs.{needs}
 use Rattle.lines.proofs.MarkLaws.{fault-cut, fault-there}
 use Rattle.lines.proofs.marks.no_ending.Statement.{statement}
 use Rattle.lines.proofs.marks.no_ending.Tie as tie

@@ -1,12 +1,9 @@
--- Each mark is due where the one before it ends; the names are compared as parts of the sheet.
-use mathlib.Core.Path.{sym, ap, _∙_}
-use mathlib.Core.Bool.{true}
+-- A law for each way out: each mark is due where the one before it ends; the names are compared as parts of the sheet.
+use mathlib.Core.Path.{sym, _∙_}
 use native.Mathlib.Omega.{arith}
-use borrow.Author.Needs.{needs}
 use borrow.Author.Tests.{not-true, not-false}
-use Rattle.paper.specs.Bytes.{byte, same}
-use Rattle.lines.specs.Parts.{part}
-use Rattle.lines.proofs.MarkLaws.{due-found, name-found, name-part, no-less, no-slash, no-name, other-name, same-name}
+use Rattle.lines.proofs.MarkLaws.{no-less, less-inside, no-slash, mark-inside, no-name, name-ahead, name-inside, other-name, same-name}
+use borrow.Author.Needs.{needs}
 use Rattle.lines.proofs.marks.read_closing.Statement.{statement}
 use Rattle.lines.proofs.marks.read_closing.Tie as tie
 
@@ -20,12 +17,10 @@ enum-told : tie.Need-enum-told
 enum-told c = search needs
 
 returns : tie.Need-returns
-returns c = no-less (c .before .before .before .before .args .s .now) (part (c .before .before .before .before .args .s .now) (c .before .before .before .before .args .from) (c .before .before .before .before .args .to)) (c .before .before .before .before .args .at) _ _ _ (c .before .before .byte-due .ensures) (c .enum-told .given .1)
+returns c = no-less (c .before .before .before .before .args .s .now) (c .before .before .before .before .args .at) _ _ _ _ (c .before .before .byte-due .ensures) (c .enum-told .given .1)
 
 byte-due-requires-2 : tie.Need-byte-due-requires-2
-byte-due-requires-2 c κs =
-    let f1 = due-found (c .before .before .before .before .before .args .s .now) (byte "<") (c .before .before .before .before .before .args .at) _ _ _ _ (c .before .before .before .before .before .pre .0) (c .before .before .before .byte-due .ensures) (c .before .less .given .1) in
-    omega (arith, f1 .inside)
+byte-due-requires-2 c κs = less-inside _ _ (c .before .before .before .before .before .pre .0) _ _ _ _ (c .before .before .before .byte-due .ensures) (c .before .less .given .1)
 
 enum-known-mark : tie.Need-enum-known-mark
 enum-known-mark c = search needs
@@ -34,15 +29,10 @@ enum-told-2 : tie.Need-enum-told-2
 enum-told-2 c = search needs
 
 returns-2 : tie.Need-returns-2
-returns-2 c =
-    let f1 = due-found (c .before .before .before .before .before .before .before .before .args .s .now) (byte "<") (c .before .before .before .before .before .before .before .before .args .at) _ _ _ _ (c .before .before .before .before .before .before .before .before .pre .0) (c .before .before .before .before .before .before .byte-due .ensures) (c .before .before .before .before .less .given .1) in
-    no-slash (c .before .before .before .before .before .before .before .before .args .s .now) (part (c .before .before .before .before .before .before .before .before .args .s .now) (c .before .before .before .before .before .before .before .before .args .from) (c .before .before .before .before .before .before .before .before .args .to)) (c .before .before .before .before .before .before .before .before .args .at) (f1 .it) (c .before .before .before .before .less .given .0 .0) (f1 .finds) _ _ _ (c .before .before .byte-due2 .ensures) (c .enum-told2 .given .1)
+returns-2 c = no-slash _ _ (c .before .before .before .before .before .before .before .before .pre .0) _ _ _ _ (c .before .before .before .before .before .before .byte-due .ensures) (c .before .before .before .before .less .given .1) _ _ _ _ (c .before .before .byte-due2 .ensures) (c .enum-told2 .given .1)
 
 name-end-requires : tie.Need-name-end-requires
-name-end-requires c κs =
-    let f1 = due-found (c .before .before .before .before .before .before .before .before .before .args .s .now) (byte "<") (c .before .before .before .before .before .before .before .before .before .args .at) _ _ _ _ (c .before .before .before .before .before .before .before .before .before .pre .0) (c .before .before .before .before .before .before .before .byte-due .ensures) (c .before .before .before .before .before .less .given .1) in
-    let f2 = due-found (c .before .before .before .before .before .before .before .before .before .args .s .now) (byte "/") (c .before .before .before .before .before .less .given .0 .0) _ _ _ _ (f1 .inside) (c .before .before .before .byte-due2 .ensures) (c .before .mark .given .1) in
-    omega (arith, f2 .inside)
+name-end-requires c κs = mark-inside _ _ (c .before .before .before .before .before .before .before .before .before .pre .0) _ _ _ _ (c .before .before .before .before .before .before .before .byte-due .ensures) (c .before .before .before .before .before .less .given .1) _ _ _ _ (c .before .before .before .byte-due2 .ensures) (c .before .mark .given .1)
 
 enum-known-name : tie.Need-enum-known-name
 enum-known-name c = search needs
@@ -51,10 +41,7 @@ enum-told-3 : tie.Need-enum-told-3
 enum-told-3 c = search needs
 
 returns-3 : tie.Need-returns-3
-returns-3 c =
-    let f1 = due-found (c .before .before .before .before .before .before .before .before .before .before .before .before .args .s .now) (byte "<") (c .before .before .before .before .before .before .before .before .before .before .before .before .args .at) _ _ _ _ (c .before .before .before .before .before .before .before .before .before .before .before .before .pre .0) (c .before .before .before .before .before .before .before .before .before .before .byte-due .ensures) (c .before .before .before .before .before .before .before .before .less .given .1) in
-    let f2 = due-found (c .before .before .before .before .before .before .before .before .before .before .before .before .args .s .now) (byte "/") (c .before .before .before .before .before .before .before .before .less .given .0 .0) _ _ _ _ (f1 .inside) (c .before .before .before .before .before .before .byte-due2 .ensures) (c .before .before .before .before .mark .given .1) in
-    no-name (c .before .before .before .before .before .before .before .before .before .before .before .before .args .s .now) (part (c .before .before .before .before .before .before .before .before .before .before .before .before .args .s .now) (c .before .before .before .before .before .before .before .before .before .before .before .before .args .from) (c .before .before .before .before .before .before .before .before .before .before .before .before .args .to)) (c .before .before .before .before .before .before .before .before .before .before .before .before .args .at) (f1 .it) (c .before .before .before .before .before .before .before .before .less .given .0 .0) (f1 .finds) (f2 .it) (c .before .before .before .before .mark .given .0 .0) (f2 .finds) _ _ _ (c .before .before .name-end .ensures) (c .enum-told3 .given .1)
+returns-3 c = no-name _ _ (c .before .before .before .before .before .before .before .before .before .before .before .before .pre .0) _ _ _ _ (c .before .before .before .before .before .before .before .before .before .before .byte-due .ensures) (c .before .before .before .before .before .before .before .before .less .given .1) _ _ _ _ (c .before .before .before .before .before .before .byte-due2 .ensures) (c .before .before .before .before .mark .given .1) _ _ _ _ (c .before .before .name-end .ensures) (c .enum-told3 .given .1)
 
 sub-same : tie.Need-sub-same
 sub-same c = search needs
@@ -66,25 +53,13 @@ part-same-end : tie.Need-part-same-end
 part-same-end c = omega (arith, c .before .before .before .before .before .before .before .before .before .before .before .before .before .pre)
 
 sub-same-2 : tie.Need-sub-same-2
-sub-same-2 c =
-    let f1 = due-found (c .before .before .before .before .before .before .before .before .before .before .before .before .before .before .args .s .now) (byte "<") (c .before .before .before .before .before .before .before .before .before .before .before .before .before .before .args .at) _ _ _ _ (c .before .before .before .before .before .before .before .before .before .before .before .before .before .before .pre .0) (c .before .before .before .before .before .before .before .before .before .before .before .before .byte-due .ensures) (c .before .before .before .before .before .before .before .before .before .before .less .given .1) in
-    let f2 = due-found (c .before .before .before .before .before .before .before .before .before .before .before .before .before .before .args .s .now) (byte "/") (c .before .before .before .before .before .before .before .before .before .before .less .given .0 .0) _ _ _ _ (f1 .inside) (c .before .before .before .before .before .before .before .before .byte-due2 .ensures) (c .before .before .before .before .before .before .mark .given .1) in
-    let f3 = name-found (c .before .before .before .before .before .before .before .before .before .before .before .before .before .before .args .s .now) (λ v. true) (c .before .before .before .before .before .before .mark .given .0 .0) _ _ _ _ (f2 .inside) (c .before .before .before .before .name-end .ensures) (c .before .before .name .given .1) in
-    omega (arith, f3 .ahead)
+sub-same-2 c = name-ahead _ _ (c .before .before .before .before .before .before .before .before .before .before .before .before .before .before .pre .0) _ _ _ _ (c .before .before .before .before .before .before .before .before .before .before .before .before .byte-due .ensures) (c .before .before .before .before .before .before .before .before .before .before .less .given .1) _ _ _ _ (c .before .before .before .before .before .before .before .before .byte-due2 .ensures) (c .before .before .before .before .before .before .mark .given .1) _ _ _ _ (c .before .before .before .before .name-end .ensures) (c .before .before .name .given .1)
 
 part-same-start-2 : tie.Need-part-same-start-2
-part-same-start-2 c =
-    let f1 = due-found (c .before .before .before .before .before .before .before .before .before .before .before .before .before .before .args .s .now) (byte "<") (c .before .before .before .before .before .before .before .before .before .before .before .before .before .before .args .at) _ _ _ _ (c .before .before .before .before .before .before .before .before .before .before .before .before .before .before .pre .0) (c .before .before .before .before .before .before .before .before .before .before .before .before .byte-due .ensures) (c .before .before .before .before .before .before .before .before .before .before .less .given .1) in
-    let f2 = due-found (c .before .before .before .before .before .before .before .before .before .before .before .before .before .before .args .s .now) (byte "/") (c .before .before .before .before .before .before .before .before .before .before .less .given .0 .0) _ _ _ _ (f1 .inside) (c .before .before .before .before .before .before .before .before .byte-due2 .ensures) (c .before .before .before .before .before .before .mark .given .1) in
-    let f3 = name-found (c .before .before .before .before .before .before .before .before .before .before .before .before .before .before .args .s .now) (λ v. true) (c .before .before .before .before .before .before .mark .given .0 .0) _ _ _ _ (f2 .inside) (c .before .before .before .before .name-end .ensures) (c .before .before .name .given .1) in
-    omega (arith, f3 .ahead)
+part-same-start-2 c = name-ahead _ _ (c .before .before .before .before .before .before .before .before .before .before .before .before .before .before .pre .0) _ _ _ _ (c .before .before .before .before .before .before .before .before .before .before .before .before .byte-due .ensures) (c .before .before .before .before .before .before .before .before .before .before .less .given .1) _ _ _ _ (c .before .before .before .before .before .before .before .before .byte-due2 .ensures) (c .before .before .before .before .before .before .mark .given .1) _ _ _ _ (c .before .before .before .before .name-end .ensures) (c .before .before .name .given .1)
 
 part-same-end-2 : tie.Need-part-same-end-2
-part-same-end-2 c =
-    let f1 = due-found (c .before .before .before .before .before .before .before .before .before .before .before .before .before .before .args .s .now) (byte "<") (c .before .before .before .before .before .before .before .before .before .before .before .before .before .before .args .at) _ _ _ _ (c .before .before .before .before .before .before .before .before .before .before .before .before .before .before .pre .0) (c .before .before .before .before .before .before .before .before .before .before .before .before .byte-due .ensures) (c .before .before .before .before .before .before .before .before .before .before .less .given .1) in
-    let f2 = due-found (c .before .before .before .before .before .before .before .before .before .before .before .before .before .before .args .s .now) (byte "/") (c .before .before .before .before .before .before .before .before .before .before .less .given .0 .0) _ _ _ _ (f1 .inside) (c .before .before .before .before .before .before .before .before .byte-due2 .ensures) (c .before .before .before .before .before .before .mark .given .1) in
-    let f3 = name-found (c .before .before .before .before .before .before .before .before .before .before .before .before .before .before .args .s .now) (λ v. true) (c .before .before .before .before .before .before .mark .given .0 .0) _ _ _ _ (f2 .inside) (c .before .before .before .before .name-end .ensures) (c .before .before .name .given .1) in
-    omega (arith, f3 .inside)
+part-same-end-2 c = name-inside _ _ (c .before .before .before .before .before .before .before .before .before .before .before .before .before .before .pre .0) _ _ _ _ (c .before .before .before .before .before .before .before .before .before .before .before .before .byte-due .ensures) (c .before .before .before .before .before .before .before .before .before .before .less .given .1) _ _ _ _ (c .before .before .before .before .before .before .before .before .byte-due2 .ensures) (c .before .before .before .before .before .before .mark .given .1) _ _ _ _ (c .before .before .before .before .name-end .ensures) (c .before .before .name .given .1)
 
 same-requires : tie.Need-same-requires
 same-requires c κs = search needs
@@ -93,27 +68,13 @@ refused-requires : tie.Need-refused-requires
 refused-requires c κs = search needs
 
 returns-4 : tie.Need-returns-4
-returns-4 c =
-    let f1 = due-found (c .before .before .before .before .before .before .before .before .before .before .before .before .before .before .before .before .before .before .args .s .now) (byte "<") (c .before .before .before .before .before .before .before .before .before .before .before .before .before .before .before .before .before .before .args .at) _ _ _ _ (c .before .before .before .before .before .before .before .before .before .before .before .before .before .before .before .before .before .before .pre .0) (c .before .before .before .before .before .before .before .before .before .before .before .before .before .before .before .before .byte-due .ensures) (c .before .before .before .before .before .before .before .before .before .before .before .before .before .before .less .given .1) in
-    let f2 = due-found (c .before .before .before .before .before .before .before .before .before .before .before .before .before .before .before .before .before .before .args .s .now) (byte "/") (c .before .before .before .before .before .before .before .before .before .before .before .before .before .before .less .given .0 .0) _ _ _ _ (f1 .inside) (c .before .before .before .before .before .before .before .before .before .before .before .before .byte-due2 .ensures) (c .before .before .before .before .before .before .before .before .before .before .mark .given .1) in
-    let f3 = name-found (c .before .before .before .before .before .before .before .before .before .before .before .before .before .before .before .before .before .before .args .s .now) (λ v. true) (c .before .before .before .before .before .before .before .before .before .before .mark .given .0 .0) _ _ _ _ (f2 .inside) (c .before .before .before .before .before .before .before .before .name-end .ensures) (c .before .before .before .before .before .before .name .given .1) in
-    other-name (c .before .before .before .before .before .before .before .before .before .before .before .before .before .before .before .before .before .before .args .s .now) (part (c .before .before .before .before .before .before .before .before .before .before .before .before .before .before .before .before .before .before .args .s .now) (c .before .before .before .before .before .before .before .before .before .before .before .before .before .before .before .before .before .before .args .from) (c .before .before .before .before .before .before .before .before .before .before .before .before .before .before .before .before .before .before .args .to)) (c .before .before .before .before .before .before .before .before .before .before .before .before .before .before .before .before .before .before .args .at) (f1 .it) (c .before .before .before .before .before .before .before .before .before .before .before .before .before .before .less .given .0 .0) (f1 .finds) (f2 .it) (c .before .before .before .before .before .before .before .before .before .before .mark .given .0 .0) (f2 .finds) (f3 .it) (c .before .before .before .before .before .before .name .given .0 .0) (f3 .finds) _ (c .refused .ensures) (f2 .inside)
-    (ap (same (part (c .before .before .before .before .before .before .before .before .before .before .before .before .before .before .before .before .before .before .args .s .now) (c .before .before .before .before .before .before .before .before .before .before .before .before .before .before .before .before .before .before .args .from) (c .before .before .before .before .before .before .before .before .before .before .before .before .before .before .before .before .before .before .args .to))) (name-part (c .before .before .before .before .before .before .before .before .before .before .before .before .before .before .before .before .before .before .args .s .now) (λ v. true) (c .before .before .before .before .before .before .before .before .before .before .mark .given .0 .0) (c .before .before .before .before .before .before .name .given .0 .0) (f3 .it) (f3 .ahead) (f3 .inside) (f3 .holds)) ∙ sym (c .before .before .same .ensures) ∙ not-true _ (c .before .if1 .taken))
+returns-4 c = other-name _ _ (c .before .before .before .before .before .before .before .before .before .before .before .before .before .before .before .before .before .before .pre .0) _ _ _ _ (c .before .before .before .before .before .before .before .before .before .before .before .before .before .before .before .before .byte-due .ensures) (c .before .before .before .before .before .before .before .before .before .before .before .before .before .before .less .given .1) _ _ _ _ (c .before .before .before .before .before .before .before .before .before .before .before .before .byte-due2 .ensures) (c .before .before .before .before .before .before .before .before .before .before .mark .given .1) _ _ _ _ (c .before .before .before .before .before .before .before .before .name-end .ensures) (c .before .before .before .before .before .before .name .given .1) _ _ (sym (c .before .before .same .ensures) ∙ not-true _ (c .before .if1 .taken)) (c .refused .ensures)
 
 byte-due-requires-3 : tie.Need-byte-due-requires-3
-byte-due-requires-3 c κs =
-    let f1 = due-found (c .before .before .before .before .before .before .before .before .before .before .before .before .before .before .before .before .before .args .s .now) (byte "<") (c .before .before .before .before .before .before .before .before .before .before .before .before .before .before .before .before .before .args .at) _ _ _ _ (c .before .before .before .before .before .before .before .before .before .before .before .before .before .before .before .before .before .pre .0) (c .before .before .before .before .before .before .before .before .before .before .before .before .before .before .before .byte-due .ensures) (c .before .before .before .before .before .before .before .before .before .before .before .before .before .less .given .1) in
-    let f2 = due-found (c .before .before .before .before .before .before .before .before .before .before .before .before .before .before .before .before .before .args .s .now) (byte "/") (c .before .before .before .before .before .before .before .before .before .before .before .before .before .less .given .0 .0) _ _ _ _ (f1 .inside) (c .before .before .before .before .before .before .before .before .before .before .before .byte-due2 .ensures) (c .before .before .before .before .before .before .before .before .before .mark .given .1) in
-    let f3 = name-found (c .before .before .before .before .before .before .before .before .before .before .before .before .before .before .before .before .before .args .s .now) (λ v. true) (c .before .before .before .before .before .before .before .before .before .mark .given .0 .0) _ _ _ _ (f2 .inside) (c .before .before .before .before .before .before .before .name-end .ensures) (c .before .before .before .before .before .name .given .1) in
-    omega (arith, f3 .inside)
+byte-due-requires-3 c κs = name-inside _ _ (c .before .before .before .before .before .before .before .before .before .before .before .before .before .before .before .before .before .pre .0) _ _ _ _ (c .before .before .before .before .before .before .before .before .before .before .before .before .before .before .before .byte-due .ensures) (c .before .before .before .before .before .before .before .before .before .before .before .before .before .less .given .1) _ _ _ _ (c .before .before .before .before .before .before .before .before .before .before .before .byte-due2 .ensures) (c .before .before .before .before .before .before .before .before .before .mark .given .1) _ _ _ _ (c .before .before .before .before .before .before .before .name-end .ensures) (c .before .before .before .before .before .name .given .1)
 
 returns-5 : tie.Need-returns-5
-returns-5 c =
-    let f1 = due-found (c .before .before .before .before .before .before .before .before .before .before .before .before .before .before .before .before .before .before .args .s .now) (byte "<") (c .before .before .before .before .before .before .before .before .before .before .before .before .before .before .before .before .before .before .args .at) _ _ _ _ (c .before .before .before .before .before .before .before .before .before .before .before .before .before .before .before .before .before .before .pre .0) (c .before .before .before .before .before .before .before .before .before .before .before .before .before .before .before .before .byte-due .ensures) (c .before .before .before .before .before .before .before .before .before .before .before .before .before .before .less .given .1) in
-    let f2 = due-found (c .before .before .before .before .before .before .before .before .before .before .before .before .before .before .before .before .before .before .args .s .now) (byte "/") (c .before .before .before .before .before .before .before .before .before .before .before .before .before .before .less .given .0 .0) _ _ _ _ (f1 .inside) (c .before .before .before .before .before .before .before .before .before .before .before .before .byte-due2 .ensures) (c .before .before .before .before .before .before .before .before .before .before .mark .given .1) in
-    let f3 = name-found (c .before .before .before .before .before .before .before .before .before .before .before .before .before .before .before .before .before .before .args .s .now) (λ v. true) (c .before .before .before .before .before .before .before .before .before .before .mark .given .0 .0) _ _ _ _ (f2 .inside) (c .before .before .before .before .before .before .before .before .name-end .ensures) (c .before .before .before .before .before .before .name .given .1) in
-    same-name (c .before .before .before .before .before .before .before .before .before .before .before .before .before .before .before .before .before .before .args .s .now) (part (c .before .before .before .before .before .before .before .before .before .before .before .before .before .before .before .before .before .before .args .s .now) (c .before .before .before .before .before .before .before .before .before .before .before .before .before .before .before .before .before .before .args .from) (c .before .before .before .before .before .before .before .before .before .before .before .before .before .before .before .before .before .before .args .to)) (c .before .before .before .before .before .before .before .before .before .before .before .before .before .before .before .before .before .before .args .at) (f1 .it) (c .before .before .before .before .before .before .before .before .before .before .before .before .before .before .less .given .0 .0) (f1 .finds) (f2 .it) (c .before .before .before .before .before .before .before .before .before .before .mark .given .0 .0) (f2 .finds) (f3 .it) (c .before .before .before .before .before .before .name .given .0 .0) (f3 .finds) (c .byte-due3 .result)
-    (ap (same (part (c .before .before .before .before .before .before .before .before .before .before .before .before .before .before .before .before .before .before .args .s .now) (c .before .before .before .before .before .before .before .before .before .before .before .before .before .before .before .before .before .before .args .from) (c .before .before .before .before .before .before .before .before .before .before .before .before .before .before .before .before .before .before .args .to))) (name-part (c .before .before .before .before .before .before .before .before .before .before .before .before .before .before .before .before .before .before .args .s .now) (λ v. true) (c .before .before .before .before .before .before .before .before .before .before .mark .given .0 .0) (c .before .before .before .before .before .before .name .given .0 .0) (f3 .it) (f3 .ahead) (f3 .inside) (f3 .holds)) ∙ sym (c .before .before .same .ensures) ∙ not-false _ (c .before .if1 .left)) (c .byte-due3 .ensures)
+returns-5 c = same-name _ _ (c .before .before .before .before .before .before .before .before .before .before .before .before .before .before .before .before .before .before .pre .0) _ _ _ _ (c .before .before .before .before .before .before .before .before .before .before .before .before .before .before .before .before .byte-due .ensures) (c .before .before .before .before .before .before .before .before .before .before .before .before .before .before .less .given .1) _ _ _ _ (c .before .before .before .before .before .before .before .before .before .before .before .before .byte-due2 .ensures) (c .before .before .before .before .before .before .before .before .before .before .mark .given .1) _ _ _ _ (c .before .before .before .before .before .before .before .before .name-end .ensures) (c .before .before .before .before .before .before .name .given .1) _ (c .byte-due3 .result) (sym (c .before .before .same .ensures) ∙ not-false _ (c .before .if1 .left)) (c .byte-due3 .ensures)
 
 pub read-closing-spec : {M : Type 1} → statement M
 read-closing-spec =
