@@ -15,6 +15,7 @@ use text::runs::Class;
 ghost use mathlib.Core.Path.{_≡_};
 ghost use Prim.Native.Nat.{_≤_};
 ghost use lib.ListN.{length, drop};
+ghost use Rattle.paper.specs.Limits.{listLimit};
 ghost use Rattle.paper.specs.Values.{valueForm, list};
 ghost use Rattle.paper.specs.ReadingValues.{valueOf, itemAnd, wholeValue};
 ghost use Rattle.values.specs.Seen.{Reading, listForm};
@@ -23,7 +24,7 @@ ghost use Rattle.values.specs.Kinds.{endersOf};
 // Reads a trait's whole value. Where no kind fits, it is refused at its first byte.
 pub fn read_whole(s: &[u8], at: usize) -> Read
     requires { ⌜ at ≤ length (now s) ⌝ }
-    ensures { λ r. ⌜ Reading valueForm (now (s .entry)) at (wholeValue 8 (drop at (now (s .entry)))) r ⌝ }
+    ensures { λ r. ⌜ Reading valueForm (now (s .entry)) at (wholeValue listLimit (drop at (now (s .entry)))) r ⌝ }
 {
     let read = read_value(s, at, Nesting::new(Nesting::LISTS), false);
     let Read::Refused { refusal, place: _ } = read else {
