@@ -1,10 +1,10 @@
 -- Entries laid one after another, and an entry laid before those that stand behind it. Over plain lists. Assumes nothing.
-use Prim.Native.Nat.{ℕ, zero, suc, _+_, _-_, _*_, _≤_, _<_}
+use Prim.Native.Nat.{ℕ, suc, _+_, _-_, _*_, _≤_, _<_}
 use mathlib.Core.Path.{_≡_, refl, sym, ap, _∙_}
-use mathlib.Core.List.{List, [], _∷_, _++_, append-assoc, append-nil}
+use mathlib.Core.List.{List, [], _∷_, _++_, append-nil}
 use native.Mathlib.Nat.{add-zero}
 use native.Mathlib.Omega.{arith}
-use lib.ListN.{length, drop, replicate, set, length-append, drop-of-length-le, length-replicate}
+use lib.ListN.{length, replicate, set, length-append, drop-of-length-le, length-replicate}
 use lib.Seq.{sets, length-sets, sets-eq, set-comm}
 use Rattle.paper.specs.Entries.{Entry, entryCells, allCells, filled}
 use Rattle.entries.specs.Laid.{lay}

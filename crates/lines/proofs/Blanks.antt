@@ -18,7 +18,8 @@ use Rattle.text.proofs.Places.{here}
 use Rattle.lines.specs.Parts.{seen, passed}
 use Rattle.lines.specs.declared.part.Part.{Part}
 use Rattle.lines.specs.declared.part.Part.the-variants.{Read, Refused}
-use Rattle.lines.proofs.Crossing.{Stretch, behind-at, behind-none, behind-some, says-read}
+use Rattle.text.proofs.Stretch.{Stretch, behind-at, behind-none, behind-some}
+use Rattle.lines.proofs.Crossing.{says-read}
 use Rattle.lines.proofs.Ends.{RestAt}
 use Rattle.lines.proofs.Turns.{turn-more, turn-over, turn-refused}
 

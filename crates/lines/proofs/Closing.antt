@@ -15,7 +15,8 @@ use Rattle.paper.proofs.Tests.{split}
 use Rattle.paper.proofs.Lines.{tabs-length}
 use Rattle.paper.proofs.Content.{closes-is}
 use Rattle.lines.specs.Parts.{part}
-use Rattle.lines.proofs.Crossing.{Stretch, behind-none, behind-some, stands-inside}
+use Rattle.text.proofs.Stretch.{Stretch, behind-none, behind-some}
+use Rattle.text.proofs.Compared.{stands-inside}
 
 -- ---- only blanks up to the end of the line
 
@@ -106,7 +107,10 @@ module _ (s w : List ℕ) (at tabs mark size : ℕ) (run : Stretch isTab s at ma
         no-end g = sym (by-parts ∙ rw (o, h, g))
 
         pub name-inside : mark + 2 + size ≤ length s
-        name-inside = omega (arith, stands-inside w s (mark + 2) true (stands-inside (bytes "</") s mark true (run .2) (sym o) refl) (sym h) refl)
+        name-inside = omega (arith, stands-inside (bytes "</") s mark o, stands-inside w s (mark + 2) h)
+
+        pub end-inside : startsWith (bytes ">") (drop (mark + 2 + size) s) ≡ true → mark + 2 + size + 1 ≤ length s
+        end-inside g = omega (arith, stands-inside (bytes ">") s (mark + 2 + size) g)
 
         pub by-rest : startsWith (bytes ">") (drop (mark + 2 + size) s) ≡ true → atLineEnd (behind isBlank (drop (mark + 2 + size + 1) s)) ≡ closesLine tabs w (drop at s)
         by-rest g = sym (by-parts ∙ rw (o, h, g))

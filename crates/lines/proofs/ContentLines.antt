@@ -17,7 +17,8 @@ use Rattle.paper.specs.Reading.{isTab, lineEnd, lineRest, isBlankLine, closesLi
 use Rattle.text.proofs.Places.{here, place-back}
 use Rattle.lines.specs.Parts.{seen, passed, turned}
 use Rattle.lines.specs.declared.part.Part.the-variants.{Refused}
-use Rattle.lines.proofs.Crossing.{Stretch, behind-at, seen-map}
+use Rattle.text.proofs.Stretch.{Stretch, behind-at}
+use Rattle.lines.proofs.Crossing.{seen-map}
 use Rattle.lines.proofs.Closing.{tabs-stand, tabs-fail}
 
 -- ---- a line that does not close

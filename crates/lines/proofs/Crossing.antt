@@ -1,25 +1,24 @@
 -- Crossing over between what code answers at places and what the paper's readings find in what is left of a list.
 -- Over plain lists and any reading. Assumes nothing.
-use Prim.Native.Nat.{ℕ, suc, _+_, _-_, _*_, _≤_, _<_}
+use Prim.Native.Nat.{ℕ, suc, _*_, _≤_, _<_}
 use mathlib.Core.Path.{_≡_, refl, sym, ap, _∙_}
-use mathlib.Core.Bool.{Bool, true, false}
-use mathlib.Core.List.{List, [], _∷_}
+use mathlib.Core.Bool.{Bool, false}
+use mathlib.Core.List.{List, []}
 use native.Mathlib.Nat.{sub-zero}
 use native.Mathlib.Omega.{arith}
-use lib.ListN.{length, getD, take, drop, length-drop, length-append, drop-of-length-le}
-use lib.Seq.{drop-drop}
+use lib.ListN.{length, drop, length-drop}
 use lib.Dec.{leb}
 use borrow.Author.Tests.{leb-false}
 use Rattle.paper.specs.Answer.{numberOf}
 use Rattle.paper.specs.declared.Refusal.{Refusal}
 use Rattle.paper.specs.declared.Refusal.the-variants.{Cut}
-use Rattle.paper.specs.Found.{Found, found, fault, andThen, placeIn}
-use Rattle.paper.specs.Bytes.{lengthIn, front, behind, startsWith}
+use Rattle.paper.specs.Found.{Found, found, fault, andThen}
 use Rattle.paper.specs.Entries.{Entry}
-use Rattle.paper.proofs.Told.{number-positive}
-use Rattle.paper.proofs.Lists.{starts-is}
-use Rattle.paper.proofs.Finds.{Tail, whole, past, tail-length, Reads}
-use Rattle.text.proofs.Places.{here, place-back}
+use Rattle.paper.proofs.Finds.{Reads}
+use Rattle.text.proofs.Places.{place-back}
+use Rattle.text.proofs.Answers.{Tells, found-to, fault-to}
+pub use Rattle.text.proofs.Answers.{FaultAt}
+pub use Rattle.text.proofs.Stretch.{Stretch, behind-at, front-at, behind-none, behind-some}
 use Rattle.entries.specs.Laid.{lay, Fits}
 use Rattle.entries.specs.declared.Slot.{Slot}
 use Rattle.lines.specs.Parts.{Seen, seen, seenOf, Makes}
@@ -28,49 +27,9 @@ use Rattle.lines.specs.declared.part.Part.the-variants.{Read, Refused}
 
 -- ---- what is left of a list, by its place
 
-tail-is : {s left : List ℕ} → Tail s left → left ≡ drop (length s - length left) s
-tail-is (whole {s = s}) = let z : length s - length s ≡ 0 = omega arith in rw z
-tail-is (past {s = s} {left = left} t) = let n : suc (length s) - length left ≡ suc (length s - length left) = omega (arith, tail-length t) in rw n (tail-is t)
-
--- what a reading from a place on leaves begins at a place ahead
-pub record Left (s : List ℕ) (at : ℕ) (left : List ℕ) : Type 0 where
-  pub ahead : at ≤ placeIn s left
-  pub inside : placeIn s left ≤ length s
-  pub same : left ≡ drop (placeIn s left) s
-
-pub left-at : (s : List ℕ) (at : ℕ) {left : List ℕ} → at ≤ length s → Tail (drop at s) left → Left s at left
-left-at s at {left} h t =
-    let l = tail-length t in
-    let d = length-drop at s in
-    let n : at + (length (drop at s) - length left) ≡ placeIn s left = omega arith in
-    record { ahead = omega arith; inside = omega arith; same = tail-is t ∙ drop-drop (length (drop at s) - length left) at s ∙ ap (λ (k : ℕ). drop k s) n }
-
 -- what is shorter begins further on
 pub further : (s : List ℕ) (at end : ℕ) → length (drop end s) < length (drop at s) → at < end
 further s at end h = omega (arith, length-drop at s, length-drop end s)
-
--- the bytes of a class stand from a place to an end, and no further
-abbrev pub Stretch : (ℕ → Bool) → List ℕ → ℕ → ℕ → Type 0
-Stretch class s at end = (end ≡ at + lengthIn class (drop at s)) × (at ≤ end) × (end ≤ length s)
-
-module _ (class : ℕ → Bool) (s : List ℕ) (at end : ℕ) (run : Stretch class s at end) where
-  pub behind-at : behind class (drop at s) ≡ drop end s
-  behind-at = drop-drop (lengthIn class (drop at s)) at s ∙ ap (λ (k : ℕ). drop k s) (sym (run .0))
-
-  pub front-at : front class (drop at s) ≡ take (end - at) (drop at s)
-  front-at = let n : lengthIn class (drop at s) ≡ end - at = omega (arith, run .0) in ap (λ (k : ℕ). take k (drop at s)) n
-
-  pub behind-none : length s ≤ end → behind class (drop at s) ≡ []
-  behind-none h = behind-at ∙ drop-of-length-le s h
-
-  pub behind-some : end < length s → behind class (drop at s) ≡ getD s end 0 ∷ drop (end + 1) s
-  behind-some h = behind-at ∙ here s end h
-
--- fixed bytes that stand at a place end inside
-pub stands-inside : (p s : List ℕ) (at : ℕ) (o : Bool) → at ≤ length s → o ≡ startsWith p (drop at s) → o ≡ true → at + length p ≤ length s
-stands-inside p s at o h e t =
-    let c = ap length (starts-is p (drop at s) (sym e ∙ t)) in
-    omega (arith, length-append p (drop (length p) (drop at s)), length-drop at s)
 
 -- ---- the ways out: an answer and what a definition finds
 
@@ -108,38 +67,20 @@ pub record FoundAt {A : Type 0} (size own : A → ℕ) (P : A → List ℕ → T
   pub ahead : at ≤ end
   pub inside : end ≤ length s
 
--- the fault that a refusal names
-pub record FaultAt {A : Type 0} (s : List ℕ) (x : Found A) (why : Refusal) (place : ℕ) : Type 0 where
-  pub left : List ℕ
-  pub faults : x ≡ fault (numberOf why) left
-  pub there : placeIn s left ≡ place
-
 module _ {A : Type 0} (size own : A → ℕ) (s : List ℕ) (r : Part) where
+  -- the number and the place of an answer are those of what is found
+  tells : (x : Found A) (y : Part) → r ≡ y → seen r ≡ seenOf size own s x → Tells s x (seen y .number) (seen y .place)
+  tells (found a left) y q e = let k = sym (ap seen q) ∙ e in (ap (λ (y : Seen). y .number) k, ap (λ (y : Seen). y .place) k)
+  tells (fault n left) y q e = let k = sym (ap seen q) ∙ e in (ap (λ (y : Seen). y .number) k, ap (λ (y : Seen). y .place) k)
+
   pub found-at : (P : A → List ℕ → Type 0) (at : ℕ) (x : Found A) (end made mine : ℕ) → seen r ≡ seenOf size own s x → Reads (drop at s) P x → at ≤ length s → r ≡ Read end made mine → FoundAt size own P s at x end made mine
-  found-at P at x end made mine e h l q = go x (sym (ap seen q) ∙ e) h
-    where
-      go : (x : Found A) → seen (Read end made mine) ≡ seenOf size own s x → Reads (drop at s) P x → FoundAt size own P s at x end made mine
-      go (found a left) e h =
-          let t = left-at s at l (h .0) in
-          let p : end ≡ placeIn s left = ap (λ (y : Seen). y .place) e in
-          let d : left ≡ drop end s = t .same ∙ ap (λ (k : ℕ). drop k s) (sym p) in
-          record {
-            it = a;
-            finds = ap (found a) d;
-            holds = rw d at (h .1);
-            many = sym (ap (λ (y : Seen). y .made) e);
-            owned = sym (ap (λ (y : Seen). y .own) e);
-            ahead = omega (arith, t .ahead);
-            inside = omega (arith, t .inside);
-          }
-      go (fault n left) e h = absurd (omega (arith, ap (λ (y : Seen). y .number) e, h .least))
+  found-at P at x end made mine e h l q =
+      let f = found-to P s at x end (tells x (Read end made mine) q e) h l in
+      let k : seenOf size own s (found (f .it) (drop end s)) ≡ seen (Read end made mine) = ap (seenOf size own s) (sym (f .finds)) ∙ sym e ∙ ap seen q in
+      record { it = f .it; finds = f .finds; holds = f .holds; many = ap (λ (y : Seen). y .made) k; owned = ap (λ (y : Seen). y .own) k; ahead = f .ahead; inside = f .inside }
 
   pub fault-at : (x : Found A) (why : Refusal) (place : ℕ) → seen r ≡ seenOf size own s x → r ≡ Refused why place → FaultAt s x why place
-  fault-at x why place e q = go x (sym (ap seen q) ∙ e)
-    where
-      go : (x : Found A) → seen (Refused why place) ≡ seenOf size own s x → FaultAt s x why place
-      go (found a left) e = absurd (number-positive why (ap (λ (y : Seen). y .number) e))
-      go (fault n left) e = record { left = left; faults = ap (λ (k : ℕ). fault k left) (sym (ap (λ (y : Seen). y .number) e)); there = sym (ap (λ (y : Seen). y .place) e) }
+  fault-at x why place e q = fault-to s x why place (tells x (Refused why place) q e)
 
   -- a refusal is passed on by whatever keeps the faults of the part
   pub passed-on : {B : Type 0} (many mine : B → ℕ) (outer : Found A → Found B) → ((n : ℕ) (left : List ℕ) → outer (fault n left) ≡ fault n left)

@@ -21,7 +21,8 @@ use Rattle.text.proofs.Places.{here}
 use Rattle.lines.specs.Parts.{seen, passed, part}
 use Rattle.lines.specs.declared.part.Part.{Part}
 use Rattle.lines.specs.declared.part.Part.the-variants.{Read}
-use Rattle.lines.proofs.Crossing.{Stretch, behind-at, front-at, behind-none, behind-some, further, found-at}
+use Rattle.text.proofs.Stretch.{Stretch, behind-at, front-at, behind-none, behind-some}
+use Rattle.lines.proofs.Crossing.{further, found-at}
 
 -- ---- a byte that is due
 

@@ -22,7 +22,9 @@ use Rattle.entries.specs.declared.Slot.{Slot}
 use Rattle.lines.specs.Parts.{Makes, noteEntries}
 use Rattle.lines.specs.declared.part.Part.{Part}
 use Rattle.lines.specs.declared.part.Part.the-variants.{Read, Refused}
-use Rattle.lines.proofs.Crossing.{Stretch, behind-at, stands-inside, FoundAt, found-at, makes-same}
+use Rattle.text.proofs.Stretch.{Stretch, behind-at}
+use Rattle.text.proofs.Compared.{stands-inside}
+use Rattle.lines.proofs.Crossing.{FoundAt, found-at, makes-same}
 use Rattle.lines.proofs.Turns.{makes-over, makes-stop, makes-more}
 use Rattle.lines.proofs.Lengths.{blank-long, note-long}
 
@@ -73,7 +75,7 @@ module _ (s : List ℕ) (at : ℕ) (lent : List ℕ) (slot : Slot) (cells : List
 
   module _ (n : not o ≡ false) where
     pub mark-inside : mark + 1 ≤ length s
-    mark-inside = stands-inside (bytes "[") s mark o (run .2) asked (not-false o n)
+    mark-inside = omega (arith, stands-inside (bytes "[") s mark (sym asked ∙ not-false o n))
 
     a-note : (room : ℕ) → annotationTurn room (drop i s) ≡ turnOf (annotation room (lengthIn isTab (drop i s)) (drop (mark + 1) s))
     unfolding annotationTurn

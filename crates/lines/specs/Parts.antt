@@ -5,12 +5,11 @@ use mathlib.Core.Path.{_≡_}
 use mathlib.Core.Bool.{Bool, true}
 use mathlib.Core.List.{List, [], _∷_}
 use lib.ListN.{length, take, drop}
-use Rattle.paper.specs.declared.Refusal.{Refusal}
 use Rattle.paper.specs.Answer.{numberOf}
 use Rattle.paper.specs.Found.{Found, found, fault, Turn, more, over, stop, placeIn}
 use Rattle.paper.specs.Names.{isConceptName, isTraitName}
 use Rattle.paper.specs.Limits.{sheetLimit}
-use Rattle.paper.specs.Tree.{Blank, Annotation, Line, Marker, Concept, selfClosed, children, content}
+use Rattle.paper.specs.Tree.{Annotation, Concept, selfClosed, children, content}
 use Rattle.paper.specs.Grammar.{blankOnto, linesOnto}
 use Rattle.paper.specs.Entries.{Entry, unnamed}
 use Rattle.entries.specs.Laid.{lay}

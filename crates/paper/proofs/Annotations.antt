@@ -1,21 +1,21 @@
 -- Annotations: what reading them finds, and that it finds what stands there. Assumes nothing.
-use Prim.Native.Nat.{ℕ, zero, suc, _+_, _-_, _≤_, _<_}
+use Prim.Native.Nat.{ℕ, suc, _+_, _-_, _≤_, _<_}
 use mathlib.Core.Path.{_≡_, refl, sym, ap, _∙_}
-use mathlib.Core.Bool.{Bool, true, false, not, _&&_, _||_, or-true}
-use mathlib.Core.List.{List, [], _∷_, _++_, append-assoc}
+use mathlib.Core.Bool.{true, false, not, _||_}
+use mathlib.Core.List.{List, [], _∷_, _++_}
 use native.Mathlib.Omega.{arith}
 use lib.ListN.{length, drop, length-append}
 use lib.Dec.{eqb}
-use borrow.Author.Tests.{eqb-true, eq-eqb}
-use Rattle.paper.specs.Found.{Found, found, fault, andThen, Turn, more, over, stop, turnOf, manyOf}
-use Rattle.paper.specs.Bytes.{byte, bytes, isLineEnd, all, elem, startsIn, lengthIn, behind, startsWith, tab}
-use Rattle.paper.specs.Tree.{Blank, Annotation}
+use borrow.Author.Tests.{eqb-true}
+use Rattle.paper.specs.Found.{Found, found, fault, andThen}
+use Rattle.paper.specs.Bytes.{byte, bytes, isLineEnd, all, elem, startsIn, lengthIn, behind, startsWith}
+use Rattle.paper.specs.Tree.{Annotation}
 use Rattle.paper.specs.Grammar.{blankOnto, tabsOnto, annotationOnto, annotationsOnto, blankRule, annotationText, annotationEscape, annotationRule}
 use Rattle.paper.specs.Reading.{lineRest, isTab, makes, textOf, escapeOf, annotation, annotationTurn, annotations}
 use Rattle.paper.proofs.Tests.{split, true-false}
 use Rattle.paper.proofs.Lists.{both, and, all-head, starts-is, starts-of}
-use Rattle.paper.proofs.Finds.{Tail, whole, past, tail-length, tail-then, tail-drop, Fault, Reads, reads-on, reads-in, Turns, turns-of}
-use Rattle.paper.proofs.Runs.{Says, many-reads, Shorter, turns-shorter, run-more, run-over}
+use Rattle.paper.proofs.Finds.{whole, past, tail-length, tail-then, tail-drop, Reads, reads-on, reads-in, Turns, turns-of}
+use Rattle.paper.proofs.Runs.{many-reads, Shorter, turns-shorter, run-more, run-over}
 use Rattle.paper.proofs.Lines.{fault-here, fault-end, ReadBlank, rest-reads, rest-complete, makes-reads, makes-complete, tabs-covers, tabs-length, tabs-behind}
 
 -- ---- the text

@@ -1,13 +1,12 @@
 -- The faults that come before the grammar's: those of a table are 1, those of bytes are 3, each at a place of its list. Assumes nothing.
-use Prim.Native.Nat.{ℕ, zero, suc, _≤_}
-use mathlib.Core.Path.{_≡_, refl, sym, ap, _∙_}
-use mathlib.Core.Bool.{Bool, true, false, not, _&&_}
+use Prim.Native.Nat.{ℕ, zero, suc}
+use mathlib.Core.Path.{_≡_, refl}
+use mathlib.Core.Bool.{not, _&&_}
 use mathlib.Core.List.{List, [], _∷_, _++_}
-use native.Mathlib.Omega.{arith}
 use lib.ListN.{length, take, drop}
 use lib.Dec.{leb}
 use Rattle.paper.specs.Found.{Found, found, fault, andThen}
-use Rattle.paper.specs.Bytes.{within, startsWith, scalar, mayStand, scalars, encode, byteOrderMark, sheetBytes}
+use Rattle.paper.specs.Bytes.{within, startsWith, scalars, encode, byteOrderMark, sheetBytes}
 use Rattle.paper.specs.Names.{nameLimit, isConceptName, among}
 use Rattle.paper.specs.Modes.{sectionLimit, Modes, tableNames, section, wholly, modeTable}
 use Rattle.paper.proofs.Tests.{split}

@@ -1,28 +1,28 @@
 -- Concepts and children bodies: what reading them finds, and that it finds what stands there. Assumes nothing.
-use Prim.Native.Nat.{ℕ, zero, suc, _+_, _-_, _≤_, _<_, max}
+use Prim.Native.Nat.{ℕ, zero, suc, _+_, _-_, _≤_, _<_}
 use mathlib.Core.Path.{_≡_, refl, sym, ap, _∙_}
-use mathlib.Core.Bool.{Bool, true, false, not, _&&_, _||_}
+use mathlib.Core.Bool.{Bool, true, false, not, _&&_}
 use mathlib.Core.List.{List, [], _∷_, _++_}
 use native.Mathlib.Omega.{arith}
-use lib.ListN.{length, drop, length-append}
-use lib.Dec.{leb, eqb}
-use borrow.Author.Tests.{leb-true, le-leb, not-true}
+use lib.ListN.{length}
+use lib.Dec.{leb}
+use borrow.Author.Tests.{not-true}
 use Rattle.paper.specs.declared.Mode.{Mode}
 use Rattle.paper.specs.declared.Mode.the-variants.{Children, Content, Absent}
-use Rattle.paper.specs.Found.{Found, found, fault, andThen}
+use Rattle.paper.specs.Found.{Found, found, fault}
 use Rattle.paper.specs.Bytes.{byte, bytes, isUpper, isLower, isDigit, isLetter, isNameByte, isBlank, isLineEnd, isWhite, all, startsIn, lengthIn, behind, startsWith}
 use Rattle.paper.specs.Names.{nameRule, isName}
 use Rattle.paper.specs.Modes.{Modes, modeOf}
 use Rattle.paper.specs.Values.{valueOnto}
-use Rattle.paper.specs.Tree.{LineEnd, LF, CRLF, Blank, Annotation, Line, Trait, Marker, Ending, block, self, Concept, selfClosed, children, content, Body, done, blankLine, element}
+use Rattle.paper.specs.Tree.{LineEnd, LF, CRLF, Blank, Annotation, Trait, Marker, Ending, block, self, Concept, selfClosed, children, content, Body, done, blankLine, element}
 use Rattle.paper.specs.Grammar.{lineEndOnto, blankOnto, tabsOnto, annotationsOnto, traitsOnto, markerOnto, endingOnto, closingOnto, linesOnto, conceptOnto, bodyOnto, blankRule, annotationRule, traitRule, markerRule, opensBlock, inMode, lineRule, conceptRule, bodyRule}
 use Rattle.paper.specs.Limits.{traitFits, markerFits, conceptFits, bodyFits, conceptDepth, bodyDepth}
 use Rattle.paper.specs.Entries.{traitsSize, conceptSize, bodySize}
 use Rattle.paper.specs.Reading.{Bounds, lineRest, isBlankLine, isTab, tabsOnly, name, due, makes, annotations, Opened, opened, admitted, closing, atLineEnd, contentOf, concept, childrenOf, body}
 use Rattle.paper.proofs.Tests.{split, true-false, apart, when-true, when-false}
 use Rattle.paper.proofs.Lists.{both, and, is-not, all-head, behind-of}
-use Rattle.paper.proofs.Finds.{Tail, whole, past, tail-length, tail-then, tail-drop, Fault, Reads, reads-as, reads-on, reads-in}
-use Rattle.paper.proofs.Lines.{fault-here, fault-end, ReadBlank, rest-reads, rest-complete, ends-blank, blank-line, tabs-covers, tabs-length, tabs-behind, marked-line, only-reads, only-complete, rule-name, ReadName, name-reads, name-found, due-reads, due-complete, makes-reads, makes-complete}
+use Rattle.paper.proofs.Finds.{Tail, whole, tail-then, tail-drop, Reads, reads-as, reads-on, reads-in}
+use Rattle.paper.proofs.Lines.{fault-here, ReadBlank, rest-reads, rest-complete, ends-blank, blank-line, tabs-covers, tabs-length, tabs-behind, marked-line, only-reads, only-complete, rule-name, ReadName, name-reads, name-found, due-reads, due-complete, makes-reads, makes-complete}
 use Rattle.paper.proofs.Widths.{append-wide, tabs-wide, blank-wide, annotations-wide, traits-wide, ending-wide, marker-wide, concept-wide}
 use Rattle.paper.proofs.Annotations.{ReadAnnotations, annotations-reads, annotations-complete}
 use Rattle.paper.proofs.Content.{ReadContent, content-reads, content-complete}
@@ -87,7 +87,7 @@ pub record Opens (by : Bounds) (deeper room : ℕ) (s : List ℕ) (mode : Mode) 
   pub deep : 0 < deeper
   pub fits : suc (traitsSize (o .marker .traits)) ≤ room
 
-opens-made : (by : Bounds) (deeper room : ℕ) (s named w mid start : List ℕ) (mode : Mode) (o : Opened) (left : List ℕ) → s ≡ byte "<" ∷ named → ReadName (isName isUpper (by .names)) named w mid → Admits by deeper room w mid mode start → ReadOpened by (room - 1) w start o left → Opens by deeper room s mode o left
+pub opens-made : (by : Bounds) (deeper room : ℕ) (s named w mid start : List ℕ) (mode : Mode) (o : Opened) (left : List ℕ) → s ≡ byte "<" ∷ named → ReadName (isName isUpper (by .names)) named w mid → Admits by deeper room w mid mode start → ReadOpened by (room - 1) w start o left → Opens by deeper room s mode o left
 unfolding markerRule markerFits isName
 opens-made by deeper room s named w mid start mode o left d n a r =
     let k = o .marker in

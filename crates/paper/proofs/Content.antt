@@ -1,24 +1,24 @@
 -- Content: what reading its lines and its closing line finds, and that it finds what stands there. Assumes nothing.
-use Prim.Native.Nat.{ℕ, zero, suc, _+_, _-_, _≤_, _<_}
+use Prim.Native.Nat.{ℕ, zero, suc, _+_, _-_, _<_}
 use mathlib.Core.Path.{_≡_, refl, sym, ap, _∙_}
-use mathlib.Core.Bool.{Bool, true, false, not, _&&_, _||_, or-true}
+use mathlib.Core.Bool.{Bool, true, false, not}
 use mathlib.Core.List.{List, [], _∷_, _++_, append-assoc, append-nil, append-cancel-left, head-eq-of-cons-eq}
 use native.Mathlib.Omega.{arith}
 use lib.ListN.{length, drop, replicate, length-append, length-replicate}
 use lib.Seq.{drop-append-seam}
 use lib.Dec.{eqb}
-use borrow.Author.Tests.{eqb-true, eq-eqb, not-true}
-use Rattle.paper.specs.Found.{Found, found, fault, andThen, Turn, more, over, stop, turnOf, manyOf}
-use Rattle.paper.specs.Bytes.{byte, bytes, isBlank, isLineEnd, all, startsIn, lengthIn, front, behind, startsWith, tab, lf, cr}
+use borrow.Author.Tests.{eq-eqb, not-true}
+use Rattle.paper.specs.Found.{Found, found, fault, andThen, more, manyOf}
+use Rattle.paper.specs.Bytes.{byte, isBlank, isLineEnd, all, startsIn, lengthIn, behind, startsWith, tab, lf, cr}
 use Rattle.paper.specs.Values.{upTo, onward}
 use Rattle.paper.specs.Tree.{LineEnd, LF, CRLF, Blank, Line, blank, text, Marker, Concept, content}
 use Rattle.paper.specs.Grammar.{lineEndOnto, blankOnto, tabsOnto, closingOnto, lineOnto, linesOnto, blankRule, lineRule}
 use Rattle.paper.specs.Reading.{lineEnd, lineRest, isBlankLine, makes, atLineEnd, closingMark, closesLine, textLine, otherLine, lineTurn, contentOf}
 use Rattle.paper.proofs.Tests.{split, true-false}
-use Rattle.paper.proofs.Lists.{both, and, is-not, all-head, front-all, front-behind, behind-stops, front-of, behind-of, starts-is, starts-of}
-use Rattle.paper.proofs.Finds.{Tail, whole, past, tail-length, tail-then, tail-drop, Fault, Reads, reads-on, reads-in, Turns, turns-of}
-use Rattle.paper.proofs.Runs.{Says, many-reads, Shorter, turns-shorter, run-more, run-over}
-use Rattle.paper.proofs.Lines.{fault-here, fault-end, ReadBlank, rest-reads, rest-complete, blank-line, line-end-reads, line-end-complete, ends-blank, all-tabs, makes-reads, makes-complete}
+use Rattle.paper.proofs.Lists.{both, and, is-not, all-head, front-all, front-behind, front-of, behind-of, starts-is, starts-of}
+use Rattle.paper.proofs.Finds.{Tail, whole, tail-length, tail-then, tail-drop, Reads, reads-on, reads-in, Turns, turns-of}
+use Rattle.paper.proofs.Runs.{many-reads, Shorter, turns-shorter, run-more, run-over}
+use Rattle.paper.proofs.Lines.{fault-end, ReadBlank, rest-reads, rest-complete, blank-line, line-end-reads, line-end-complete, ends-blank, all-tabs, makes-reads, makes-complete}
 
 -- ---- the closing line
 

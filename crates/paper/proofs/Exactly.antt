@@ -1,35 +1,32 @@
 -- A sheet is accepted exactly when the grammar derives it within the limits and its entries fit; the derivation is the only one; everything else is refused.
 -- Demand 2's first half, about the definitions. Assumes nothing.
-use Prim.Native.Nat.{ℕ, zero, suc, _+_, _-_, _≤_, _<_, max}
+use Prim.Native.Nat.{ℕ, _-_, _≤_}
 use mathlib.Core.Path.{_≡_, refl, sym, ap, _∙_}
-use mathlib.Core.Bool.{Bool, true, false, _&&_}
-use mathlib.Core.List.{List, [], _∷_, _++_}
+use mathlib.Core.Bool.{true, _&&_}
+use mathlib.Core.List.{List, []}
 use mathlib.Core.Logic.{_⊎_, inl, inr, ⊎-elim, _↔_}
 use native.Mathlib.Omega.{arith}
-use lib.ListN.{length, drop, replicate, length-drop}
+use lib.ListN.{length, length-drop}
 use lib.Dec.{leb, ltb}
-use borrow.Author.Tests.{leb-true, le-leb, ltb-true, ltb-false, le-ltb}
-use Rattle.paper.specs.Answer.{Told, accepted, refused}
+use borrow.Author.Tests.{leb-true, le-leb, ltb-false, le-ltb}
+use Rattle.paper.specs.Answer.{accepted}
 use Rattle.paper.specs.Found.{Found, found, fault, andThen, placeIn}
-use Rattle.paper.specs.Bytes.{all, sheetBytes}
+use Rattle.paper.specs.Bytes.{sheetBytes}
 use Rattle.paper.specs.Names.{nameLimit}
-use Rattle.paper.specs.Modes.{Modes, modeTable}
+use Rattle.paper.specs.Modes.{Modes, modeTable, readTable}
 use Rattle.paper.specs.Tree.{Sheet}
-use Rattle.paper.specs.Grammar.{sheetOnto, sheetRule, Derives}
-use Rattle.paper.specs.Limits.{sheetLimit, conceptLimit, listLimit, conceptFits, conceptDepth, withinLimits}
-use Rattle.paper.specs.Entries.{Entry, sheetSize, entries, filled}
-use Rattle.paper.specs.Reading.{Bounds, sheetTree, roomOf, sheetOf, Reading, refusal, reading}
-use Rattle.paper.proofs.Tests.{split, true-false}
+use Rattle.paper.specs.Grammar.{Derives}
+use Rattle.paper.specs.Limits.{sheetLimit, entryLimit, conceptLimit, listLimit, conceptFits, conceptDepth, withinLimits}
+use Rattle.paper.specs.Entries.{Entry, entries, filled}
+use Rattle.paper.specs.Reading.{boundsOf, sheetTree, roomOf, sheetOf, Reading, refusal, reading}
+use Rattle.paper.proofs.Tests.{split}
 use Rattle.paper.proofs.Lists.{both, and}
-use Rattle.paper.proofs.Finds.{Tail, whole, tail-length, tail-drop, Fault, Reads}
+use Rattle.paper.proofs.Finds.{Reads}
 use Rattle.paper.proofs.Scalars.{sheet-made}
 use Rattle.paper.proofs.Before.{Only, table-only, table-whole, bytes-only}
+use Rattle.paper.proofs.TableSizes.{table-small}
 use Rattle.paper.proofs.Sizes.{entries-size, filled-only}
-use Rattle.paper.proofs.Sheets.{ReadSheet, sheet-reads, Keeps, sheet-complete}
-
--- what the paper reads by
-abbrev pub paperBounds : Modes → Bounds
-paperBounds m = record { modes = m; names = nameLimit; lists = listLimit }
+use Rattle.paper.proofs.Sheets.{ReadSheet, sheet-reads, sheet-complete}
 
 -- ---- a sheet under a valid table
 
@@ -44,6 +41,7 @@ pub record Rejects (s : List ℕ) (n : ℕ) (left : List ℕ) : Type 0 where
   pub least : 2 ≤ n
   pub most : n ≤ 11
   pub place : placeIn s left ≤ length s
+  pub short : placeIn s left ≤ sheetLimit
 
 abbrev pub Answers : Modes → ℕ → List ℕ → Found Sheet → Type 0
 Answers m room s (found t left) = (left ≡ []) × Accepts m room s t
@@ -53,11 +51,11 @@ sheet-answers : (m : Modes) (room : ℕ) (s : List ℕ) → Answers m room s (sh
 unfolding sheetOf withinLimits
 sheet-answers m room s =
     split (ltb sheetLimit (length s))
-    (λ e. rw (e, sheetOf) (record { least = omega arith; most = omega arith; place = omega arith }))
+    (λ e. rw (e, sheetOf) (record { least = omega arith; most = omega arith; place = omega arith; short = omega (arith, length-drop sheetLimit s) }))
     (λ e. rw (e, sheetOf) (bytes (ltb-false sheetLimit (length s) e) (sheetBytes s) refl (bytes-only s)))
   where
-    tree : length s ≤ sheetLimit → (vs : List ℕ) → sheetBytes s ≡ found vs [] → (x : Found Sheet) → Reads s (λ t left. ReadSheet (paperBounds m) conceptLimit room s t left) x → Answers m room s x
-    tree l vs e (fault n left) h = record { least = omega (arith, h .least); most = h .most; place = omega arith }
+    tree : length s ≤ sheetLimit → (vs : List ℕ) → sheetBytes s ≡ found vs [] → (x : Found Sheet) → Reads s (λ t left. ReadSheet (boundsOf m) conceptLimit room s t left) x → Answers m room s x
+    tree l vs e (fault n left) h = record { least = omega (arith, h .least); most = h .most; place = omega arith; short = omega arith }
     tree l vs e (found t left) h =
         let r = h .1 in (
           r .over,
@@ -68,9 +66,9 @@ sheet-answers m room s =
           },
         )
 
-    bytes : length s ≤ sheetLimit → (x : Found (List ℕ)) → sheetBytes s ≡ x → Only 3 s x → Answers m room s (andThen x (λ vs left. sheetTree (paperBounds m) conceptLimit room s))
-    bytes l (fault n left) e h = record { least = omega (arith, h .0); most = omega (arith, h .0); place = omega arith }
-    bytes l (found vs left) e h = tree l vs (e ∙ ap (found vs) (sheet-made s vs left e .empty)) (sheetTree (paperBounds m) conceptLimit room s) (sheet-reads (paperBounds m) conceptLimit room s)
+    bytes : length s ≤ sheetLimit → (x : Found (List ℕ)) → sheetBytes s ≡ x → Only 3 s x → Answers m room s (andThen x (λ vs left. sheetTree (boundsOf m) conceptLimit room s))
+    bytes l (fault n left) e h = record { least = omega (arith, h .0); most = omega (arith, h .0); place = omega arith; short = omega arith }
+    bytes l (found vs left) e h = tree l vs (e ∙ ap (found vs) (sheet-made s vs left e .empty)) (sheetTree (boundsOf m) conceptLimit room s) (sheet-reads (boundsOf m) conceptLimit room s)
 
 sheet-accepts : (m : Modes) (room : ℕ) (s : List ℕ) (t : Sheet) → Accepts m room s t → sheetOf m room s ≡ found t []
 unfolding sheetOf withinLimits
@@ -79,8 +77,8 @@ sheet-accepts m room s t a =
     let p = both (leb (length s) sheetLimit && conceptFits nameLimit listLimit (t .root)) (leb (conceptDepth (t .root)) conceptLimit) (a .limits) in
     let q = both (leb (length s) sheetLimit) (conceptFits nameLimit listLimit (t .root)) (p .0) in
     rw (le-ltb sheetLimit (length s) (leb-true (length s) sheetLimit (q .0)), sheetOf, d .bytes)
-    (ap (sheetTree (paperBounds m) conceptLimit room) (sym (d .covers))
-    ∙ sheet-complete (paperBounds m) conceptLimit room t (record { rule = d .rule; within = q .1; depth = leb-true (conceptDepth (t .root)) conceptLimit (p .1); fits = omega (arith, a .fit, entries-size t) }))
+    (ap (sheetTree (boundsOf m) conceptLimit room) (sym (d .covers))
+    ∙ sheet-complete (boundsOf m) conceptLimit room t (record { rule = d .rule; within = q .1; depth = leb-true (conceptDepth (t .root)) conceptLimit (p .1); fits = omega (arith, a .fit, entries-size t) }))
 
 -- ---- accepted exactly
 
@@ -97,7 +95,7 @@ pub record Exactly (table s : List ℕ) (lent : ℕ) (es : List Entry) : Type 0 
 abbrev pub accepting : List ℕ → ℕ → List Entry → Reading
 accepting s lent es = record { answer = accepted (length s) (length es); cells = filled lent es }
 
--- every other reading refuses: a number from 1 to 11, at a place of the table for 1 and of the sheet for the others
+-- every other reading refuses: a number from 1 to 11, at a place of the table for 1 and of the sheet for the others, none past the longest sheet
 pub record Refused (table s : List ℕ) (lent : ℕ) : Type 0 where
   pub number : ℕ
   pub place : ℕ
@@ -106,6 +104,7 @@ pub record Refused (table s : List ℕ) (lent : ℕ) : Type 0 where
   pub most : number ≤ 11
   pub in-table : number ≡ 1 → place ≤ length table
   pub in-sheet : 2 ≤ number → place ≤ length s
+  pub short : place ≤ sheetLimit
 
 -- a reading is one or the other
 pub record Accepted (table s : List ℕ) (lent : ℕ) : Type 0 where
@@ -114,7 +113,7 @@ pub record Accepted (table s : List ℕ) (lent : ℕ) : Type 0 where
   pub exactly : Exactly table s lent list
 
 pub refused-otherwise : (table s : List ℕ) (lent : ℕ) → Accepted table s lent ⊎ Refused table s lent
-unfolding reading
+unfolding reading readTable
 refused-otherwise table s lent = by-table (modeTable table) refl (table-only table)
   where
     by-sheet : (m : Modes) → modeTable table ≡ found m [] → (x : Found Sheet) → sheetOf m (roomOf lent) s ≡ x → Answers m (roomOf lent) s x → Accepted table s lent ⊎ Refused table s lent
@@ -133,6 +132,7 @@ refused-otherwise table s lent = by-table (modeTable table) refl (table-only tab
           most = a .most;
           in-table = λ q. absurd (omega (arith, a .least));
           in-sheet = λ q. a .place;
+          short = a .short;
         })
 
     by-table : (x : Found Modes) → modeTable table ≡ x → Only 1 table x → Accepted table s lent ⊎ Refused table s lent
@@ -146,6 +146,7 @@ refused-otherwise table s lent = by-table (modeTable table) refl (table-only tab
           most = omega (arith, o .0);
           in-table = λ q. omega arith;
           in-sheet = λ q. absurd (omega (arith, o .0));
+          short = let k : readTable table .place ≡ placeIn table left = rw (e, readTable) in omega (arith, table-small table .0);
         })
 
 -- not both: an acceptance has number 0
@@ -171,3 +172,16 @@ accepted-exactly table s lent es = (forth, back)
     back : Exactly table s lent es → reading table s lent ≡ accepting s lent es
     back x =
         rw (x .valid, reading, sheet-accepts (x .modes) (roomOf lent) s (x .tree) (record { derives = x .derives; limits = x .limits; fit = omega (arith, x .fit, ap length (x .are)) }), x .are)
+
+-- the numbers of every answer are small
+pub reading-small : (table s : List ℕ) (lent : ℕ) → (reading table s lent .answer .place ≤ sheetLimit) × (reading table s lent .answer .count ≤ entryLimit)
+unfolding withinLimits
+reading-small table s lent =
+    ⊎-elim
+    (λ a.
+    let x = a .exactly in
+    let p = both (leb (length s) sheetLimit && conceptFits nameLimit listLimit (x .tree .root)) (leb (conceptDepth (x .tree .root)) conceptLimit) (x .limits) in
+    let q = both (leb (length s) sheetLimit) (conceptFits nameLimit listLimit (x .tree .root)) (p .0) in
+    rw (a .is) (leb-true (length s) sheetLimit (q .0), omega (arith, x .fit)))
+    (λ r. rw (r .is) (r .short, omega arith))
+    (refused-otherwise table s lent)

@@ -1,8 +1,8 @@
 -- Fuel above the length does not matter in reading Concepts and bodies, and the steps of these readings without fuel. Assumes nothing.
 use Prim.Native.Nat.{ℕ, zero, suc, _+_, _-_, _≤_, _<_}
-use mathlib.Core.Path.{_≡_, refl, sym, ap, _∙_}
+use mathlib.Core.Path.{_≡_, ap, _∙_}
 use mathlib.Core.Bool.{Bool, true, false}
-use mathlib.Core.List.{List, [], _∷_, _++_}
+use mathlib.Core.List.{List, _∷_, _++_}
 use native.Mathlib.Numerals.{add-one}
 use native.Mathlib.Omega.{arith}
 use lib.ListN.{length, length-append}
@@ -11,8 +11,8 @@ use Rattle.paper.specs.declared.Mode.the-variants.{Children, Content, Ab
 use Rattle.paper.specs.Found.{Found, found, fault, andThen}
 use Rattle.paper.specs.Bytes.{byte, bytes, isUpper, lengthIn, behind, startsWith}
 use Rattle.paper.specs.Names.{isName}
-use Rattle.paper.specs.Tree.{Blank, Annotation, Marker, Ending, block, self, Concept, selfClosed, children, Body, done, blankLine, element}
-use Rattle.paper.specs.Grammar.{traitsOnto, endingOnto}
+use Rattle.paper.specs.Tree.{Marker, block, self, Concept, selfClosed, children, Body, done, blankLine, element}
+use Rattle.paper.specs.Grammar.{endingOnto}
 use Rattle.paper.specs.Entries.{traitsSize, conceptSize}
 use Rattle.paper.specs.Reading.{Bounds, lineRest, isBlankLine, isTab, tabsOnly, name, due, annotations, Opened, opened, admitted, closing, contentOf, concept, childrenOf, body, conceptOf, blockOf, bodyOf}
 use Rattle.paper.proofs.Tests.{split, when-true, when-false}

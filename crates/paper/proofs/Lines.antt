@@ -1,23 +1,23 @@
 -- Line ends, blank lines, names and the bytes that are due: what reading them finds, and that it finds what stands there. Assumes nothing.
 use Prim.Native.Nat.{ℕ, zero, suc, _+_, _-_, _≤_, _<_}
 use mathlib.Core.Path.{_≡_, refl, sym, ap, _∙_}
-use mathlib.Core.Bool.{Bool, true, false, not, _&&_, _||_, or-true}
-use mathlib.Core.List.{List, [], _∷_, _++_, append-assoc}
+use mathlib.Core.Bool.{Bool, true, false, or-true}
+use mathlib.Core.List.{List, [], _∷_, _++_}
 use native.Mathlib.Omega.{arith}
-use lib.ListN.{length, take, drop, replicate, length-append, length-replicate}
+use lib.ListN.{length, replicate, length-append, length-replicate}
 use lib.Seq.{length-take-le}
 use lib.Dec.{leb, ltb, eqb}
-use borrow.Author.Tests.{eqb-true, eq-eqb, leb-true, leb-false, le-leb}
-use Rattle.paper.specs.Found.{Found, found, fault, andThen, Turn, more, over, stop, turnOf, many, manyOf}
-use Rattle.paper.specs.Bytes.{byte, bytes, isNameByte, isUpper, isLetter, isBlank, isLineEnd, all, startsIn, lengthIn, front, behind, startsWith, lf, cr, tab, space}
-use Rattle.paper.specs.Names.{fewCapitals, nameRule, isName, run, pastRun}
+use borrow.Author.Tests.{eqb-true, eq-eqb, leb-true, le-leb}
+use Rattle.paper.specs.Found.{Found, found, fault}
+use Rattle.paper.specs.Bytes.{isNameByte, isUpper, isLetter, isBlank, isLineEnd, all, startsIn, lengthIn, front, behind, startsWith, lf, cr, tab, space}
+use Rattle.paper.specs.Names.{fewCapitals, nameRule, run, pastRun}
 use Rattle.paper.specs.Values.{is}
 use Rattle.paper.specs.Tree.{LineEnd, LF, CRLF, Blank}
 use Rattle.paper.specs.Grammar.{lineEndOnto, blankOnto, blanksOnto, tabsOnto, blankRule}
 use Rattle.paper.specs.Reading.{lineEnd, lineRest, isBlankLine, blankTurn, blankLines, isTab, noSpace, tabsOnly, nameOf, name, due, makes}
 use Rattle.paper.proofs.Tests.{split, true-false}
-use Rattle.paper.proofs.Lists.{both, and, all-head, front-all, front-behind, behind-stops, front-of, behind-of, front-length, length-in, all-same, same-byte, starts-is, starts-of}
-use Rattle.paper.proofs.Finds.{Tail, whole, past, tail-length, tail-then, tail-append, tail-drop, Fault, Reads, reads-then, reads-in, Turns, turns-of}
+use Rattle.paper.proofs.Lists.{both, and, all-head, front-all, front-behind, front-of, behind-of, front-length, length-in, all-same, same-byte, starts-is}
+use Rattle.paper.proofs.Finds.{Tail, whole, past, tail-then, tail-drop, Fault, Reads, Turns, turns-of}
 use Rattle.paper.proofs.Runs.{Says, many-reads, Shorter, turns-shorter, run-more, run-over}
 
 -- a fault at the front of what is left

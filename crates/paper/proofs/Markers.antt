@@ -1,13 +1,13 @@
 -- Markers: what reading traits, the ending and a closing marker finds, and that it finds what stands there. Assumes nothing.
 use Prim.Native.Nat.{ℕ, zero, suc, _+_, _-_, _≤_, _<_}
 use mathlib.Core.Path.{_≡_, refl, sym, ap, _∙_}
-use mathlib.Core.Bool.{Bool, true, false, not, _&&_, _||_, or-true}
-use mathlib.Core.List.{List, [], _∷_, _++_, append-assoc, map}
+use mathlib.Core.Bool.{Bool, true, false, not, _&&_}
+use mathlib.Core.List.{List, [], _∷_, _++_, map}
 use native.Mathlib.Omega.{arith}
 use lib.ListN.{length, drop, getD, length-append}
 use lib.Dec.{leb, eqb, eqb·suc-zero}
-use borrow.Author.Tests.{eqb-true, eq-eqb, leb-true, le-leb, ne-eqb}
-use Rattle.paper.specs.Found.{Found, found, fault, andThen, Turn, more, over, stop, turnOf, manyOf}
+use borrow.Author.Tests.{eqb-true, leb-true, le-leb, ne-eqb}
+use Rattle.paper.specs.Found.{found, fault, more, over, turnOf, manyOf}
 use Rattle.paper.specs.Bytes.{byte, bytes, isUpper, isLower, isDigit, isLetter, isNameByte, isBlank, isLineEnd, isWhite, all, elem, startsIn, lengthIn, front, behind, same}
 use Rattle.paper.specs.Names.{nameRule, isName}
 use Rattle.paper.specs.Values.{is, isEnder, endsWord, Value, valueOnto, valueRule, valueInSlash, listDepth}
@@ -18,10 +18,10 @@ use Rattle.paper.specs.Entries.{itemEntries, traitSize, traitsSize}
 use Rattle.paper.specs.ReadingValues.{wholeValue}
 use Rattle.paper.specs.Reading.{Bounds, name, due, enters, trait, traitDue, traitTurn, ending, Opened, opened, closing}
 use Rattle.paper.proofs.Tests.{split, true-false, apart}
-use Rattle.paper.proofs.Lists.{both, and, all-head, front-all, front-behind, behind-stops, front-of, behind-of, same-is, same-of}
-use Rattle.paper.proofs.Finds.{Tail, whole, past, tail-length, tail-then, tail-drop, Fault, Reads, reads-as, reads-on, reads-in, Turns, turns-of}
-use Rattle.paper.proofs.Runs.{Says, many-reads, Shorter, turns-shorter, run-more, run-over}
-use Rattle.paper.proofs.Lines.{fault-here, fault-end, rule-name, ReadName, name-reads, name-complete, due-reads, due-complete}
+use Rattle.paper.proofs.Lists.{both, and, all-head, front-all, front-behind, front-of, behind-of, same-is, same-of}
+use Rattle.paper.proofs.Finds.{Tail, whole, past, tail-length, tail-then, tail-drop, Reads, reads-as, reads-on, reads-in, Turns, turns-of}
+use Rattle.paper.proofs.Runs.{many-reads, Shorter, turns-shorter, run-more, run-over}
+use Rattle.paper.proofs.Lines.{fault-end, rule-name, ReadName, name-reads, name-complete, due-reads, due-complete}
 use Rattle.paper.proofs.Leaves.{Follows}
 use Rattle.paper.proofs.ReadValues.{ReadValue, whole-reads, whole-complete}
 
@@ -61,7 +61,7 @@ trait-made by room white s w mid valued v left n d r f =
       shorter = omega (arith, ap length (n .covers), length-append w mid, ap length d, r .shorter);
     }
 
-trait-reads : (by : Bounds) (room : ℕ) (white s : List ℕ) → Reads s (λ t left. ReadTrait by room white s t left) (trait by room white s)
+pub trait-reads : (by : Bounds) (room : ℕ) (white s : List ℕ) → Reads s (λ t left. ReadTrait by room white s t left) (trait by room white s)
 unfolding trait
 trait-reads by room white s =
     reads-on s (λ w left. ReadName (isName isLower (by .names)) s w left) _ _ (name (isName isLower (by .names)) s) (name-reads (isName isLower (by .names)) s)
@@ -112,7 +112,7 @@ turn-reads by room s = go (behind isWhite s) refl
         (λ g. rw (f, traitDue, g) (turns-of s _ _ (trait by room (front isWhite s) (b ∷ l)) (reads-in u _ (trait by room (front isWhite s) (b ∷ l)) (reads-as (b ∷ l) _ _ (trait by room (front isWhite s) (b ∷ l)) (trait-reads by room (front isWhite s) (b ∷ l)) (λ t left h. turn-made by room s (leb-true 1 (length (front isWhite s)) g) t left (rw e h))))))
         (λ g. rw (f, traitDue, g) (record { least = omega arith; most = omega arith; tail = u })))
 
-trait-shorter : (by : Bounds) (room : ℕ) (s : List ℕ) → Shorter s (traitTurn by room s)
+pub trait-shorter : (by : Bounds) (room : ℕ) (s : List ℕ) → Shorter s (traitTurn by room s)
 trait-shorter by room s = turns-shorter s _ _ (λ t left h. h .shorter) (traitTurn by room s) (turn-reads by room s)
 
 pub record ReadTraits (by : Bounds) (room : ℕ) (s : List ℕ) (ts : List Trait) (left : List ℕ) : Type 0 where
@@ -148,7 +148,7 @@ traits-reads by room s =
 
 -- ---- the ending
 
-ending-reads : (s : List ℕ) → Reads s (λ e left. s ≡ endingOnto e left) (ending s)
+pub ending-reads : (s : List ℕ) → Reads s (λ e left. s ≡ endingOnto e left) (ending s)
 unfolding ending
 ending-reads [] = fault-end []
 ending-reads (b ∷ l) =
@@ -266,7 +266,7 @@ unfolding slashLast
 closes-more t [] next c = record { ends = c .ends; some = c .some; slash = λ e. true-false (sym e); closed = c .closed }
 closes-more t (u ∷ ts) next c = record { ends = c .ends; some = c .some; slash = c .slash; closed = c .closed }
 
-enters-complete : (room : ℕ) (named valued : List ℕ) (t : Trait) (left : List ℕ) → traitSize t ≤ room → enters room named valued t left ≡ found t left
+pub enters-complete : (room : ℕ) (named valued : List ℕ) (t : Trait) (left : List ℕ) → traitSize t ≤ room → enters room named valued t left ≡ found t left
 unfolding enters
 enters-complete room named valued t left f = rw (le-leb (traitSize t) room f, enters)
 

@@ -1,7 +1,7 @@
 -- The derivation is the only one: two derivations of one sheet under one table are equal, also past the limits. Assumes nothing.
-use Prim.Native.Nat.{ℕ, zero, suc, _≤_, max}
+use Prim.Native.Nat.{ℕ, _≤_, max}
 use mathlib.Core.Path.{_≡_, refl, sym, ap, _∙_}
-use mathlib.Core.Bool.{Bool, true, _&&_}
+use mathlib.Core.Bool.{true}
 use mathlib.Core.List.{List, [], _∷_}
 use native.Mathlib.Omega.{arith}
 use lib.ListN.{length}
@@ -16,7 +16,7 @@ use Rattle.paper.specs.Limits.{traitFits, markerFits, conceptFits, bodyF
 use Rattle.paper.specs.Entries.{sheetSize}
 use Rattle.paper.specs.Reading.{Bounds, sheetTree}
 use Rattle.paper.proofs.Lists.{and}
-use Rattle.paper.proofs.Sheets.{Keeps, sheet-complete}
+use Rattle.paper.proofs.Sheets.{sheet-complete}
 
 -- ---- any tree keeps some limits
 

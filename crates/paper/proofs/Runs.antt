@@ -1,11 +1,11 @@
 -- Runs of things (`many`): what they read, and that fuel above the length does not matter. Assumes nothing.
-use Prim.Native.Nat.{ℕ, zero, suc, _-_, _≤_, _<_}
-use mathlib.Core.Path.{_≡_, refl, sym, ap, _∙_}
+use Prim.Native.Nat.{ℕ, zero, suc, _-_, _<_}
+use mathlib.Core.Path.{_≡_, refl, ap, _∙_}
 use mathlib.Core.List.{List, [], _∷_}
 use native.Mathlib.Omega.{arith}
 use lib.ListN.{length}
 use Rattle.paper.specs.Found.{Found, found, fault, andThen, Turn, more, over, stop, goOn, many, manyOf}
-use Rattle.paper.proofs.Finds.{Tail, whole, Fault, Reads, reads-in, Turns}
+use Rattle.paper.proofs.Finds.{whole, Reads, reads-in, Turns}
 
 -- ---- what a run reads
 

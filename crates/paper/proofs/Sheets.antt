@@ -1,23 +1,22 @@
 -- Whole sheets: what reading finds, and that it finds what stands there. Assumes nothing.
-use Prim.Native.Nat.{ℕ, zero, suc, _+_, _-_, _≤_, _<_}
+use Prim.Native.Nat.{ℕ, _+_, _-_, _≤_}
 use mathlib.Core.Path.{_≡_, refl, sym, ap, _∙_}
-use mathlib.Core.Bool.{Bool, true, false, not, _&&_, _||_}
-use mathlib.Core.List.{List, [], _∷_, _++_, append-nil}
+use mathlib.Core.Bool.{true}
+use mathlib.Core.List.{List, [], _∷_, _++_}
 use native.Mathlib.Omega.{arith}
-use lib.ListN.{length, drop}
-use Rattle.paper.specs.Found.{Found, found, fault, andThen}
-use Rattle.paper.specs.Bytes.{byte, bytes, isBlank, isLineEnd, all, startsIn, lengthIn, front, behind}
-use Rattle.paper.specs.Tree.{Blank, Annotation, Concept, Sheet}
-use Rattle.paper.specs.Grammar.{blankOnto, blanksOnto, tabsOnto, annotationsOnto, conceptOnto, sheetOnto, blankRule, annotationRule, conceptRule, sheetRule}
+use lib.ListN.{length}
+use Rattle.paper.specs.Found.{found}
+use Rattle.paper.specs.Bytes.{isBlank, isLineEnd, all, startsIn, lengthIn, front, behind}
+use Rattle.paper.specs.Tree.{Blank, Sheet}
+use Rattle.paper.specs.Grammar.{blanksOnto, tabsOnto, annotationsOnto, conceptOnto, sheetOnto, blankRule, annotationRule, conceptRule, sheetRule}
 use Rattle.paper.specs.Limits.{conceptFits, conceptDepth}
-use Rattle.paper.specs.Entries.{conceptSize, sheetSize}
-use Rattle.paper.specs.Reading.{Bounds, isBlankLine, blankLines, isTab, tabsOnly, annotations, conceptOf, atLineEnd, lastBlanks, sheetTree}
-use Rattle.paper.proofs.Tests.{split, true-false}
+use Rattle.paper.specs.Entries.{sheetSize}
+use Rattle.paper.specs.Reading.{Bounds, blankLines, isTab, tabsOnly, annotations, conceptOf, atLineEnd, lastBlanks, sheetTree}
 use Rattle.paper.proofs.Lists.{both, and, all-head, front-all, front-behind, front-of, behind-of}
-use Rattle.paper.proofs.Finds.{Tail, whole, past, tail-length, tail-then, tail-drop, Fault, Reads, reads-as, reads-on, reads-in}
-use Rattle.paper.proofs.Lines.{fault-here, fault-end, ReadBlanks, blanks-reads, blanks-complete, tabs-covers, only-reads}
+use Rattle.paper.proofs.Finds.{tail-then, tail-drop, Reads, reads-on, reads-in}
+use Rattle.paper.proofs.Lines.{ReadBlanks, blanks-reads, blanks-complete, tabs-covers, only-reads}
 use Rattle.paper.proofs.Annotations.{ReadAnnotations, annotations-reads, annotations-complete}
-use Rattle.paper.proofs.Concepts.{ReadConcept, concept-reads, concept-complete, Begins, begins-element, concept-tabs, concept-behind, no-annotation, blank-ends, element-parts}
+use Rattle.paper.proofs.Concepts.{ReadConcept, concept-reads, concept-complete, begins-element, concept-tabs, concept-behind, no-annotation, blank-ends, element-parts}
 
 pub record ReadSheet (by : Bounds) (deeper room : ℕ) (s : List ℕ) (t : Sheet) (left : List ℕ) : Type 0 where
   pub over : left ≡ []

@@ -1,13 +1,13 @@
 -- How many entries a tree has, and that its cells say which. Assumes nothing.
-use Prim.Native.Nat.{ℕ, zero, suc, _+_, _-_, _*_, _≤_, _<_}
-use mathlib.Core.Path.{_≡_, refl, sym, ap, ap₂, _∙_}
-use mathlib.Core.List.{List, [], _∷_, _++_, append-assoc}
+use Prim.Native.Nat.{ℕ, suc, _+_, _-_, _*_}
+use mathlib.Core.Path.{_≡_, refl, ap, ap₂}
+use mathlib.Core.List.{List, [], _∷_, _++_}
 use native.Mathlib.Omega.{arith}
 use lib.ListN.{length, replicate, length-append}
 use Rattle.paper.specs.Values.{Value, leaf, emptyList, list, More, close, comma}
-use Rattle.paper.specs.Tree.{Blank, Trait, Marker, Annotation, Line, Concept, selfClosed, children, content, Body, done, blankLine, element, Sheet}
+use Rattle.paper.specs.Tree.{Trait, Annotation, Concept, selfClosed, children, content, Body, done, blankLine, element, Sheet}
 use Rattle.paper.specs.Grammar.{blankOnto, blanksOnto, annotationOnto, annotationsOnto, traitOnto, linesOnto}
-use Rattle.paper.specs.Entries.{Entry, cellsOf, allCells, itemEntry, valueWidth, itemSize, moreSize, itemEntries, moreEntries, traitSize, traitsSize, traitValue, traitEntry, traitEntries, annotationEntries, unnamed, conceptSize, bodySize, conceptWidth, conceptEntry, markerName, bodyStart, insideEntries, bodyEntries, noParent, rootStart, sheetSize, entries, entryCells, filled}
+use Rattle.paper.specs.Entries.{Entry, allCells, valueWidth, itemSize, moreSize, itemEntries, moreEntries, traitSize, traitsSize, traitValue, traitEntries, annotationEntries, unnamed, conceptSize, bodySize, conceptWidth, conceptEntry, markerName, bodyStart, insideEntries, bodyEntries, noParent, rootStart, sheetSize, entries, entryCells, filled}
 
 -- ---- as many entries as the size says
 
@@ -25,13 +25,13 @@ mutual
   more-size (comma white v more) parent next at =
       omega (arith, length-append (itemEntries next (next + 1) (at + 1 + length white) v) (moreEntries parent (next + 1 + itemSize v) (at + 1 + length white + valueWidth v) more), item-size v next (next + 1) (at + 1 + length white), more-size more parent (next + 1 + itemSize v) (at + 1 + length white + valueWidth v))
 
-traits-size : (ts : List Trait) (parent next at : ℕ) → length (traitEntries parent next at ts) ≡ traitsSize ts
+pub traits-size : (ts : List Trait) (parent next at : ℕ) → length (traitEntries parent next at ts) ≡ traitsSize ts
 unfolding traitEntries traitsSize
 traits-size [] parent next at = refl
 traits-size (t ∷ ts) parent next at =
     omega (arith, length-append (itemEntries next (next + 1) (traitValue at t) (t .value)) (traitEntries parent (next + traitSize t) (at + length (traitOnto t [])) ts), item-size (t .value) next (next + 1) (traitValue at t), traits-size ts parent (next + traitSize t) (at + length (traitOnto t [])))
 
-notes-size : (notes : List Annotation) (parent at : ℕ) → length (annotationEntries parent at notes) ≡ length notes
+pub notes-size : (notes : List Annotation) (parent at : ℕ) → length (annotationEntries parent at notes) ≡ length notes
 unfolding annotationEntries
 notes-size [] parent at = refl
 notes-size (a ∷ notes) parent at = ap suc (notes-size notes parent (at + length (annotationOnto a [])))
@@ -39,14 +39,14 @@ notes-size (a ∷ notes) parent at = ap suc (notes-size notes parent (at + lengt
 mutual
   unfolding insideEntries conceptSize
 
-  inside-size : (c : Concept) (own at tabs : ℕ) → suc (length (insideEntries own at tabs c)) ≡ conceptSize c
+  pub inside-size : (c : Concept) (own at tabs : ℕ) → suc (length (insideEntries own at tabs c)) ≡ conceptSize c
   inside-size (selfClosed k) own at tabs = omega (arith, traits-size (k .traits) own (own + 1) (markerName at k))
   inside-size (children k rest body back) own at tabs =
       omega (arith, length-append (traitEntries own (own + 1) (markerName at k) (k .traits)) (bodyEntries own (own + 1 + traitsSize (k .traits)) (bodyStart at k rest) body), traits-size (k .traits) own (own + 1) (markerName at k), body-size body own (own + 1 + traitsSize (k .traits)) (bodyStart at k rest))
   inside-size (content k rest lines) own at tabs =
       omega (arith, length-append (traitEntries own (own + 1) (markerName at k) (k .traits)) (unnamed 5 0 own 0 (bodyStart at k rest) (bodyStart at k rest + length (linesOnto tabs lines [])) ∷ []), traits-size (k .traits) own (own + 1) (markerName at k))
 
-  body-size : (b : Body) (parent next at : ℕ) → length (bodyEntries parent next at b) ≡ bodySize b
+  pub body-size : (b : Body) (parent next at : ℕ) → length (bodyEntries parent next at b) ≡ bodySize b
   body-size done parent next at = refl
   body-size (blankLine b body) parent next at = body-size body parent next (at + length (blankOnto b []))
   body-size (element notes tabs c rest body) parent next at =

@@ -63,3 +63,6 @@ module _ (low high b : ℕ) where
       split (leb low b)
       (λ l. split (leb b high) (λ h. on (leb-true low b l) (leb-true b high h) (rw (l, h))) (λ h. off (rw (l, h))))
       (λ l. off (rw l))
+
+  pub in-range : within low high b ≡ true → (low ≤ b) × (b ≤ high)
+  in-range e = byRange (λ l h w. (l, h)) (λ w. true-false (sym e ∙ w))

@@ -1,13 +1,13 @@
 -- What a tree covers is not shorter than what follows it. Assumes nothing.
-use Prim.Native.Nat.{ℕ, zero, suc, _+_, _≤_, _<_}
-use mathlib.Core.Path.{_≡_, refl, sym, ap, _∙_}
+use Prim.Native.Nat.{ℕ, suc, _+_, _≤_, _<_}
+use mathlib.Core.Path.{ap}
 use mathlib.Core.List.{List, [], _∷_, _++_}
 use native.Mathlib.Omega.{arith}
 use lib.ListN.{length, replicate, length-append}
 use Rattle.paper.specs.Bytes.{byte, tab}
 use Rattle.paper.specs.Values.{Value, valueOnto, spelling}
 use Rattle.paper.specs.Tree.{LineEnd, LF, CRLF, Blank, Trait, Marker, Annotation, Line, blank, text, Ending, block, self, Concept, selfClosed, children, content, Body, done, blankLine, element}
-use Rattle.paper.specs.Grammar.{lineEndOnto, blankOnto, tabsOnto, annotationOnto, annotationsOnto, traitOnto, traitsOnto, markerOnto, endingOnto, closingOnto, lineOnto, linesOnto, conceptOnto, bodyOnto}
+use Rattle.paper.specs.Grammar.{lineEndOnto, blankOnto, tabsOnto, annotationsOnto, traitsOnto, markerOnto, endingOnto, closingOnto, linesOnto, conceptOnto, bodyOnto}
 use Rattle.paper.proofs.ReadValues.{value-append}
 
 -- in front of a list

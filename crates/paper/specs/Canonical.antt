@@ -1,14 +1,14 @@
 -- The meaning of a tree, with no offset and no layout, and the canonical form, which is the printed meaning.
 -- Document 01, "Canonical form"; 000 §10.5.
 use Prim.Native.Nat.{ℕ, suc, _+_, _-_, _/_, _%_}
-use mathlib.Core.Bool.{Bool, true, false, not, _&&_, _||_}
+use mathlib.Core.Bool.{Bool, true, false, _||_}
 use mathlib.Core.List.{List, [], _∷_, _++_, map}
 use lib.ListN.{length}
 use lib.Dec.{leb, ltb, eqb}
 use Rattle.paper.specs.Found.{pick}
-use Rattle.paper.specs.Bytes.{byte, bytes, isUpper, lf, cr, tab, space}
+use Rattle.paper.specs.Bytes.{byte, isUpper, lf, cr, tab, space}
 use Rattle.paper.specs.Values.{piecesMean, collapse, endsInSlash, Leaf, string, character, backtick, word, Value, leaf, emptyList, list, More, close, comma}
-use Rattle.paper.specs.Tree.{Trait, Marker, Annotation, Line, blank, text, Concept, selfClosed, children, content, Body, done, blankLine, element, Sheet, Ending, block, self}
+use Rattle.paper.specs.Tree.{Marker, Annotation, Line, blank, text, Concept, selfClosed, children, content, Body, done, blankLine, element, Sheet, Ending, block, self}
 use Rattle.paper.specs.Grammar.{tabsOnto, endingOnto, closingOnto}
 
 -- ---- meanings

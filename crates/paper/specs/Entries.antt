@@ -4,7 +4,7 @@ use Prim.Native.Nat.{ℕ, suc, _+_, _-_, _*_}
 use mathlib.Core.List.{List, [], _∷_, _++_}
 use lib.ListN.{length, replicate}
 use Rattle.paper.specs.Values.{Value, leaf, emptyList, list, More, close, comma, spelling, valueForm}
-use Rattle.paper.specs.Tree.{LineEnd, Blank, Trait, Marker, Annotation, Line, Concept, selfClosed, children, content, Body, done, blankLine, element, Sheet}
+use Rattle.paper.specs.Tree.{Blank, Trait, Marker, Annotation, Concept, selfClosed, children, content, Body, done, blankLine, element, Sheet}
 use Rattle.paper.specs.Grammar.{blankOnto, blanksOnto, annotationOnto, annotationsOnto, traitOnto, markerOnto, linesOnto, conceptOnto}
 
 pub record Entry : Type 0 where

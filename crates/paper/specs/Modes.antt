@@ -1,7 +1,7 @@
 -- The mode table: its two sections of names, read from its bytes, and what it says of a name.
 -- Document 01, "The mode table", and refusal 1.
 use Prim.Native.Nat.{ℕ, zero, suc, _+_}
-use mathlib.Core.Bool.{Bool, true, false, not, _&&_}
+use mathlib.Core.Bool.{true, false, not, _&&_}
 use mathlib.Core.List.{List, [], _∷_, _++_}
 use lib.ListN.{length, take, drop}
 use lib.Dec.{leb}

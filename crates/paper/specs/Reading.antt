@@ -1,22 +1,22 @@
 -- Reading a sheet: for every table, sheet and number of cells lent, the answer and every cell at exit.
 -- Document 01, "Refusal numbers" and "Order"; the fault met first from left to right.
 use Prim.Native.Nat.{ℕ, zero, suc, _+_, _-_, _/_, min}
-use mathlib.Core.Bool.{Bool, true, false, not, _&&_, _||_}
-use mathlib.Core.List.{List, [], _∷_, _++_, map}
-use lib.ListN.{length, take, drop, getD, replicate}
+use mathlib.Core.Bool.{Bool, true, false, _&&_}
+use mathlib.Core.List.{List, [], _∷_, map}
+use lib.ListN.{length, drop, getD, replicate}
 use lib.Dec.{leb, ltb, eqb}
 use Rattle.paper.specs.declared.Mode.{Mode}
 use Rattle.paper.specs.declared.Mode.the-variants.{Children, Content, Absent}
 use Rattle.paper.specs.Answer.{Told, accepted, refused}
-use Rattle.paper.specs.Found.{Found, found, fault, andThen, Turn, more, over, stop, turnOf, manyOf, placeIn, pick}
+use Rattle.paper.specs.Found.{Found, found, fault, andThen, Turn, over, stop, turnOf, manyOf, placeIn}
 use Rattle.paper.specs.Bytes.{byte, bytes, isUpper, isLower, isBlank, isWhite, isLineEnd, lengthIn, front, behind, elem, same, startsIn, startsWith, sheetBytes, lf, cr, tab, space}
 use Rattle.paper.specs.Names.{nameLimit, run, pastRun, isName}
 use Rattle.paper.specs.Modes.{Modes, modeTable, modeOf}
-use Rattle.paper.specs.Values.{Value, is, upTo, onward}
-use Rattle.paper.specs.Tree.{LineEnd, LF, CRLF, Blank, Trait, Marker, Annotation, Line, blank, text, Concept, selfClosed, children, content, Body, done, blankLine, element, Sheet, Ending, block, self}
+use Rattle.paper.specs.Values.{is, upTo, onward}
+use Rattle.paper.specs.Tree.{LF, CRLF, Blank, Trait, Marker, Annotation, Line, blank, text, Concept, selfClosed, children, content, Body, done, blankLine, element, Sheet, Ending, block, self}
 use Rattle.paper.specs.Grammar.{tabsOnto, closingOnto}
 use Rattle.paper.specs.Limits.{sheetLimit, entryLimit, conceptLimit, listLimit}
-use Rattle.paper.specs.Entries.{Entry, entryCells, itemSize, itemEntries, traitSize, traitsSize, conceptSize, entries, filled}
+use Rattle.paper.specs.Entries.{entryCells, itemEntries, traitSize, traitsSize, conceptSize, entries, filled}
 use Rattle.paper.specs.ReadingValues.{wholeValue}
 
 -- what a sheet is read by: the modes of its table, and how long names and how deep lists may be
@@ -24,6 +24,10 @@ pub record Bounds : Type 0 where
   pub modes : Modes
   pub names : ℕ
   pub lists : ℕ
+
+-- the paper's own limits, under a table of these modes
+abbrev pub boundsOf : Modes → Bounds
+boundsOf m = record { modes = m; names = nameLimit; lists = listLimit }
 
 -- ---- lines
 
@@ -271,7 +275,7 @@ roomOf lent = min (lent / entryCells) entryLimit
 
 -- the faults of a sheet under a valid table, in the paper's order: 2, 3, then 4 to 11
 unfoldable pub sheetOf : Modes → ℕ → List ℕ → Found Sheet
-sheetOf m room s = elim (ltb sheetLimit (length s)) [ true ↦ fault 2 (drop sheetLimit s) | false ↦ andThen (sheetBytes s) (λ vs left. sheetTree (record { modes = m; names = nameLimit; lists = listLimit }) conceptLimit room s) ]
+sheetOf m room s = elim (ltb sheetLimit (length s)) [ true ↦ fault 2 (drop sheetLimit s) | false ↦ andThen (sheetBytes s) (λ vs left. sheetTree (boundsOf m) conceptLimit room s) ]
 
 -- the answer, and every lent cell at exit: a refusal leaves all of them zero
 pub record Reading : Type 0 where

@@ -1,13 +1,13 @@
 -- Reading a value from the front of a list: its tree and what is left, or the fault met first.
 -- Document 01, "The grammar", Values, and refusals 6, 9 and 10 of "Refusal numbers" and "Order".
 use Prim.Native.Nat.{ℕ, zero, suc}
-use mathlib.Core.Bool.{Bool, true, false, not, _&&_, _||_}
+use mathlib.Core.Bool.{true, false}
 use mathlib.Core.List.{List, [], _∷_, map}
 use lib.ListN.{length, take, drop}
 use lib.Dec.{leb, eqb}
 use Rattle.paper.specs.Found.{Found, found, fault, andThen, Turn, more, over, stop, turnOf, manyOf, pick}
-use Rattle.paper.specs.Bytes.{byte, bytes, isHex, isWhite, isLineEnd, lengthIn, front, behind, startsIn, startsWith, scalar, encode}
-use Rattle.paper.specs.Values.{Piece, direct, escaped, four, braces, pieceRule, is, wordForm, endsWord, listEnders, Leaf, string, character, backtick, word, Value, leaf, emptyList, list, More, close, comma}
+use Rattle.paper.specs.Bytes.{byte, bytes, isHex, isWhite, isLineEnd, lengthIn, front, behind, startsWith, scalar, encode}
+use Rattle.paper.specs.Values.{Piece, direct, escaped, four, braces, pieceRule, wordForm, endsWord, listEnders, Leaf, string, character, backtick, word, Value, leaf, emptyList, list, More, close, comma}
 
 -- ---- strings, characters and backticks
 

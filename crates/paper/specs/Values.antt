@@ -1,13 +1,11 @@
 -- Values: their trees, their spelling, the rules that a spelling keeps, and what it means.
 -- Document 01, "The grammar", Values; 001 §8 to §16 and §19.
 use Prim.Native.Nat.{ℕ, zero, suc, _+_, _-_, _*_, _%_, max}
-use Prim.Native.Char.{Char, code}
-use Prim.Native.String.{String, [] as ε, _∷_ as _▹_}
 use mathlib.Core.Bool.{Bool, true, false, not, _&&_, _||_}
 use mathlib.Core.List.{List, [], _∷_, _++_}
 use lib.ListN.{length, drop}
 use lib.Dec.{leb, eqb}
-use Rattle.paper.specs.Found.{Found, found, fault, pick}
+use Rattle.paper.specs.Found.{found, fault, pick}
 use Rattle.paper.specs.Bytes.{byte, bytes, within, isUpper, isLower, isDigit, isLetter, isNameByte, isHex, isWhite, isLineEnd, all, elem, same, startsIn, front, behind, scalar, isScalar, encode, lf, cr, tab, space}
 
 -- ---- strings, characters and backticks

@@ -1,13 +1,15 @@
 -- The same bytes, fixed bytes in front, and a byte among others, one byte at a time. Assumes nothing.
 -- A law for each way on or out of the loops of src/parts.rt and of `is_one_of`.
-use Prim.Native.Nat.{ℕ, suc, _+_, _<_, _≤_}
+use Prim.Native.Nat.{ℕ, suc, _+_, _-_, _<_, _≤_}
 use mathlib.Core.Path.{_≡_, refl, ap}
 use mathlib.Core.Bool.{true, false}
 use mathlib.Core.List.{List, [], _∷_}
-use lib.ListN.{length, getD, drop, drop-of-length-le}
+use native.Mathlib.Omega.{arith}
+use lib.ListN.{length, getD, drop, length-drop, length-append, drop-of-length-le}
 use lib.Dec.{eqb}
 use borrow.Author.Tests.{eq-eqb, ne-eqb}
 use Rattle.paper.proofs.Tests.{split}
+use Rattle.paper.proofs.Lists.{starts-is}
 use Rattle.paper.specs.Bytes.{same, startsWith, elem}
 use Rattle.text.proofs.Places.{here}
 
@@ -51,6 +53,10 @@ module _ (part s : List ℕ) (i place : ℕ) (h : i < length part) where
 pub starts-out : (part s : List ℕ) (i : ℕ) → length part ≤ i → true ≡ startsWith (drop i part) s
 unfolding startsWith
 starts-out part s i h = rw (drop-of-length-le part h)
+
+-- fixed bytes that stand at a place are no longer than what is left there
+pub stands-inside : (part s : List ℕ) (at : ℕ) → startsWith part (drop at s) ≡ true → length part ≤ length s - at
+stands-inside part s at e = omega (arith, ap length (starts-is part (drop at s) e), length-append part (drop (length part) (drop at s)), length-drop at s)
 
 -- ---- a byte among others
 

@@ -1,6 +1,6 @@
 -- A place in a list: the byte that stands there and what is left behind it. Assumes nothing.
 -- Code goes by places, the definitions by what is left of the list; these laws cross over.
-use Prim.Native.Nat.{ℕ, _+_, _<_, _≤_}
+use Prim.Native.Nat.{ℕ, suc, _+_, _-_, _<_, _≤_}
 use mathlib.Core.Path.{_≡_, sym, ap, _∙_}
 use mathlib.Core.List.{List, _∷_, _++_}
 use native.Mathlib.Numerals.{add-one}
@@ -8,6 +8,7 @@ use native.Mathlib.Omega.{arith}
 use lib.ListN.{length, getD, drop, length-drop, length-append}
 use lib.Seq.{drop-cons, drop-drop, drop-append-seam}
 use Rattle.paper.specs.Found.{placeIn}
+use Rattle.paper.proofs.Finds.{Tail, whole, past, tail-length, tail-then, tail-drop}
 
 -- what is left at a place inside: its byte, and what is left behind it
 pub here : (s : List ℕ) (i : ℕ) → i < length s → drop i s ≡ getD s i 0 ∷ drop (i + 1) s
@@ -31,3 +32,20 @@ pub left-back : (s : List ℕ) (i : ℕ) (p left : List ℕ) → i ≤ length s 
 left-back s i p left h e =
     let n : placeIn s left ≡ i + length p = omega (arith, length-drop i s, ap length e, length-append p left) in
     rw (n, ← drop-drop (length p) i s, e, drop-append-seam p left)
+
+-- a tail is what is left from its place on
+pub tail-place : {s left : List ℕ} → Tail s left → left ≡ drop (placeIn s left) s
+tail-place (whole {s = s}) = let n : length s - length s ≡ 0 = omega arith in rw n
+tail-place (past {s = s} {left = left} t) = let n : suc (length s) - length left ≡ suc (length s - length left) = omega (arith, tail-length t) in rw n (tail-place t)
+
+-- what a reading from a place on leaves begins at a place ahead
+pub record Left (s : List ℕ) (at : ℕ) (left : List ℕ) : Type 0 where
+  pub ahead : at ≤ placeIn s left
+  pub inside : placeIn s left ≤ length s
+  pub same : left ≡ drop (placeIn s left) s
+
+pub left-at : (s : List ℕ) (at : ℕ) {left : List ℕ} → at ≤ length s → Tail (drop at s) left → Left s at left
+left-at s at h t =
+    let l = tail-length t in
+    let d = length-drop at s in
+    record { ahead = omega arith; inside = omega arith; same = tail-place (tail-then (tail-drop at s) t) }

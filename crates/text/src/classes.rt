@@ -1,8 +1,10 @@
 // Classes of ASCII bytes: letters, digits, and what names and white space are made of.
 // Document 01, "The grammar", Bytes, Names and Values.
 ghost use mathlib.Core.Path.{_≡_};
-ghost use mathlib.Core.Bool.{_||_};
+ghost use mathlib.Core.Bool.{true, _||_};
+ghost use Prim.Native.Nat.{_<_};
 ghost use Rattle.paper.specs.Bytes.{within, isUpper, isLower, isDigit, isLetter, isNameByte, isHex, isBlank, isLineEnd, isWhite, bytes, elem};
+ghost use Rattle.paper.specs.Values.{hexDigit};
 
 // Whether the byte lies from `low` to `high`, both counted.
 pub fn is_within(low: u8, high: u8, b: u8) -> bool
@@ -47,6 +49,18 @@ pub fn is_hex(b: u8) -> bool
     ensures { λ r. ⌜ r ≡ isHex b ⌝ }
 {
     is_digit(b) || is_within(b'A', b'F', b) || is_within(b'a', b'f', b)
+}
+
+// The number that a hex digit spells, in either case.
+pub fn hex_digit(b: u8) -> u8
+    requires { ⌜ isHex b ≡ true ⌝ }
+    ensures { λ r. ⌜ (r ≡ hexDigit b) × (r < 16) ⌝ }
+{
+    match b {
+        b'0'..=b'9' => b - b'0',
+        b'A'..=b'F' => b - b'A' + 10,
+        _ => b - b'a' + 10,
+    }
 }
 
 // Whether the byte is a space or a tab.

@@ -16,9 +16,11 @@ use Rattle.paper.specs.Answer.{numberOf}
 use Rattle.paper.proofs.Told.{number-positive}
 use Rattle.paper.proofs.Tests.{upTo}
 use Rattle.paper.proofs.Lists.{starts-is, length-in}
-use Rattle.paper.proofs.Finds.{tail-drop, tail-then, Reads}
+use Rattle.paper.proofs.Finds.{Reads}
 use Rattle.paper.proofs.ReadValues.{ReadValue, value-reads, value-length, value-of-leaf, more-of-comma}
 use Rattle.paper.proofs.Sizes.{item-size}
+use Rattle.text.proofs.Places.{left-at}
+use Rattle.text.proofs.Stretch.{Stretch, behind-at}
 use Rattle.entries.specs.Laid.{lay, slotAfter, slotUnder}
 use Rattle.entries.specs.declared.Slot.{Slot}
 use Rattle.entries.proofs.Laying.{lay-none, lay-before, lay-append}
@@ -27,7 +29,7 @@ use Rattle.values.specs.declared.entering.Entered.{Entered}
 use Rattle.values.specs.declared.entering.Entered.the-variants.{Items, Full}
 use Rattle.values.specs.Entering.{withoutItems, leftOf, firstOver, entriesFrom, sizeFrom, Ahead, Enters, EntersFrom}
 use Rattle.values.specs.Seen.{Seen, foundAt, refusedAt, seen, seenOf, Reading}
-use Rattle.values.proofs.Seeing.{tail-place, fails}
+use Rattle.values.proofs.Seeing.{fails}
 use Rattle.values.proofs.ListLaws.{leaf-value, deep-value, empty-found, empty-value, list-found}
 use Rattle.values.proofs.ItemsFound.{Parts, MadeOf, made-of, together, list-parts, closed, first-in, first-past}
 
@@ -40,7 +42,7 @@ found-at : (s : List ℕ) (i lists : ℕ) (also : List ℕ) (v : Value) (left : 
 found-at s i lists also v left h e =
     let k : Reads (drop i s) (ReadValue lists also (drop i s)) (found v left) = rw e at (value-reads (suc (length (drop i s))) lists also (drop i s)) in
     let n : placeIn s left ≡ i + valueWidth v = omega (arith, length-drop i s, ap length (k .1 .covers), value-length v left) in
-    record { wide = n; place = tail-place (tail-then (tail-drop i s) (k .0)) ∙ ap (λ (m : ℕ). drop m s) n }
+    record { wide = n; place = left-at s i h (k .0) .same ∙ ap (λ (m : ℕ). drop m s) n }
 
 -- ---- the items of a list, from one on
 
@@ -152,7 +154,7 @@ module _ (s : List ℕ) (i lists : ℕ) (cells : List ℕ) (slot : Slot) (made o
               (cc, d .cells-are ∙ ap (λ (l : List Entry). lay cells (slot .next + made) (itemEntry (slot .parent) i v ∷ l)) (sym (ap (λ (l : List Entry). es ++ l) x ∙ append-nil es)))
 
       -- another one stands behind it
-      module _ (c : startsWith (bytes ",") (drop end s) ≡ true) (next : ℕ) (g : next ≡ end + 1 + lengthIn isWhite (drop (end + 1) s)) where
+      module _ (c : startsWith (bytes ",") (drop end s) ≡ true) (next : ℕ) (run : Stretch isWhite s (end + 1) next) where
         white : List ℕ
         white = front isWhite (drop (end + 1) s)
 
@@ -167,7 +169,7 @@ module _ (s : List ℕ) (i lists : ℕ) (cells : List ℕ) (slot : Slot) (made o
         behind-comma =
             ap (moreOf lists) (starts-is (bytes ",") (drop end s) c ∙ ap (λ (l : List ℕ). byte "," ∷ l) (drop-drop 1 end s))
             ∙ more-of-comma lists (drop (end + 1) s)
-            ∙ ap (itemAnd lists (comma white)) (drop-drop (lengthIn isWhite (drop (end + 1) s)) (end + 1) s ∙ ap (λ (k : ℕ). drop k s) (sym g))
+            ∙ ap (itemAnd lists (comma white)) (behind-at isWhite s (end + 1) next run)
 
         next-is : (v : Value) (more : More) (left : List ℕ) → Parts lists (valueOf lists listEnders (drop i s)) v more left → Next v more left
         next-is v more left t =
@@ -311,7 +313,7 @@ module _ (s : List ℕ) (at lists : ℕ) (also cells : List ℕ) (slot : Slot) w
       → Ahead s at lists (leftOf slot) (Full at) × Enters s at cells slot (valueOf lists also (drop at s)) (Full at) cells
   deep-enters l e z =
       let k = deep-value s at lists also l e z in
-      (bare-ahead (valueOf lists also (drop at s)) _ k (leftOf slot), bare-enters (valueOf lists also (drop at s)) _ k (λ v left q. let f = fails k TooDeep at refl .reads in let y : _≡_ {A = ℕ} 0 1 = cc in absurd (omega arith)))
+      (bare-ahead (valueOf lists also (drop at s)) _ k (leftOf slot), bare-enters (valueOf lists also (drop at s)) _ k (λ v left q. let f = fails k TooDeep at refl .faults in let y : _≡_ {A = ℕ} 0 1 = cc in absurd (omega arith)))
 
   -- an empty list
   pub empty-enters : startsWith (bytes "[]") (drop at s) ≡ true → (fewer : ℕ) → lists ≡ suc fewer

@@ -7,7 +7,7 @@ use native.Mathlib.Omega.{arith}
 use lib.ListN.{length, drop}
 use lib.Dec.{leb}
 use borrow.Author.Tests.{leb-true, leb-false}
-use Rattle.paper.specs.Bytes.{byte, bytes, isWhite, lengthIn, startsWith}
+use Rattle.paper.specs.Bytes.{bytes, isWhite, startsWith}
 use Rattle.paper.specs.Values.{listEnders, list}
 use Rattle.paper.specs.ReadingValues.{valueOf, itemAnd}
 use Rattle.paper.specs.Entries.{Entry, unnamed}
@@ -16,12 +16,13 @@ use Rattle.entries.specs.declared.Slot.{Slot}
 use Rattle.values.specs.declared.entering.Entered.{Entered}
 use Rattle.values.specs.declared.entering.Entered.the-variants.{Items, Full}
 use Rattle.values.specs.Entering.{Stands, leftOf, Ahead, Enters, EntersFrom}
-use Rattle.values.proofs.ListLaws.{byte-inside}
+use Rattle.text.proofs.Compared.{stands-inside}
+use Rattle.text.proofs.Stretch.{Stretch}
 use Rattle.values.proofs.EnterLaws.{ahead-items, none-left, none-inside, last-item, next-item}
 
 -- behind "[", one list deeper
 pub stands-deeper : (s : List ℕ) (at lists : ℕ) (cells : List ℕ) (slot : Slot) → Stands s at lists cells slot → startsWith (bytes "[") (drop at s) ≡ true → (fewer : ℕ) → lists ≡ suc fewer → Stands s (at + 1) fewer cells slot
-stands-deeper s at lists cells slot h l fewer e = record { place = byte-inside s at (byte "[") l; short = h .short; few = omega (arith, h .few); fits = h .fits }
+stands-deeper s at lists cells slot h l fewer e = record { place = omega (arith, stands-inside (bytes "[") s at l); short = h .short; few = omega (arith, h .few); fits = h .fits }
 
 -- ---- one turn
 
@@ -131,6 +132,6 @@ module _ {s : List ℕ} {at lists : ℕ} {start : List ℕ} {slot : Slot} {i mad
       pub last-turn : startsWith (bytes ",") (drop end s) ≡ false → EntersFrom s i cells slot made own (itemAnd lists list (drop i s)) (Items 12 (end + 1) (made + (1 + inside)) (own + 1)) laid
       last-turn c = last-item s i lists cells slot made own (h .room) item mid (h .entered) form end inside count q (h .turn .place) entry k laid laid-there c
 
-      pub next-turn : startsWith (bytes ",") (drop end s) ≡ true → (on : ℕ) → on ≡ end + 1 + lengthIn isWhite (drop (end + 1) s) → (r : Entered) (after : List ℕ)
+      pub next-turn : startsWith (bytes ",") (drop end s) ≡ true → (on : ℕ) → Stretch isWhite s (end + 1) on → (r : Entered) (after : List ℕ)
           → EntersFrom s on laid slot (made + (1 + inside)) (own + 1) (itemAnd lists list (drop on s)) r after → EntersFrom s i cells slot made own (itemAnd lists list (drop i s)) r after
       next-turn c on g r after w = next-item s i lists cells slot made own (h .room) item mid (h .entered) form end inside count q (h .turn .place) entry k laid laid-there c on g r after w

@@ -1,24 +1,25 @@
 -- Escapes at a place: a law for each way out of their functions. Over plain lists. Assumes nothing.
 -- Document 01, "The grammar", Values: strings and characters.
 use Prim.Native.Nat.{ℕ, _+_, _-_, _≤_, _<_}
-use mathlib.Core.Path.{_≡_, sym, ap, _∙_}
+use mathlib.Core.Path.{_≡_, sym, _∙_}
 use mathlib.Core.Bool.{true, false, _&&_}
 use mathlib.Core.List.{List, [], _∷_, _++_}
 use native.Mathlib.Nat.{add-sub-cancel-left}
 use native.Mathlib.Omega.{arith}
-use lib.ListN.{length, getD, take, drop, length-take, length-drop, length-append, drop-of-length-le}
+use lib.ListN.{length, getD, take, drop, length-take, length-drop, drop-of-length-le}
 use lib.Seq.{drop-drop, length-take-le}
 use lib.Dec.{eqb}
 use borrow.Author.Tests.{ne-eqb}
 use Rattle.paper.specs.Found.{found, fault}
-use Rattle.paper.specs.Bytes.{byte, bytes, within, isHex, all, startsWith, lengthIn, behind}
+use Rattle.paper.specs.Bytes.{byte, bytes, within, isHex, all, startsWith, lengthIn}
 use Rattle.paper.specs.Values.{escaped, four, braces, spellsScalar, pieceRule}
 use Rattle.paper.specs.ReadingValues.{judged, fourDigits, bracedDigits, escape}
 use Rattle.paper.proofs.Tests.{split, true-false, inside, below}
 use Rattle.paper.proofs.Lists.{starts-is}
 use Rattle.paper.proofs.Pieces.{judged-keeps, judged-breaks, four-there, four-cut, four-not, braced-long, braced-cut, braced-closed, braced-not, escape-four, escape-braces, escape-letter}
 use Rattle.text.proofs.Places.{here}
-use Rattle.values.proofs.Runs.{all-front, run-front, run-behind}
+use Rattle.text.proofs.Stretch.{Stretch, front-at, behind-none, behind-some}
+use Rattle.values.proofs.Runs.{all-front}
 
 -- ---- hex digits
 
@@ -26,22 +27,16 @@ use Rattle.values.proofs.Runs.{all-front, run-front, run-behind}
 pub few-digits : (t : List ℕ) (n : ℕ) → n ≤ lengthIn isHex t → n ≤ 6 → (all isHex (take n t) ≡ true) × (length (take n t) ≤ 6)
 few-digits t n h k = (all-front isHex n t h, omega (arith, length-take n t))
 
-module _ (quote : ℕ) (s : List ℕ) (at start stop : ℕ) (run : stop ≡ start + lengthIn isHex (drop start s)) where
-  digits-end : length s ≤ stop → behind isHex (drop start s) ≡ []
-  digits-end h = run-behind isHex s start stop run ∙ drop-of-length-le s h
-
-  digits-before : stop < length s → behind isHex (drop start s) ≡ getD s stop 0 ∷ drop (stop + 1) s
-  digits-before h = run-behind isHex s start stop run ∙ here s stop h
-
+module _ (quote : ℕ) (s : List ℕ) (at start stop : ℕ) (run : Stretch isHex s start stop) where
   -- four of them
   module _ (short : stop < start + 4) where
     pub four-ends : stop ≡ length s → fourDigits quote (drop at s) (drop start s) ≡ fault 9 []
-    four-ends e = four-cut quote (drop at s) (drop start s) (omega arith) (digits-end (omega arith))
+    four-ends e = four-cut quote (drop at s) (drop start s) (omega arith) (behind-none isHex s start stop run (omega arith))
 
     pub four-other : stop < length s → fourDigits quote (drop at s) (drop start s) ≡ fault 6 (drop at s)
-    four-other h = four-not quote (drop at s) (drop start s) _ _ (omega arith) (digits-before h)
+    four-other h = four-not quote (drop at s) (drop start s) _ _ (omega arith) (behind-some isHex s start stop run h)
 
-  module _ (long : start + 4 ≤ stop) (fits : stop ≤ length s) where
+  module _ (long : start + 4 ≤ stop) where
     four-judged : fourDigits quote (drop at s) (drop start s) ≡ judged quote (drop at s) (four (take 4 (drop start s))) (drop (start + 4) s)
     four-judged = four-there quote (drop at s) (drop start s) (omega arith) ∙ rw drop-drop
 
@@ -62,17 +57,17 @@ module _ (quote : ℕ) (s : List ℕ) (at start stop : ℕ) (run : stop ≡ star
 
   module _ (few : stop - start ≤ 6) where
     pub braced-ends : stop ≡ length s → bracedDigits quote (drop at s) (drop start s) ≡ fault 9 []
-    braced-ends e = braced-cut quote (drop at s) (drop start s) (omega arith) (digits-end (omega arith))
+    braced-ends e = braced-cut quote (drop at s) (drop start s) (omega arith) (behind-none isHex s start stop run (omega arith))
 
     module _ (h : stop < length s) where
       pub braced-other : (getD s stop 0 ≡ byte "}" → ⊥) → bracedDigits quote (drop at s) (drop start s) ≡ fault 6 (drop at s)
-      braced-other e = braced-not quote (drop at s) (drop start s) _ _ (omega arith) (digits-before h) (ne-eqb (getD s stop 0) (byte "}") e)
+      braced-other e = braced-not quote (drop at s) (drop start s) _ _ (omega arith) (behind-some isHex s start stop run h) (ne-eqb (getD s stop 0) (byte "}") e)
 
       module _ (e : getD s stop 0 ≡ byte "}") where
         braced-judged : bracedDigits quote (drop at s) (drop start s) ≡ judged quote (drop at s) (braces (take (stop - start) (drop start s))) (drop (stop + 1) s)
         braced-judged =
-            braced-closed quote (drop at s) (drop start s) (drop (stop + 1) s) (omega arith) (digits-before h ∙ rw e)
-            ∙ rw (run-front isHex s start stop run)
+            braced-closed quote (drop at s) (drop start s) (drop (stop + 1) s) (omega arith) (behind-some isHex s start stop run h ∙ rw e)
+            ∙ rw (front-at isHex s start stop run)
 
         braced-rule : pieceRule quote (braces (take (stop - start) (drop start s))) ≡ (within 1 6 (stop - start) && spellsScalar (take (stop - start) (drop start s)))
         unfolding pieceRule
@@ -102,9 +97,6 @@ module _ (quote : ℕ) (s : List ℕ) (at : ℕ) (h : at < length s) (b : getD s
   -- what fixed bytes leave behind the backslash
   behind-part : (part : List ℕ) → startsWith (byte "\\" ∷ part) (drop at s) ≡ true → drop (at + 1) s ≡ part ++ drop (at + 1 + length part) s
   behind-part part e = starts-is part (drop (at + 1) s) (sym (starts-behind part) ∙ e) ∙ rw drop-drop
-
-  pub part-inside : (part : List ℕ) → startsWith (byte "\\" ∷ part) (drop at s) ≡ true → at + 1 + length part ≤ length s
-  part-inside part e = omega (arith, length-drop (at + 1) s, ap length (behind-part part e), length-append part (drop (at + 1 + length part) s))
 
   pub braced-there : startsWith (bytes "\\u{") (drop at s) ≡ true → escape quote (drop at s) (drop (at + 1) s) ≡ bracedDigits quote (drop at s) (drop (at + 3) s)
   braced-there e =

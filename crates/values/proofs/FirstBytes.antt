@@ -12,11 +12,11 @@ use borrow.Author.Tests.{eqb-true, eqb-false, eq-eqb, ne-eqb}
 use Rattle.paper.specs.Found.{pick}
 use Rattle.paper.specs.Bytes.{byte, bytes, within, isUpper, isLower, isDigit, isLetter, isNameByte, isHex, elem, same, startsIn, lengthIn}
 use Rattle.paper.specs.Values.{isToken, isUuid, isIri, wordForm}
-use Rattle.paper.proofs.Tests.{split, true-false, either}
+use Rattle.paper.proofs.Tests.{split, true-false, either, in-range}
 use Rattle.paper.proofs.WordKinds.{Kind, boolean, integer, decimal, scientific, fraction, pascal, camel, uuid, iri, fits, formOf, firstForm, kinds, word-form, byKind, digitOr, hexDash, beginning, kind-first, by-first}
 use Rattle.text.proofs.Places.{here}
 use Rattle.values.specs.Kinds.{numberForm, isNamed, letteredForm, numeralForm}
-use Rattle.values.proofs.Runs.{in-range, all-run}
+use Rattle.values.proofs.Runs.{all-run}
 
 -- ---- tokens
 

@@ -12,25 +12,22 @@ use Rattle.paper.specs.declared.Refusal.{Refusal}
 use Rattle.paper.specs.declared.Refusal.the-variants.{TooDeep}
 use Rattle.paper.specs.Answer.{numberOf}
 use Rattle.paper.specs.Found.{Found, found, fault, andThen}
-use Rattle.paper.specs.Bytes.{byte, bytes, isWhite, lengthIn, front, behind, startsWith}
+use Rattle.paper.specs.Bytes.{byte, bytes, isWhite, front, behind, startsWith}
 use Rattle.paper.specs.Values.{listEnders, leafForm, Value, leaf, emptyList, list, valueForm, More, close, comma}
 use Rattle.paper.specs.ReadingValues.{leafOf, valueOf, moreOf, itemAnd, wholeValue}
 use Rattle.paper.proofs.Lists.{starts-is}
-use Rattle.paper.proofs.Finds.{tail-drop}
 use Rattle.paper.proofs.ReadValues.{ReadValue, value-reads, value-of-leaf, value-of-deep, value-of-empty, value-of-list, more-of-end, more-of-close, more-of-comma, more-of-other, whole-found, whole-fault}
 use Rattle.text.proofs.Places.{here, place-back}
 use Rattle.values.specs.declared.read.Read.{Read}
-use Rattle.values.specs.Seen.{Seen, seen, seenOf, Reading, listForm}
-use Rattle.values.proofs.Seeing.{finds, no-value, cut-off, refuses, Stands, stands, fails, passes}
+use Rattle.values.specs.Seen.{seenOf, Reading, listForm}
+use Rattle.text.proofs.Answers.{FoundTo}
+use Rattle.text.proofs.Stretch.{Stretch, behind-at}
+use Rattle.values.proofs.Seeing.{finds, no-value, cut-off, refuses, stands, fails, passes}
 
 -- what is made of something found looks like it, where the forms agree
 seen-map : {A B : Type 0} (form : A → ℕ) (formed : B → ℕ) (make : A → B) (s : List ℕ) (x : Found A) → ((a : A) → formed (make a) ≡ form a) → seenOf formed s (andThen x (λ a left. found (make a) left)) ≡ seenOf form s x
 seen-map form formed make s (found a left) e = rw (e a)
 seen-map form formed make s (fault n left) e = refl
-
--- a byte that stands at a place is inside
-pub byte-inside : (s : List ℕ) (at b : ℕ) → startsWith (b ∷ []) (drop at s) ≡ true → at + 1 ≤ length s
-byte-inside s at b e = omega (arith, ap length (starts-is (b ∷ []) (drop at s) e), length-drop at s)
 
 -- ---- the kinds of values
 
@@ -92,14 +89,14 @@ module _ (s : List ℕ) (i lists : ℕ) where
   made-alike f g (fault n left) = refl
 
   pub item-refused : (r : Read) → Reading valueForm s i (valueOf lists listEnders (drop i s)) r → (why : Refusal) (place : ℕ) → r ≡ Read.Refused why place → Reading listForm s i (itemAnd lists list (drop i s)) r
-  item-refused r h why place q = passes h listForm i (itemAnd lists list (drop i s)) why place q (λ n left e. rw e)
+  item-refused r h why place q = passes h listForm i (itemAnd lists list (drop i s)) why place q (λ left e. rw e)
 
   module _ (r : Read) (h : Reading valueForm s i (valueOf lists listEnders (drop i s)) r) (form end : ℕ) (q : r ≡ Read.Found form end) where
-    stood : Stands h form end
-    stood = stands h (λ v left. ReadValue lists listEnders (drop i s) v left) (tail-drop i s) (value-reads (suc (length (drop i s))) lists listEnders (drop i s)) form end q
+    stood : FoundTo (ReadValue lists listEnders (drop i s)) s i (valueOf lists listEnders (drop i s)) end
+    stood = stands h (ReadValue lists listEnders (drop i s)) (value-reads (suc (length (drop i s))) lists listEnders (drop i s)) form end q
 
-    behind-item : itemAnd lists list (drop i s) ≡ andThen (moreOf lists (drop end s)) (λ more left. found (list (stood .thing) more) left)
-    behind-item = rw (stood .reads)
+    behind-item : itemAnd lists list (drop i s) ≡ andThen (moreOf lists (drop end s)) (λ more left. found (list (stood .it) more) left)
+    behind-item = rw (stood .finds)
 
     pub item-cut : (r : Read) → r ≡ Read.Refused Refusal.Cut (length s) → length s ≤ end → Reading listForm s i (itemAnd lists list (drop i s)) r
     item-cut r p l = cut-off listForm s i (itemAnd lists list (drop i s)) r p (behind-item ∙ rw (drop-of-length-le s l, more-of-end lists))
@@ -107,7 +104,7 @@ module _ (s : List ℕ) (i lists : ℕ) where
     module _ (l : end < length s) where
       pub item-last : getD s end 0 ≡ byte "]" → Reading listForm s i (itemAnd lists list (drop i s)) (Read.Found 12 (end + 1))
       item-last b =
-          finds listForm s i (itemAnd lists list (drop i s)) 12 (end + 1) (list (stood .thing) close) (omega (arith, h .ahead form end q)) (omega arith) refl
+          finds listForm s i (itemAnd lists list (drop i s)) 12 (end + 1) (list (stood .it) close) (omega (arith, h .ahead form end q)) (omega arith) refl
           (behind-item ∙ rw (here s end l, b, more-of-close lists (drop (end + 1) s)))
 
       pub item-wrong : (r : Read) → r ≡ Read.Refused Refusal.Value end → (getD s end 0 ≡ byte "]" → ⊥) → (getD s end 0 ≡ byte "," → ⊥) → Reading listForm s i (itemAnd lists list (drop i s)) r
@@ -116,14 +113,13 @@ module _ (s : List ℕ) (i lists : ℕ) where
           (behind-item ∙ rw (here s end l, more-of-other lists (getD s end 0) (drop (end + 1) s) (ne-eqb (getD s end 0) (byte "]") b) (ne-eqb (getD s end 0) (byte ",") c)))
 
       -- a comma, white space, and the next item
-      pub item-next : getD s end 0 ≡ byte "," → (next : ℕ) → next ≡ end + 1 + lengthIn isWhite (drop (end + 1) s) → seenOf listForm s (itemAnd lists list (drop i s)) ≡ seenOf listForm s (itemAnd lists list (drop next s))
-      item-next b next e =
+      pub item-next : getD s end 0 ≡ byte "," → (next : ℕ) → Stretch isWhite s (end + 1) next → seenOf listForm s (itemAnd lists list (drop i s)) ≡ seenOf listForm s (itemAnd lists list (drop next s))
+      item-next b next run =
           let w = front isWhite (drop (end + 1) s) in
           let m : moreOf lists (drop end s) ≡ itemAnd lists (comma w) (behind isWhite (drop (end + 1) s)) = rw (here s end l, b) (more-of-comma lists (drop (end + 1) s)) in
-          let d : behind isWhite (drop (end + 1) s) ≡ drop next s = drop-drop (lengthIn isWhite (drop (end + 1) s)) (end + 1) s ∙ ap (λ (k : ℕ). drop k s) (sym e) in
           ap (seenOf listForm s) behind-item
-          ∙ seen-map listForm listForm (list (stood .thing)) s (moreOf lists (drop end s)) (λ more. refl)
-          ∙ ap (seenOf listForm s) (m ∙ ap (itemAnd lists (comma w)) d)
+          ∙ seen-map listForm listForm (list (stood .it)) s (moreOf lists (drop end s)) (λ more. refl)
+          ∙ ap (seenOf listForm s) (m ∙ ap (itemAnd lists (comma w)) (behind-at isWhite s (end + 1) next run))
           ∙ made-alike (comma w) list (valueOf lists listEnders (drop next s))
 
 -- ---- a trait's whole value
@@ -135,25 +131,20 @@ counted s at n lists r e h = subst (λ (k : ℕ). Reading valueForm s at (valueO
 module _ (s : List ℕ) (at lists : ℕ) (r : Read) (h : Reading valueForm s at (valueOf lists [] (drop at s)) r) where
   pub whole-kept : (form end : ℕ) → r ≡ Read.Found form end → Reading valueForm s at (wholeValue lists (drop at s)) r
   whole-kept form end q =
-      let v = stands h (λ v left. ReadValue lists [] (drop at s) v left) (tail-drop at s) (value-reads (suc (length (drop at s))) lists [] (drop at s)) form end q in
-      let k : wholeValue lists (drop at s) ≡ valueOf lists [] (drop at s) = whole-found lists (drop at s) (v .thing) (drop end s) (v .reads) ∙ sym (v .reads) in
+      let v = stands h (ReadValue lists [] (drop at s)) (value-reads (suc (length (drop at s))) lists [] (drop at s)) form end q in
+      let k : wholeValue lists (drop at s) ≡ valueOf lists [] (drop at s) = whole-found lists (drop at s) (v .it) (drop end s) (v .finds) ∙ sym (v .finds) in
       record { same = h .same ∙ sym (ap (seenOf valueForm s) k); ahead = h .ahead; inside = h .inside }
 
   module _ (why : Refusal) (place : ℕ) (q : r ≡ Read.Refused why place) where
-    numbered : (n : ℕ) (left : List ℕ) → valueOf lists [] (drop at s) ≡ fault n left → numberOf why ≡ n
-    numbered n left e = ap (λ (y : Seen). y .number) (ap seen (sym q) ∙ h .same ∙ ap (seenOf valueForm s) e)
-
     -- what is no 6 keeps its place
     pub whole-other : eqb (numberOf why) 6 ≡ false → Reading valueForm s at (wholeValue lists (drop at s)) (Read.Refused why place)
     whole-other z =
         subst (λ (a : Read). Reading valueForm s at (wholeValue lists (drop at s)) a) q
         (passes h valueForm at (wholeValue lists (drop at s)) why place q
-        (λ n left e. let y : eqb n 6 ≡ false = ap (λ (k : ℕ). eqb k 6) (sym (numbered n left e)) ∙ z in
-        whole-fault lists (drop at s) n left e ∙ rw y))
+        (λ left e. whole-fault lists (drop at s) (numberOf why) left e ∙ rw z))
 
     -- a 6 stands at the value's first byte
     pub whole-wrong : at ≤ length s → numberOf why ≡ 6 → (a : Read) → a ≡ Read.Refused Refusal.Value at → Reading valueForm s at (wholeValue lists (drop at s)) a
     whole-wrong l z a p =
         let f = fails h why place q in
-        let n : f .number ≡ 6 = sym (numbered (f .number) (f .left) (f .reads)) ∙ z in
-        no-value valueForm s at (wholeValue lists (drop at s)) a at p l (whole-fault lists (drop at s) (f .number) (f .left) (f .reads) ∙ rw n)
+        no-value valueForm s at (wholeValue lists (drop at s)) a at p l (whole-fault lists (drop at s) (numberOf why) (f .left) (f .faults) ∙ rw z)

@@ -14,7 +14,7 @@ use Rattle.paper.specs.Found.{Found, found, fault, andThen, Turn, more, over, s
 use Rattle.paper.specs.Bytes.{byte, bytes, lf, cr, isLineEnd, startsWith, encode}
 use Rattle.paper.specs.Values.{Piece, direct, escaped, Leaf, string, character, backtick, leafForm}
 use Rattle.paper.specs.ReadingValues.{escape, closes, breaks, itself, insideOf, pieceTurn, closeCharacter, characterOf, backtickTurn}
-use Rattle.paper.proofs.Finds.{tail-drop, Reads}
+use Rattle.paper.proofs.Finds.{Reads}
 use Rattle.paper.proofs.Runs.{Shorter, many-turn}
 use Rattle.paper.proofs.Pieces.{Stood, escape-reads, turn-closes, turn-escapes, turn-breaks, turn-itself, turn-shorter, tick-closes, tick-itself, tick-shorter}
 use Rattle.paper.proofs.Leaves.{close-there, close-not, character-closes, character-breaks, character-escapes, character-itself, character-broken}
@@ -25,7 +25,8 @@ use Rattle.text.proofs.Places.{here}
 use Rattle.text.proofs.Steps.{Stepped, ended, failed}
 use Rattle.values.specs.declared.read.Read.{Read}
 use Rattle.values.specs.Seen.{seenOf, Reading, noForm, quotedOf, stringOf, backtickOf}
-use Rattle.values.proofs.Seeing.{Stands, stands, passes, moved}
+use Rattle.text.proofs.Answers.{FoundTo}
+use Rattle.values.proofs.Seeing.{stands, passes, moved}
 
 -- ---- what a byte is between two quotes
 
@@ -63,8 +64,8 @@ escape-at : (quote : ℕ) (s : List ℕ) (i : ℕ) → i < length s → getD s i
 escape-at quote s i h b = rw (here s i h, b) (escape-reads quote (drop (i + 1) s))
 
 module _ (quote : ℕ) (s : List ℕ) (i : ℕ) (h : i < length s) (b : getD s i 0 ≡ byte "\\") (q : Read) (e : Reading noForm s i (escape quote (drop i s) (drop (i + 1) s)) q) where
-  escape-stands : (f end : ℕ) → q ≡ Read.Found f end → Stands e f end
-  escape-stands f end p = stands e (Stood quote (drop i s)) (tail-drop i s) (escape-at quote s i h b) f end p
+  escape-stands : (f end : ℕ) → q ≡ Read.Found f end → FoundTo (Stood quote (drop i s)) s i (escape quote (drop i s) (drop (i + 1) s)) end
+  escape-stands f end p = stands e (Stood quote (drop i s)) (escape-at quote s i h b) f end p
 
 -- ---- strings
 
@@ -100,13 +101,13 @@ module _ (s : List ℕ) (i : ℕ) (h : i < length s) where
     string-escape = piece-at (turn-escapes 0 (getD s i 0) (drop (i + 1) s) (rw b)) ∙ rw (here s i h)
 
     pub string-refused : (why : Refusal) (place : ℕ) → q ≡ Read.Refused why place → Reading leafForm s i (stringOf (drop i s)) q
-    string-refused why place p = passes e leafForm i (stringOf (drop i s)) why place p (λ n left x. run-stop pieceTurn turn-shorter string n _ _ (string-escape ∙ ap turnOf x))
+    string-refused why place p = passes e leafForm i (stringOf (drop i s)) why place p (λ left x. run-stop pieceTurn turn-shorter string _ _ _ (string-escape ∙ ap turnOf x))
 
     pub string-escaped : (f end : ℕ) → q ≡ Read.Found f end → {r : Read} → Reading leafForm s end (stringOf (drop end s)) r → Reading leafForm s i (stringOf (drop i s)) r
     string-escaped f end p k =
         let x = escape-stands (byte "\"") s i h b q e f end p in
         moved k i (stringOf (drop i s)) (omega (arith, e .ahead f end p))
-        (run-more pieceTurn turn-shorter string 1 (λ ps. refl) s _ _ _ (string-escape ∙ ap turnOf (x .reads)))
+        (run-more pieceTurn turn-shorter string 1 (λ ps. refl) s _ _ _ (string-escape ∙ ap turnOf (x .finds)))
 
 -- ---- characters
 
@@ -138,13 +139,13 @@ module _ (s : List ℕ) (at : ℕ) (h : at < length s) where
     character-escape = rw (here s at h) (character-escapes (getD s at 0) (drop (at + 1) s) (rw b))
 
     pub character-refused : (why : Refusal) (place : ℕ) → q ≡ Read.Refused why place → Reading leafForm s at (characterOf (drop at s)) q
-    character-refused why place p = passes e leafForm at (characterOf (drop at s)) why place p (λ n left x. character-escape ∙ rw x)
+    character-refused why place p = passes e leafForm at (characterOf (drop at s)) why place p (λ left x. character-escape ∙ rw x)
 
     pub character-escaped : (f end : ℕ) → q ≡ Read.Found f end → {r : Read}
         → ((ps : List Piece) → Reading leafForm s end (closeCharacter ps (drop end s)) r) → Reading leafForm s at (characterOf (drop at s)) r
     character-escaped f end p k =
         let x = escape-stands (byte "'") s at h b q e f end p in
-        moved (k (x .thing ∷ [])) at (characterOf (drop at s)) (omega (arith, e .ahead f end p)) (rw (character-escape, x .reads))
+        moved (k (x .it ∷ [])) at (characterOf (drop at s)) (omega (arith, e .ahead f end p)) (rw (character-escape, x .finds))
 
   module _ (n : (getD s at 0 ≡ lf) ⊎ ((getD s at 0 ≡ cr) ⊎ (getD s at 0 ≡ byte "'")) → ⊥) (k : getD s at 0 ≡ byte "\\" → ⊥) where
     stands-itself : insideOf (byte "'") (getD s at 0) ≡ itself

@@ -4,19 +4,15 @@ use mathlib.Core.Path.{_≡_, refl, sym, ap, _∙_}
 use mathlib.Core.Bool.{Bool, true, false, not}
 use mathlib.Core.List.{List, [], _∷_, _++_}
 use native.Mathlib.Omega.{arith}
-use lib.Dec.{leb, eqb}
-use borrow.Author.Tests.{leb-true, eqb-true, eqb-false, eq-eqb, ne-eqb}
+use lib.Dec.{eqb}
+use borrow.Author.Tests.{eqb-true, eqb-false, eq-eqb, ne-eqb}
 use lib.ListN.{length, getD, take, drop, length-drop, take-append-drop}
-use lib.Seq.{take-all, drop-drop}
-use Rattle.paper.specs.Bytes.{within, all, startsIn, startsWith, lengthIn, front, behind}
+use lib.Seq.{take-all}
+use Rattle.paper.specs.Bytes.{all, startsIn, startsWith, lengthIn, behind}
 use Rattle.paper.specs.Values.{upTo, is}
 use Rattle.paper.proofs.Tests.{split, true-false}
-use Rattle.paper.proofs.Lists.{both, all-nil, all-cons, starts-is}
+use Rattle.paper.proofs.Lists.{all-nil, all-cons}
 use Rattle.text.proofs.Places.{here}
-
--- a range as two orders
-pub in-range : (low high b : ℕ) → within low high b ≡ true → (low ≤ b) × (b ≤ high)
-in-range low high b e = let h = both (leb low b) (leb b high) e in (leb-true low b (h .0), leb-true b high (h .1))
 
 module _ (class : ℕ → Bool) where
   -- the first bytes of a run are of the class
@@ -28,16 +24,6 @@ module _ (class : ℕ → Bool) where
       split (class b)
       (λ e. all-cons class b (take n l) e (all-front n l (omega (arith, rw (e, lengthIn) at h))))
       (λ e. absurd (omega (arith, rw (e, lengthIn) at h)))
-
-  module _ (s : List ℕ) (start end : ℕ) (e : end ≡ start + lengthIn class (drop start s)) where
-    pub run-size : end - start ≡ lengthIn class (drop start s)
-    run-size = omega arith
-
-    pub run-front : front class (drop start s) ≡ take (end - start) (drop start s)
-    run-front = rw run-size
-
-    pub run-behind : behind class (drop start s) ≡ drop end s
-    run-behind = rw (drop-drop, e)
 
 -- a part that goes on to the end
 pub part-rest : (w : List ℕ) (i : ℕ) → take (length w - i) (drop i w) ≡ drop i w
@@ -55,10 +41,6 @@ pub starts-one : (c : ℕ) (s : List ℕ) → startsWith (c ∷ []) s ≡ starts
 unfolding startsWith startsIn
 starts-one c [] = refl
 starts-one c (b ∷ l) = split (eqb b c) (λ e. rw (e, startsWith)) (λ e. rw (e, startsWith))
-
--- a byte that stands at a place is inside
-pub one-inside : (c : ℕ) (s : List ℕ) (i : ℕ) → startsWith (c ∷ []) (drop i s) ≡ true → i < length s
-one-inside c s i e = omega (arith, ap length (starts-is (c ∷ []) (drop i s) e), length-drop i s)
 
 -- the first byte of a list that has one
 pub starts-first : (class : ℕ → Bool) (w : List ℕ) → 0 < length w → startsIn class w ≡ class (getD w 0 0)

@@ -1,26 +1,19 @@
 -- Answers and what the paper reads: an answer from a reading, a reading from an answer, and a refusal passed on.
 -- Over plain lists. Assumes nothing.
-use Prim.Native.Nat.{ℕ, suc, _-_, _≤_, _<_}
-use mathlib.Core.Path.{_≡_, refl, sym, ap, _∙_}
+use Prim.Native.Nat.{ℕ, _≤_, _<_}
+use mathlib.Core.Path.{_≡_, sym, ap, _∙_}
 use mathlib.Core.List.{List, []}
 use native.Mathlib.Omega.{arith}
 use lib.ListN.{length, drop}
 use Rattle.paper.specs.declared.Refusal.{Refusal}
 use Rattle.paper.specs.declared.Refusal.the-variants.{Value, Cut}
 use Rattle.paper.specs.Answer.{numberOf}
-use Rattle.paper.specs.Found.{Found, found, fault, placeIn}
-use Rattle.paper.proofs.Told.{number-positive}
-use Rattle.paper.proofs.Finds.{Tail, whole, past, tail-length, tail-then, Reads}
+use Rattle.paper.specs.Found.{Found, found, fault}
+use Rattle.paper.proofs.Finds.{Reads}
 use Rattle.text.proofs.Places.{place-back}
+use Rattle.text.proofs.Answers.{Tells, FoundTo, found-to, FaultAt, fault-to}
 use Rattle.values.specs.declared.read.Read.{Read}
-use Rattle.values.specs.Seen.{Seen, foundAt, refusedAt, seen, seenOf, Reading}
-
--- a tail is what is left from its place on
-pub tail-place : {s left : List ℕ} → Tail s left → left ≡ drop (placeIn s left) s
-tail-place {s} whole = let n : length s - length s ≡ 0 = omega arith in rw n
-tail-place {s} {left} (past {s = l} t) =
-    let n : suc (length l) - length left ≡ suc (length l - length left) = omega (arith, tail-length t) in
-    rw n (tail-place t)
+use Rattle.values.specs.Seen.{Seen, refusedAt, seen, seenOf, Reading}
 
 -- ---- an answer from a reading
 
@@ -52,45 +45,26 @@ module _ {A : Type 0} (form : A → ℕ) (s : List ℕ) (at : ℕ) (x : Found A)
 -- ---- a reading from an answer
 
 module _ {A : Type 0} {form : A → ℕ} {s : List ℕ} {at : ℕ} {x : Found A} {r : Read} (e : Reading form s at x r) where
-  pub record Stands (f end : ℕ) : Type 0 where
-    pub thing : A
-    pub reads : x ≡ found thing (drop end s)
-    pub formed : form thing ≡ f
-
-  pub stands : (P : A → List ℕ → Type 0) {t : List ℕ} → Tail s t → Reads t P x → (f end : ℕ) → r ≡ Read.Found f end → Stands f end
-  stands P {t} tail h f end q = go x refl h
+  -- the number and the place of an answer are those of what is found
+  tells : (y : Read) → r ≡ y → Tells s x (seen y .number) (seen y .place)
+  tells y q = go x (ap seen (sym q) ∙ e .same)
     where
-      go : (y : Found A) → x ≡ y → Reads t P y → Stands f end
-      go (found a left) p h =
-          let k : foundAt f end ≡ foundAt (form a) (placeIn s left) = ap seen (sym q) ∙ e .same ∙ ap (seenOf form s) p in
-          let g : f ≡ form a = ap (λ (y : Seen). y .form) k in
-          let n : end ≡ placeIn s left = ap (λ (y : Seen). y .place) k in
-          record { thing = a; reads = p ∙ ap (found a) (tail-place (tail-then tail (h .0)) ∙ rw n); formed = sym g }
-      go (fault n left) p h =
-          let k : foundAt f end ≡ refusedAt n (placeIn s left) = ap seen (sym q) ∙ e .same ∙ ap (seenOf form s) p in
-          let z : 0 ≡ n = ap (λ (y : Seen). y .number) k in
-          absurd (omega (arith, h .least))
+      go : (x : Found A) → seen y ≡ seenOf form s x → Tells s x (seen y .number) (seen y .place)
+      go (found a left) k = (ap (λ (y : Seen). y .number) k, ap (λ (y : Seen). y .place) k)
+      go (fault n left) k = (ap (λ (y : Seen). y .number) k, ap (λ (y : Seen). y .place) k)
 
-  pub record Fails : Type 0 where
-    pub number : ℕ
-    pub left : List ℕ
-    pub reads : x ≡ fault number left
+  pub stands : (P : A → List ℕ → Type 0) → Reads (drop at s) P x → (f end : ℕ) → r ≡ Read.Found f end → FoundTo P s at x end
+  stands P h f end q = found-to P s at x end (tells (Read.Found f end) q) h (omega (arith, e .ahead f end q))
 
-  pub fails : (why : Refusal) (place : ℕ) → r ≡ Read.Refused why place → Fails
-  fails why place q = go x refl
-    where
-      go : (y : Found A) → x ≡ y → Fails
-      go (found a left) p =
-          let k : refusedAt (numberOf why) place ≡ foundAt (form a) (placeIn s left) = ap seen (sym q) ∙ e .same ∙ ap (seenOf form s) p in
-          absurd (number-positive why (ap (λ (y : Seen). y .number) k))
-      go (fault n left) p = record { number = n; left = left; reads = p }
+  pub fails : (why : Refusal) (place : ℕ) → r ≡ Read.Refused why place → FaultAt s x why place
+  fails why place q = fault-to s x why place (tells (Read.Refused why place) q)
 
   -- what keeps the faults of an inner reading has its refusal as it stands
   pub passes : {B : Type 0} (outer : B → ℕ) (from : ℕ) (y : Found B) (why : Refusal) (place : ℕ) → r ≡ Read.Refused why place
-      → ((n : ℕ) (left : List ℕ) → x ≡ fault n left → y ≡ fault n left) → Reading outer s from y r
+      → ((left : List ℕ) → x ≡ fault (numberOf why) left → y ≡ fault (numberOf why) left) → Reading outer s from y r
   passes outer from y why place q keeps =
       let f = fails why place q in
-      refuses outer s from y r why place q (e .inside why place q) (ap seen (sym q) ∙ e .same ∙ rw (f .reads, keeps (f .number) (f .left) (f .reads)))
+      refuses outer s from y r why place q (e .inside why place q) (ap seen (sym q) ∙ e .same ∙ rw (f .faults, keeps (f .left) (f .faults)))
 
 -- a reading that sees the same from further on
 pub moved : {A : Type 0} {form : A → ℕ} {s : List ℕ} {next : ℕ} {y : Found A} {r : Read} → Reading form s next y r → (at : ℕ) (x : Found A)

@@ -12,7 +12,7 @@ ghost use mathlib.Core.Bool.{true};
 ghost use Prim.Native.Nat.{ℕ, _+_, _≤_, _<_};
 ghost use lib.ListN.{length, getD, drop};
 ghost use Rattle.paper.specs.Bytes.{byte, isHex, all};
-ghost use Rattle.paper.specs.Values.{escaped, hexDigit, hexValue, spellsScalar, pieceRule};
+ghost use Rattle.paper.specs.Values.{escaped, hexValue, spellsScalar, pieceRule};
 ghost use Rattle.paper.specs.ReadingValues.{fourDigits, bracedDigits, escape};
 ghost use Rattle.values.specs.Seen.{Reading, noForm};
 
@@ -117,20 +117,8 @@ fn hex_value(digits: &[u8]) -> u32
     let mut value = 0;
     let mut i = 0;
     while i < digits.len() {
-        value = value * 16 + hex_digit(digits[i]);
+        value = value * 16 + classes::hex_digit(digits[i]) as u32;
         i += 1;
     }
     value
-}
-
-// The number that a hex digit spells, in either case.
-fn hex_digit(b: u8) -> u32
-    requires { ⌜ isHex b ≡ true ⌝ }
-    ensures { λ r. ⌜ (r ≡ hexDigit b) × (r < 16) ⌝ }
-{
-    match b {
-        b'0'..=b'9' => (b - b'0') as u32,
-        b'A'..=b'F' => (b - b'A') as u32 + 10,
-        _ => (b - b'a') as u32 + 10,
-    }
 }

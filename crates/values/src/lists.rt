@@ -12,7 +12,6 @@ use paper::number;
 use text::parts::starts_with;
 use text::runs;
 use text::runs::Class;
-ghost use mathlib.Core.Path.{_≡_};
 ghost use Prim.Native.Nat.{_≤_};
 ghost use lib.ListN.{length, drop};
 ghost use Rattle.paper.specs.Limits.{listLimit};

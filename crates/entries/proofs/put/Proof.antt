@@ -1,7 +1,6 @@
 -- Eight stores in a row are the entry's cells laid at its number. Assumes nothing.
 use native.Mathlib.Omega.{arith}
 use native.Mathlib.Numerals.{towards-suc}
-use mathlib.Core.Path.{refl}
 use lib.ListN.{length-set}
 use Rattle.paper.specs.Entries.{allCells}
 use Rattle.entries.specs.Laid.{lay}

@@ -1,7 +1,7 @@
 -- The invariant: zeros from `i` on give what zeros from `at` on give. The measure is what is left of the cells.
 use borrow.Author.Needs.{needs}
 use native.Mathlib.Omega.{arith}
-use Prim.Native.Nat.{ℕ, _≤_, _<_, _-_}
+use Prim.Native.Nat.{_≤_, _-_}
 use mathlib.Core.Path.{_≡_, refl, sym, _∙_}
 use lib.ListN.{length, replicate, length-set}
 use lib.Seq.{sets}

@@ -1,13 +1,11 @@
 -- A law for each test that fails, and for the last one; what the tests passed says that the sums fit.
-use mathlib.Core.Path.{_≡_, refl, sym, _∙_}
-use mathlib.Core.Bool.{true}
+use mathlib.Core.Path.{_≡_, sym, _∙_}
 use Prim.Native.Nat.{_-_}
 use native.Mathlib.Omega.{arith}
 use lib.ListN.{length}
 use borrow.Author.Tests.{not-true, not-false}
 use Rattle.lines.specs.Parts.{part}
-use Rattle.lines.proofs.Closing.{other-tabs, no-mark, other-name, no-end, by-rest, name-inside, part-length}
-use Rattle.lines.proofs.Crossing.{stands-inside}
+use Rattle.lines.proofs.Closing.{other-tabs, no-mark, other-name, no-end, by-rest, name-inside, end-inside, part-length}
 use borrow.Author.Needs.{needs}
 use Rattle.lines.proofs.content.closes.Statement.{statement}
 use Rattle.lines.proofs.content.closes.Tie as tie
@@ -91,8 +89,7 @@ is-over-requires c κs =
     let marked = sym (c .before .before .before .before .before .before .before .starts-with .ensures) ∙ not-false _ (c .before .before .before .before .before .before .if2 .left) in
     let named = sym (c .before .before .before .before .starts-with2 .ensures) ∙ not-false _ (c .before .before .before .if3 .left) in
     let ended = sym (c .before .starts-with3 .ensures) ∙ not-false _ (c .if4 .left) in
-    let inside = name-inside _ _ _ _ _ _ (c .before .before .before .before .before .before .before .before .before .before .end .ensures) (size (c .before .before .before .before .before .before .before .before .before .before .before .before)) (c .before .before .before .before .before .before .before .before .before .if1 .left) marked named in
-    stands-inside _ _ _ true inside (sym ended) refl
+    end-inside _ _ _ _ _ _ (c .before .before .before .before .before .before .before .before .before .before .end .ensures) (size (c .before .before .before .before .before .before .before .before .before .before .before .before)) (c .before .before .before .before .before .before .before .before .before .if1 .left) marked named ended
 
 returns-5 : tie.Need-returns-5
 returns-5 c =

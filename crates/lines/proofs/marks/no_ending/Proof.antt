@@ -1,8 +1,6 @@
 use Rattle.lines.proofs.MarkLaws.{fault-cut, fault-there}
 use Rattle.lines.proofs.marks.no_ending.Statement.{statement}
 use Rattle.lines.proofs.marks.no_ending.Tie as tie
-use Rattle.lines.proofs.marks.no_ending.Reads as reads
-use Rattle.lines.proofs.marks.no_ending.Lts as lts
 
 -- src/marks.rt:65:9
 returns : tie.Need-returns

@@ -4,10 +4,6 @@ use Rattle.lines.proofs.MarkLaws.{ends-block, ends-self, ends-slash, en
 use borrow.Author.Needs.{needs}
 use Rattle.lines.proofs.marks.read_ending.Statement.{statement}
 use Rattle.lines.proofs.marks.read_ending.Tie as tie
-use Rattle.lines.proofs.marks.read_ending.Reads as reads
-use Rattle.lines.proofs.marks.read_ending.Lts as lts
-use Rattle.lines.proofs.marks.no_ending.Reads as no-ending-reads
-use Rattle.text.proofs.parts.starts_with.Reads as starts-with-reads
 
 -- src/marks.rt:48:27
 slice-aggregate-starts-with : tie.Need-slice-aggregate-starts-with

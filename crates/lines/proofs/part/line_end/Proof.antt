@@ -1,9 +1,11 @@
 -- A law for each way out.
-use Rattle.lines.proofs.Crossing.{stands-inside, says-cut, says-refused, says-read}
+use Rattle.text.proofs.Compared.{stands-inside}
+use Rattle.lines.proofs.Crossing.{says-cut, says-refused, says-read}
 use Rattle.lines.proofs.Ends.{line-cut, line-lf, line-crlf, line-other}
 use native.Mathlib.Omega.{arith}
-use mathlib.Core.Path.{refl}
+use mathlib.Core.Path.{refl, sym, _∙_}
 use borrow.Author.Needs.{needs}
+use Rattle.paper.specs.Bytes.{bytes}
 use Rattle.lines.proofs.part.line_end.Statement.{statement}
 use Rattle.lines.proofs.part.line_end.Tie as tie
 
@@ -38,7 +40,7 @@ past-requires-2 : tie.Need-past-requires-2
 past-requires-2 c κs = search needs
 
 returns-3 : tie.Need-returns-3
-returns-3 c = says-read _ _ _ _ _ _ _ _ _ (c .past2 .ensures) (stands-inside _ _ _ _ (omega arith) (c .before .before .starts-with .ensures) (c .before .if3 .taken)) (line-crlf _ _ _ (c .before .before .before .before .before .before .if1 .left) (c .before .before .before .before .if2 .left) _ (c .before .before .starts-with .ensures) (c .before .if3 .taken)) refl refl
+returns-3 c = says-read _ _ _ _ _ _ _ _ _ (c .past2 .ensures) (omega (arith, stands-inside (bytes "\r\n") (c .before .before .before .before .before .before .before .before .args .s .now) (c .before .before .before .before .before .before .before .before .args .at) (sym (c .before .before .starts-with .ensures) ∙ c .before .if3 .taken))) (line-crlf _ _ _ (c .before .before .before .before .before .before .if1 .left) (c .before .before .before .before .if2 .left) _ (c .before .before .starts-with .ensures) (c .before .if3 .taken)) refl refl
 
 refused-requires : tie.Need-refused-requires
 refused-requires c κs = search needs

@@ -1,5 +1,4 @@
 -- Each class is that of the function that tells it.
-use mathlib.Core.Path.{_≡_}
 use borrow.Author.Needs.{needs}
 use Rattle.text.proofs.runs.is_in.Statement.{statement}
 use Rattle.text.proofs.runs.is_in.Tie as tie

@@ -6,12 +6,13 @@ use mathlib.Core.List.{List}
 use native.Mathlib.Omega.{arith}
 use lib.ListN.{length, drop}
 use borrow.Author.Tests.{not-true, not-false}
+use Rattle.paper.specs.Bytes.{bytes}
 use Rattle.paper.specs.Values.{list}
 use Rattle.paper.specs.ReadingValues.{itemAnd}
 use Rattle.values.specs.declared.entering.Entered.{Entered}
 use Rattle.values.specs.Entering.{leftOf, EntersFrom}
 use Rattle.values.proofs.Deepening.{one-less, no-less, fewer-falls}
-use Rattle.values.proofs.ListLaws.{byte-inside}
+use Rattle.text.proofs.Compared.{stands-inside}
 use Rattle.values.proofs.EnterLaws.{leaf-enters, deep-enters, empty-enters, list-enters, ahead-full}
 use Rattle.values.proofs.EnterTurns.{stands-deeper, Turn, Turned, turned, next-small, full-turn, item-stands, put-room, none-turn, Far, far, last-ahead, last-turn, next-turn}
 use borrow.Fn.Kinds.{In}
@@ -210,7 +211,7 @@ enter-items-add-end : (t : ℕ) → enter-items-lts.Need-add-end (enter-items-ca
 enter-items-add-end t c = omega (arith, item-far t (c .before .before .before .before .before .before .before .before .before))
 
 enter-items-end-requires : (t : ℕ) → enter-items-lts.Need-end-requires (enter-items-calls t) (enter-items-at t) enter-items.Post enter-items-Inv-loop enter-items-μ-loop
-enter-items-end-requires t c κs = byte-inside _ _ _ (sym (c .before .starts-with .ensures) ∙ not-false _ (c .if2 .left))
+enter-items-end-requires t c κs = omega (arith, stands-inside (bytes ",") (c .before .before .before .before .before .before .before .before .before .before .before .before .before .before .before .before .before .before .before .before .before .before .args .s .now) (c .before .before .before .before .before .before .before .before .before .item .given .0 .1 .0) (sym (c .before .starts-with .ensures) ∙ not-false _ (c .if2 .left)))
 
 enter-items-loop-less : (t : ℕ) → enter-items-lts.Need-loop-less (enter-items-calls t) (enter-items-at t) enter-items.Post enter-items-Inv-loop enter-items-μ-loop
 enter-items-loop-less t c = omega (arith, item-far t (c .before .before .before .before .before .before .before .before .before .before), c .end .ensures .1, c .end .ensures .2)
@@ -222,7 +223,7 @@ enter-items-loop-again t c = (
   omega (arith, item-far t (c .before .before .before .before .before .before .before .before .before .before)),
   omega (arith, item-far t (c .before .before .before .before .before .before .before .before .before .before)),
   c .before .before .before .before .before .before .put .kept .0 ∙ item-turn t (c .before .before .before .before .before .before .before .before .before .before .before .before .before .before) .same ∙ item-turn t (c .before .before .before .before .before .before .before .before .before .before .before .before .before .before) .turn .kept,
-  λ r after k. c .before .before .before .before .before .before .before .before .before .before .before .before .before .before .before .before .before .before .before .before .loop .inv .5 r after (next-turn (item-turn t (c .before .before .before .before .before .before .before .before .before .before .before .before .before .before)) _ _ _ _ (c .before .before .before .before .before .before .before .before .before .before .item .given .1) _ (c .before .before .before .before .before .before .before .nameless .ensures) _ (c .before .before .before .before .before .before .put .ensures) (sym (c .before .before .starts-with .ensures) ∙ not-false _ (c .before .if2 .left)) _ (c .end .ensures .0) r after k),
+  λ r after k. c .before .before .before .before .before .before .before .before .before .before .before .before .before .before .before .before .before .before .before .before .loop .inv .5 r after (next-turn (item-turn t (c .before .before .before .before .before .before .before .before .before .before .before .before .before .before)) _ _ _ _ (c .before .before .before .before .before .before .before .before .before .before .item .given .1) _ (c .before .before .before .before .before .before .before .nameless .ensures) _ (c .before .before .before .before .before .before .put .ensures) (sym (c .before .before .starts-with .ensures) ∙ not-false _ (c .before .if2 .left)) _ (c .end .ensures) r after k),
 )
 
 pub +enter+enter-items-spec : {M : Type 1} → statement M

@@ -26,7 +26,7 @@ returns : tie.Need-returns
 returns c =
     let at-end = c .before .before in
     let start = at-end .before .before in
-    λ quote. no-value _ _ _ _ _ _ (c .no-value .ensures) (omega arith) (braced-many quote _ (start .args .at) _ _ (at-end .end .ensures .0) (c .before .if1 .taken))
+    λ quote. no-value _ _ _ _ _ _ (c .no-value .ensures) (omega arith) (braced-many quote _ (start .args .at) _ _ (at-end .end .ensures) (c .before .if1 .taken))
 
 cut-requires : tie.Need-cut-requires
 cut-requires c κs = search needs
@@ -36,7 +36,7 @@ returns-2 c =
     let at-if1 = c .before .before in
     let at-end = at-if1 .before in
     let start = at-end .before .before in
-    λ quote. cut-off _ _ _ _ _ (c .cut .ensures) (braced-ends quote _ (start .args .at) _ _ (at-end .end .ensures .0) (at-if1 .if1 .left) (c .before .if2 .taken))
+    λ quote. cut-off _ _ _ _ _ (c .cut .ensures) (braced-ends quote _ (start .args .at) _ _ (at-end .end .ensures) (at-if1 .if1 .left) (c .before .if2 .taken))
 
 shared-slice-read-if3 : tie.Need-shared-slice-read-if3
 shared-slice-read-if3 c = search needs
@@ -51,8 +51,8 @@ returns-3 c =
     let start = at-end .before .before in
     λ quote. no-value _ _ _ _ _ _ (c .no-value2 .ensures) (omega arith)
     (⊎-elim
-    (λ w. braced-other quote _ (start .args .at) _ _ (at-end .end .ensures .0) (at-if1 .if1 .left) (omega arith) (w .taken))
-    (λ w. braced-none quote _ (start .args .at) _ _ (at-end .end .ensures .0) (at-if1 .if1 .left) (omega arith) (w .0 .left) (eqb-true _ _ (w .1 .taken)))
+    (λ w. braced-other quote _ (start .args .at) _ _ (at-end .end .ensures) (at-if1 .if1 .left) (omega arith) (w .taken))
+    (λ w. braced-none quote _ (start .args .at) _ _ (at-end .end .ensures) (at-if1 .if1 .left) (omega arith) (w .0 .left) (eqb-true _ _ (w .1 .taken)))
     (c .before .if3 .came))
 
 sub-spells-scalar : tie.Need-sub-spells-scalar
@@ -81,7 +81,7 @@ returns-4 c =
     let at-end = at-if1 .before in
     let start = at-end .before .before in
     λ quote. no-value _ _ _ _ _ _ (c .no-value3 .ensures) (omega arith)
-    (braced-bad quote _ (start .args .at) _ _ (at-end .end .ensures .0) (at-if1 .if1 .left) (omega arith) (at-if3 .if3 .left) (omega (arith, eqb-false))
+    (braced-bad quote _ (start .args .at) _ _ (at-end .end .ensures) (at-if1 .if1 .left) (omega arith) (at-if3 .if3 .left) (omega (arith, eqb-false))
     (sym (at-spells-scalar .spells-scalar .ensures) ∙ not-true _ (c .before .if5 .taken)))
 
 add-t6 : tie.Need-add-t6
@@ -94,7 +94,7 @@ returns-5 c =
     let at-end = at-if1 .before in
     let start = at-end .before .before in
     λ quote. finds _ _ _ _ _ _ _ (omega arith) (omega arith) refl
-    (braced-good quote _ (start .args .at) _ _ (at-end .end .ensures .0) (at-if1 .if1 .left) (omega arith) (at-if3 .if3 .left) (omega (arith, eqb-false))
+    (braced-good quote _ (start .args .at) _ _ (at-end .end .ensures) (at-if1 .if1 .left) (omega arith) (at-if3 .if3 .left) (omega (arith, eqb-false))
     (sym (c .before .spells-scalar .ensures) ∙ not-false _ (c .if5 .left)))
 
 pub braced-end-spec : {M : Type 1} → statement M

@@ -5,7 +5,8 @@ use native.Mathlib.Omega.{arith}
 use borrow.Author.Tests.{not-true, not-false}
 use Rattle.paper.specs.Bytes.{bytes}
 use Rattle.values.proofs.Seeing.{finds, no-value, cut-off}
-use Rattle.values.proofs.Escaping.{part-inside, braced-there, four-instead, escape-ends, letter-bad, letter-good}
+use Rattle.text.proofs.Compared.{stands-inside}
+use Rattle.values.proofs.Escaping.{braced-there, four-instead, escape-ends, letter-bad, letter-good}
 use Rattle.values.proofs.escapes.escape_end.Statement.{statement}
 use Rattle.values.proofs.escapes.escape_end.Tie as tie
 
@@ -18,7 +19,7 @@ starts-with-requires c κs = search needs
 braced-end-requires : tie.Need-braced-end-requires
 braced-end-requires c κs =
     let start = c .before .before .before .before in
-    omega (arith, part-inside 0 _ _ (start .pre .0) (start .pre .1) (bytes "u{") (sym (c .before .starts-with .ensures) ∙ c .if1 .taken))
+    omega (arith, stands-inside (bytes "\\u{") (start .args .s .now) (start .args .at) (sym (c .before .starts-with .ensures) ∙ c .if1 .taken))
 
 returns : tie.Need-returns
 returns c =
@@ -35,7 +36,7 @@ starts-with-requires-2 c κs = search needs
 four-end-requires : tie.Need-four-end-requires
 four-end-requires c κs =
     let start = c .before .before .before .before .before .before .before in
-    omega (arith, part-inside 0 _ _ (start .pre .0) (start .pre .1) (bytes "u") (sym (c .before .starts-with2 .ensures) ∙ c .if2 .taken))
+    omega (arith, stands-inside (bytes "\\u") (start .args .s .now) (start .args .at) (sym (c .before .starts-with2 .ensures) ∙ c .if2 .taken))
 
 returns-2 : tie.Need-returns-2
 returns-2 c =

@@ -26,7 +26,7 @@ returns c =
     let at-if1 = c .before .before in
     let at-end = at-if1 .before in
     let start = at-end .before .before in
-    λ quote. cut-off _ _ _ _ _ (c .cut .ensures) (four-ends quote _ (start .args .at) _ _ (at-end .end .ensures .0) (at-if1 .if1 .taken) (c .before .if2 .taken))
+    λ quote. cut-off _ _ _ _ _ (c .cut .ensures) (four-ends quote _ (start .args .at) _ _ (at-end .end .ensures) (at-if1 .if1 .taken) (c .before .if2 .taken))
 
 no-value-requires : tie.Need-no-value-requires
 no-value-requires c κs = search needs
@@ -36,7 +36,7 @@ returns-2 c =
     let at-if1 = c .before .before in
     let at-end = at-if1 .before in
     let start = at-end .before .before in
-    λ quote. no-value _ _ _ _ _ _ (c .no-value .ensures) (omega arith) (four-other quote _ (start .args .at) _ _ (at-end .end .ensures .0) (at-if1 .if1 .taken) (omega arith))
+    λ quote. no-value _ _ _ _ _ _ (c .no-value .ensures) (omega arith) (four-other quote _ (start .args .at) _ _ (at-end .end .ensures) (at-if1 .if1 .taken) (omega arith))
 
 sub-spells-scalar : tie.Need-sub-spells-scalar
 sub-spells-scalar c = search needs
@@ -62,7 +62,7 @@ returns-3 c =
     let at-end = at-if1 .before in
     let start = at-end .before .before in
     λ quote. no-value _ _ _ _ _ _ (c .no-value2 .ensures) (omega arith)
-    (four-bad quote _ (start .args .at) _ _ (at-end .end .ensures .0) (at-if1 .if1 .left) (at-end .end .ensures .2)
+    (four-bad quote _ (start .args .at) _ _ (at-end .end .ensures) (at-if1 .if1 .left)
     (sym (at-spells-scalar .spells-scalar .ensures) ∙ not-true _ (c .before .if3 .taken)))
 
 returns-4 : tie.Need-returns-4
@@ -71,7 +71,7 @@ returns-4 c =
     let at-end = at-if1 .before in
     let start = at-end .before .before in
     λ quote. finds _ _ _ _ _ _ _ (omega arith) (omega arith) refl
-    (four-good quote _ (start .args .at) _ _ (at-end .end .ensures .0) (at-if1 .if1 .left) (at-end .end .ensures .2)
+    (four-good quote _ (start .args .at) _ _ (at-end .end .ensures) (at-if1 .if1 .left)
     (sym (c .before .spells-scalar .ensures) ∙ not-false _ (c .if3 .left)))
 
 pub four-end-spec : {M : Type 1} → statement M

@@ -30,6 +30,9 @@ hex-digit-requires c κs =
     let start = c .before .before .before .before in
     all-at isHex _ _ (start .pre .0) (c .before .loop-test .taken)
 
+cast-value : tie.Need-cast-value Inv-loop μ-loop
+cast-value c = search needs
+
 add-value : tie.Need-add-value Inv-loop μ-loop
 add-value c =
     let at-loop = c .before .before .before in
@@ -61,6 +64,7 @@ hex-value-spec =
     mul-value
     shared-slice-read-hex-digit
     hex-digit-requires
+    cast-value
     add-value
     add-i
     loop-less

@@ -3,11 +3,12 @@ use borrow.Author.Needs.{needs}
 use Prim.Native.Nat.{_+_}
 use mathlib.Core.Path.{sym, ap, _∙_}
 use lib.ListN.{length}
-use Rattle.paper.specs.Bytes.{byte}
+use Rattle.paper.specs.Bytes.{bytes}
 use Rattle.paper.specs.Values.{isIriBody}
 use native.Mathlib.Omega.{arith}
 use borrow.Author.Tests.{not-true, not-false}
-use Rattle.values.proofs.Runs.{part-rest, part-size, one-inside}
+use Rattle.text.proofs.Compared.{stands-inside}
+use Rattle.values.proofs.Runs.{part-rest, part-size}
 use Rattle.values.proofs.IriParts.{iri-empty, iri-no-letter, iri-no-colon, iri-body}
 use Rattle.values.proofs.iris.is_iri.Statement.{statement}
 use Rattle.values.proofs.iris.is_iri.Tie as tie
@@ -47,13 +48,13 @@ sub-is-body : tie.Need-sub-is-body
 sub-is-body c =
     let at-end = c .before .before .before in
     let start = at-end .before .before .before .before .before .before in
-    let h = one-inside (byte ":") (start .args .w .now) (at-end .end .result) (sym (c .before .starts-with .ensures) ∙ not-false _ (c .if3 .left)) in omega arith
+    let h = stands-inside (bytes ":") (start .args .w .now) (at-end .end .result) (sym (c .before .starts-with .ensures) ∙ not-false _ (c .if3 .left)) in omega arith
 
 part-is-body-start : tie.Need-part-is-body-start
 part-is-body-start c =
     let at-end = c .before .before .before in
     let start = at-end .before .before .before .before .before .before in
-    let h = one-inside (byte ":") (start .args .w .now) (at-end .end .result) (sym (c .before .starts-with .ensures) ∙ not-false _ (c .if3 .left)) in omega arith
+    let h = stands-inside (bytes ":") (start .args .w .now) (at-end .end .result) (sym (c .before .starts-with .ensures) ∙ not-false _ (c .if3 .left)) in omega arith
 
 part-is-body-end : tie.Need-part-is-body-end
 part-is-body-end c = search needs

@@ -5,13 +5,14 @@ use mathlib.Core.Path.{_≡_, refl, sym, _∙_}
 use native.Mathlib.Omega.{arith}
 use lib.ListN.{length, drop}
 use borrow.Author.Tests.{not-true, not-false}
-use Rattle.paper.specs.Bytes.{byte}
+use Rattle.paper.specs.Bytes.{bytes}
 use Rattle.paper.specs.Values.{list}
 use Rattle.paper.specs.ReadingValues.{itemAnd}
 use Rattle.values.specs.Seen.{seenOf, listForm}
 use Rattle.values.proofs.Deepening.{one-less, no-less, fewer-falls}
 use Rattle.values.proofs.Seeing.{moved}
-use Rattle.values.proofs.ListLaws.{leaf-value, deep-value, empty-value, list-value, byte-inside, item-refused, item-cut, item-last, item-wrong, item-next}
+use Rattle.text.proofs.Compared.{stands-inside}
+use Rattle.values.proofs.ListLaws.{leaf-value, deep-value, empty-value, list-value, item-refused, item-cut, item-last, item-wrong, item-next}
 use borrow.Fn.Kinds.{In}
 use borrow.Fn.PlainCycle.{Measures, is, falls, and}
 use Rattle.values.proofs.lists.read_items.Reads as read-items
@@ -117,7 +118,7 @@ read-items-loop-less t c = omega (arith, c .before .before .before .before .befo
 
 -- src/lists.rt:67:5
 read-items-loop-again : (t : ℕ) → read-items-lts.Need-loop-again (read-items-calls t) (read-items-at t) read-items.Post read-items-Inv-loop read-items-μ-loop
-read-items-loop-again t c = (omega (arith, c .before .before .before .before .before .before .before .before .loop .inv .0, c .before .before .before .before .before .before .before .read-value .ensures .ahead _ _ (c .before .before .before .before .before .item .given .1), c .end .ensures .1), c .end .ensures .2, sym (item-next _ _ _ _ (c .before .before .before .before .before .before .before .read-value .ensures) _ _ (c .before .before .before .before .before .item .given .1) (omega (arith, c .before .before .before .if1 .left)) (c .before .match2 .keys2) _ (c .end .ensures .0)) ∙ c .before .before .before .before .before .before .before .before .loop .inv .2)
+read-items-loop-again t c = (omega (arith, c .before .before .before .before .before .before .before .before .loop .inv .0, c .before .before .before .before .before .before .before .read-value .ensures .ahead _ _ (c .before .before .before .before .before .item .given .1), c .end .ensures .1), c .end .ensures .2, sym (item-next _ _ _ _ (c .before .before .before .before .before .before .before .read-value .ensures) _ _ (c .before .before .before .before .before .item .given .1) (omega (arith, c .before .before .before .if1 .left)) (c .before .match2 .keys2) _ (c .end .ensures)) ∙ c .before .before .before .before .before .before .before .before .loop .inv .2)
 
 -- src/lists.rt:86:17
 read-items-no-value-requires : (t : ℕ) → read-items-lts.Need-no-value-requires (read-items-calls t) (read-items-at t) read-items.Post read-items-Inv-loop read-items-μ-loop
@@ -170,7 +171,7 @@ read-value-starts-with-requires-2 t c κs = search needs
 
 -- src/lists.rt:55:18
 read-value-add-t17 : (t : ℕ) → read-value-lts.Need-add-t17 (read-value-calls t) (read-value-at t) read-value.Post
-read-value-add-t17 t c = omega (arith, byte-inside (c .before .before .before .before .before .before .before .before .before .before .before .args .s .now) (c .before .before .before .before .before .before .before .before .before .before .before .args .at) (byte "[") (sym (c .before .before .before .before .before .before .before .before .starts-with .ensures) ∙ not-false _ (c .before .before .before .before .before .before .before .if1 .left)))
+read-value-add-t17 t c = omega (arith, stands-inside (bytes "[") (c .before .before .before .before .before .before .before .before .before .before .before .args .s .now) (c .before .before .before .before .before .before .before .before .before .before .before .args .at) (sym (c .before .before .before .before .before .before .before .before .starts-with .ensures) ∙ not-false _ (c .before .before .before .before .before .before .before .if1 .left)))
 
 -- src/lists.rt:53:9
 read-value-returns-3 : (t : ℕ) → read-value-lts.Need-returns-3 (read-value-calls t) (read-value-at t) read-value.Post
@@ -178,11 +179,11 @@ read-value-returns-3 t c = empty-value _ _ _ _ (sym (c .before .starts-with2 .en
 
 -- src/lists.rt:58:19
 read-value-add-read-items : (t : ℕ) → read-value-lts.Need-add-read-items (read-value-calls t) (read-value-at t) read-value.Post
-read-value-add-read-items t c = omega (arith, byte-inside (c .before .before .before .before .before .before .before .before .before .before .before .args .s .now) (c .before .before .before .before .before .before .before .before .before .before .before .args .at) (byte "[") (sym (c .before .before .before .before .before .before .before .before .starts-with .ensures) ∙ not-false _ (c .before .before .before .before .before .before .before .if1 .left)))
+read-value-add-read-items t c = omega (arith, stands-inside (bytes "[") (c .before .before .before .before .before .before .before .before .before .before .before .args .s .now) (c .before .before .before .before .before .before .before .before .before .before .before .args .at) (sym (c .before .before .before .before .before .before .before .before .starts-with .ensures) ∙ not-false _ (c .before .before .before .before .before .before .before .if1 .left)))
 
 -- src/lists.rt:58:5
 read-value-read-items-requires : (t : ℕ) → read-value-lts.Need-read-items-requires (read-value-calls t) (read-value-at t) read-value.Post
-read-value-read-items-requires t c κs = (fewer-falls _ _ _ (one-less _ _ (c .before .before .before .before .before .before .step .ensures) _ (c .before .before .before .before .fewer .given .1)) (c .before .before .before .before .before .before .before .before .before .before .before .pre .0), byte-inside (c .before .before .before .before .before .before .before .before .before .before .before .args .s .now) (c .before .before .before .before .before .before .before .before .before .before .before .args .at) (byte "[") (sym (c .before .before .before .before .before .before .before .before .starts-with .ensures) ∙ not-false _ (c .before .before .before .before .before .before .before .if1 .left)))
+read-value-read-items-requires t c κs = (fewer-falls _ _ _ (one-less _ _ (c .before .before .before .before .before .before .step .ensures) _ (c .before .before .before .before .fewer .given .1)) (c .before .before .before .before .before .before .before .before .before .before .before .pre .0), omega (arith, stands-inside (bytes "[") (c .before .before .before .before .before .before .before .before .before .before .before .args .s .now) (c .before .before .before .before .before .before .before .before .before .before .before .args .at) (sym (c .before .before .before .before .before .before .before .before .starts-with .ensures) ∙ not-false _ (c .before .before .before .before .before .before .before .if1 .left))))
 
 -- src/lists.rt:39:1
 read-value-returns-4 : (t : ℕ) → read-value-lts.Need-returns-4 (read-value-calls t) (read-value-at t) read-value.Post

@@ -3,9 +3,9 @@ use borrow.Author.Needs.{needs}
 use native.Mathlib.Omega.{arith}
 use mathlib.Core.Logic.{⊎-elim}
 use Prim.Native.Nat.{_≤_}
-use Rattle.values.proofs.HexDigits.{hex-digit, hex-upper, lower-hex, hex-lower}
-use Rattle.values.proofs.escapes.hex_digit.Statement.{statement}
-use Rattle.values.proofs.escapes.hex_digit.Tie as tie
+use Rattle.text.proofs.HexDigits.{hex-numeral, hex-upper, lower-hex, hex-lower}
+use Rattle.text.proofs.classes.hex_digit.Statement.{statement}
+use Rattle.text.proofs.classes.hex_digit.Tie as tie
 
 -- none of the other two ranges
 lower : (c : tie.Joined1) → (0x61 ≤ c .before .args .b) × (c .before .args .b ≤ 0x66)
@@ -14,26 +14,17 @@ lower c =
     (λ l h. ⊎-elim (λ w. omega arith) (⊎-elim (λ w. omega arith) (λ w. omega arith)) (c .if1 .came))
     (λ l h. ⊎-elim (λ w. omega arith) (⊎-elim (λ w. omega arith) (λ w. omega arith)) (c .if1 .came))
 
-cast-result : tie.Need-cast-result
-cast-result c = search needs
-
-cast-result-2 : tie.Need-cast-result-2
-cast-result-2 c = search needs
-
 add-result : tie.Need-add-result
 add-result c = search needs
 
 sub-result : tie.Need-sub-result
 sub-result c = omega (arith, lower c)
 
-cast-result-3 : tie.Need-cast-result-3
-cast-result-3 c = search needs
-
 add-result-2 : tie.Need-add-result-2
 add-result-2 c = search needs
 
 returns : tie.Need-returns
-returns c = hex-digit _ (omega arith) (omega arith)
+returns c = hex-numeral _ (omega arith) (omega arith)
 
 returns-2 : tie.Need-returns-2
 returns-2 c = hex-upper _ (omega arith) (omega arith)
@@ -42,15 +33,4 @@ returns-3 : tie.Need-returns-3
 returns-3 c = hex-lower _ (lower c)
 
 pub hex-digit-spec : {M : Type 1} → statement M
-hex-digit-spec =
-    tie.close
-    (tie.spec
-    cast-result
-    cast-result-2
-    add-result
-    sub-result
-    cast-result-3
-    add-result-2
-    returns
-    returns-2
-    returns-3)
+hex-digit-spec = tie.close (tie.spec add-result sub-result add-result-2 returns returns-2 returns-3)
