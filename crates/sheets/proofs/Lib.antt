@@ -1,0 +1,17 @@
+-- Laws that the proofs of this crate use, over plain lists and numbers.
+pub mod Readings
+pub mod Slots
+pub mod ReadAt
+pub mod Lengths
+pub mod TraitLaws
+pub mod TraitRuns
+pub mod Marked
+pub mod OpeningLaws
+pub mod ConceptLaws
+pub mod AnnotatedLaws
+pub mod BlockLaws
+pub mod Bodies
+pub mod PieceLaws
+pub mod SheetLaws
+pub mod Views
+pub mod OneAnswer

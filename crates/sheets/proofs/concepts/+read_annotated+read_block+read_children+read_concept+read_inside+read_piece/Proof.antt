@@ -1,0 +1,638 @@
+-- A law for each way out. The measure is the bytes that remain of the input; a call that takes none of them goes to a function of lower rank.
+use Prim.Native.Nat.{ℕ, _+_, _-_, _*_, _≤_, _<_}
+use mathlib.Core.Path.{ap, _∙_}
+use native.Mathlib.Omega.{arith}
+use lib.ListN.{length}
+use borrow.Author.Needs.{needs}
+use Rattle.paper.specs.Reading.{boundsOf}
+use Rattle.modes.specs.Table.{modesOf}
+use Rattle.entries.specs.declared.Slot.{Slot}
+use Rattle.lines.proofs.Ends.{RestAt, rest-at}
+use Rattle.sheets.proofs.ConceptLaws.{inside-closed, inside-block, inside-content, marker-refused, MarkerAt, marker-ahead, lent-stands, may-end, concept-ended}
+use Rattle.sheets.proofs.Slots.{fits-after, stands-on}
+use Rattle.sheets.proofs.PieceLaws.{blank-made, tabs-refused, concept-refused, ConceptAt, concept-at, rest-refused, piece-made, Pieces, pieces-begin, pieces-over, pieces-refused, piece-ahead, pieces-on}
+use Rattle.sheets.proofs.AnnotatedLaws as annotated
+use Rattle.sheets.proofs.BlockLaws as block
+use borrow.Fn.Kinds.{In}
+use borrow.Fn.PlainCycle.{Measures, is, falls, and}
+use Rattle.sheets.proofs.concepts.read_annotated.Reads as read-annotated
+use Rattle.sheets.proofs.concepts.read_annotated.Kinds as read-annotated-kinds
+use Rattle.sheets.proofs.concepts.+read_annotated+read_block+read_children+read_concept+read_inside+read_piece.Lts-read_annotated as read-annotated-lts
+use Rattle.sheets.proofs.concepts.read_block.Reads as read-block
+use Rattle.sheets.proofs.concepts.read_block.Kinds as read-block-kinds
+use Rattle.sheets.proofs.concepts.+read_annotated+read_block+read_children+read_concept+read_inside+read_piece.Lts-read_block as read-block-lts
+use Rattle.sheets.proofs.concepts.read_children.Reads as read-children
+use Rattle.sheets.proofs.concepts.read_children.Kinds as read-children-kinds
+use Rattle.sheets.proofs.concepts.+read_annotated+read_block+read_children+read_concept+read_inside+read_piece.Lts-read_children as read-children-lts
+use Rattle.sheets.proofs.concepts.read_concept.Reads as read-concept
+use Rattle.sheets.proofs.concepts.read_concept.Kinds as read-concept-kinds
+use Rattle.sheets.proofs.concepts.+read_annotated+read_block+read_children+read_concept+read_inside+read_piece.Lts-read_concept as read-concept-lts
+use Rattle.sheets.proofs.concepts.read_inside.Reads as read-inside
+use Rattle.sheets.proofs.concepts.read_inside.Kinds as read-inside-kinds
+use Rattle.sheets.proofs.concepts.+read_annotated+read_block+read_children+read_concept+read_inside+read_piece.Lts-read_inside as read-inside-lts
+use Rattle.sheets.proofs.concepts.read_piece.Reads as read-piece
+use Rattle.sheets.proofs.concepts.read_piece.Kinds as read-piece-kinds
+use Rattle.sheets.proofs.concepts.+read_annotated+read_block+read_children+read_concept+read_inside+read_piece.Lts-read_piece as read-piece-lts
+use Rattle.entries.proofs.Slot.after.Reads as after-reads
+use Rattle.entries.proofs.Slot.under.Reads as under-reads
+use Rattle.lines.proofs.annotations.read_all.Reads as read-all-reads
+use Rattle.lines.proofs.blank.is_blank_line.Reads as is-blank-line-reads
+use Rattle.lines.proofs.blank.tabs_only.Reads as tabs-only-reads
+use Rattle.lines.proofs.content.read_content.Reads as read-content-reads
+use Rattle.lines.proofs.marks.read_closing.Reads as read-closing-reads
+use Rattle.lines.proofs.part.line_rest.Reads as line-rest-reads
+use Rattle.lines.proofs.part.past.Reads as past-reads
+use Rattle.lines.proofs.part.refused.Reads as refused-reads
+use Rattle.sheets.proofs.concepts.end_concept.Reads as end-concept-reads
+use Rattle.sheets.proofs.concepts.is_closing.Reads as is-closing-reads
+use Rattle.sheets.proofs.opening.read_opening.Reads as read-opening-reads
+use Rattle.text.proofs.runs.end.Reads as end-reads
+use Rattle.sheets.proofs.concepts.+read_annotated+read_block+read_children+read_concept+read_inside+read_piece.{
+  statement,
+}
+use Rattle.sheets.proofs.concepts.+read_annotated+read_block+read_children+read_concept+read_inside+read_piece.Tie.{
+  close,
+}
+
+-- ---- the measures, and what each function asks and learns
+
+abbrev μ-read-annotated : Measures 3 read-annotated-kinds.ps ℕ
+μ-read-annotated κs a = 6 * (length (a .1 .0 .now) - a .1 .1 .0) + 1
+
+abbrev μ-read-block : Measures 3 read-block-kinds.ps ℕ
+μ-read-block κs a = 6 * (length (a .1 .0 .now) - a .1 .1 .0) + 4
+
+abbrev μ-read-children : Measures 3 read-children-kinds.ps ℕ
+μ-read-children κs a = 6 * (length (a .1 .0 .now) - a .1 .1 .0) + 3
+
+abbrev μ-read-concept : Measures 3 read-concept-kinds.ps ℕ
+μ-read-concept κs a = 6 * (length (a .1 .0 .now) - a .1 .1 .0)
+
+abbrev μ-read-inside : Measures 3 read-inside-kinds.ps ℕ
+μ-read-inside κs a = 6 * (length (a .1 .0 .now) - a .1 .1 .0) + 5
+
+abbrev μ-read-piece : Measures 3 read-piece-kinds.ps ℕ
+μ-read-piece κs a = 6 * (length (a .1 .0 .now) - a .1 .1 .0) + 2
+
+abbrev read-annotated-at : ℕ → In 3 read-annotated-kinds.ps
+read-annotated-at t =
+    and
+    3
+    read-annotated-kinds.ps
+    (is 3 read-annotated-kinds.ps μ-read-annotated t)
+    read-annotated.Pre
+
+abbrev read-annotated-below : ℕ → In 3 read-annotated-kinds.ps
+read-annotated-below t =
+    and
+    3
+    read-annotated-kinds.ps
+    (falls 3 read-annotated-kinds.ps _<_ μ-read-annotated t)
+    read-annotated.Pre
+
+abbrev read-block-at : ℕ → In 3 read-block-kinds.ps
+read-block-at t =
+    and 3 read-block-kinds.ps (is 3 read-block-kinds.ps μ-read-block t) read-block.Pre
+
+abbrev read-block-below : ℕ → In 3 read-block-kinds.ps
+read-block-below t =
+    and 3 read-block-kinds.ps (falls 3 read-block-kinds.ps _<_ μ-read-block t) read-block.Pre
+
+abbrev read-children-at : ℕ → In 3 read-children-kinds.ps
+read-children-at t =
+    and 3 read-children-kinds.ps (is 3 read-children-kinds.ps μ-read-children t) read-children.Pre
+
+abbrev read-children-below : ℕ → In 3 read-children-kinds.ps
+read-children-below t =
+    and
+    3
+    read-children-kinds.ps
+    (falls 3 read-children-kinds.ps _<_ μ-read-children t)
+    read-children.Pre
+
+abbrev read-concept-at : ℕ → In 3 read-concept-kinds.ps
+read-concept-at t =
+    and 3 read-concept-kinds.ps (is 3 read-concept-kinds.ps μ-read-concept t) read-concept.Pre
+
+abbrev read-concept-below : ℕ → In 3 read-concept-kinds.ps
+read-concept-below t =
+    and
+    3
+    read-concept-kinds.ps
+    (falls 3 read-concept-kinds.ps _<_ μ-read-concept t)
+    read-concept.Pre
+
+abbrev read-inside-at : ℕ → In 3 read-inside-kinds.ps
+read-inside-at t =
+    and 3 read-inside-kinds.ps (is 3 read-inside-kinds.ps μ-read-inside t) read-inside.Pre
+
+abbrev read-inside-below : ℕ → In 3 read-inside-kinds.ps
+read-inside-below t =
+    and 3 read-inside-kinds.ps (falls 3 read-inside-kinds.ps _<_ μ-read-inside t) read-inside.Pre
+
+abbrev read-piece-at : ℕ → In 3 read-piece-kinds.ps
+read-piece-at t =
+    and 3 read-piece-kinds.ps (is 3 read-piece-kinds.ps μ-read-piece t) read-piece.Pre
+
+abbrev read-piece-below : ℕ → In 3 read-piece-kinds.ps
+read-piece-below t =
+    and 3 read-piece-kinds.ps (falls 3 read-piece-kinds.ps _<_ μ-read-piece t) read-piece.Pre
+
+abbrev read-annotated-calls : ℕ → read-annotated-lts.Claims
+read-annotated-calls t = (read-all-reads.Asked, read-all-reads.Learnt, end-reads.Asked, end-reads.Learnt, after-reads.Asked, after-reads.Learnt, read-concept-below t, read-concept.Post)
+
+abbrev read-block-calls : ℕ → read-block-lts.Claims
+read-block-calls t = (line-rest-reads.Asked, line-rest-reads.Learnt, read-children-below t, read-children.Post, end-reads.Asked, end-reads.Learnt, read-closing-reads.Asked, read-closing-reads.Learnt)
+
+abbrev read-children-calls : ℕ → read-children-lts.Claims
+read-children-calls t = (is-closing-reads.Asked, is-closing-reads.Learnt, after-reads.Asked, after-reads.Learnt, read-piece-below t, read-piece.Post)
+
+abbrev read-concept-calls : ℕ → read-concept-lts.Claims
+read-concept-calls t = (read-opening-reads.Asked, read-opening-reads.Learnt, refused-reads.Asked, refused-reads.Learnt, under-reads.Asked, under-reads.Learnt, after-reads.Asked, after-reads.Learnt, read-inside-below t, read-inside.Post, end-concept-reads.Asked, end-concept-reads.Learnt)
+
+abbrev read-inside-calls : ℕ → read-inside-lts.Claims
+read-inside-calls t = (past-reads.Asked, past-reads.Learnt, read-block-below t, read-block.Post, read-content-reads.Asked, read-content-reads.Learnt)
+
+abbrev read-piece-calls : ℕ → read-piece-lts.Claims
+read-piece-calls t = (is-blank-line-reads.Asked, is-blank-line-reads.Learnt, line-rest-reads.Asked, line-rest-reads.Learnt, tabs-only-reads.Asked, tabs-only-reads.Learnt, read-annotated-below t, read-annotated.Post)
+
+-- ---- read_annotated: the annotations, the tabs, the Concept
+
+-- the annotations are read
+annotated-notes : (t : ℕ) (c : read-annotated-lts.After-notes (read-annotated-calls t) (read-annotated-at t) read-annotated.Post)
+    → let start = c .before .before .before .before .before .before .before .before .before .args in
+    annotated.NotesAt (start .table .now) (start .s .now) (start .at) (start .cells .now) (start .slot) (c .before .before .before .before .read-all .last .1 .1 .0) (c .notes .given .0 .0) (c .notes .given .0 .1 .0)
+annotated-notes t c = annotated.notes-at (c .before .before .before .before .before .before .before .before .before .pre .1) (c .before .before .before .before .read-all .ensures) (c .notes .given .1)
+
+read-annotated-read-all-requires : (t : ℕ) → read-annotated-lts.Need-read-all-requires (read-annotated-calls t) (read-annotated-at t) read-annotated.Post
+read-annotated-read-all-requires t c κs = (c .before .before .before .before .pre .1 .in-sheet, c .before .before .before .before .pre .1 .fits)
+
+read-annotated-enum-known-notes : (t : ℕ) → read-annotated-lts.Need-enum-known-notes (read-annotated-calls t) (read-annotated-at t) read-annotated.Post
+read-annotated-enum-known-notes t c = search needs
+
+read-annotated-enum-told : (t : ℕ) → read-annotated-lts.Need-enum-told (read-annotated-calls t) (read-annotated-at t) read-annotated.Post
+read-annotated-enum-told t c = search needs
+
+read-annotated-same-length : (t : ℕ) → read-annotated-lts.Need-same-length (read-annotated-calls t) (read-annotated-at t) read-annotated.Post
+read-annotated-same-length t c = search needs
+
+read-annotated-returns : (t : ℕ) → read-annotated-lts.Need-returns (read-annotated-calls t) (read-annotated-at t) read-annotated.Post
+read-annotated-returns t c = annotated.notes-refused (c .before .before .before .before .before .before .before .before .before .pre .1) (c .before .before .before .before .read-all .ensures) _ _ (c .enum-told .given .1)
+
+read-annotated-end-requires : (t : ℕ) → read-annotated-lts.Need-end-requires (read-annotated-calls t) (read-annotated-at t) read-annotated.Post
+read-annotated-end-requires t c κs = annotated-notes t (c .before) .inside
+
+read-annotated-sub-read-concept : (t : ℕ) → read-annotated-lts.Need-sub-read-concept (read-annotated-calls t) (read-annotated-at t) read-annotated.Post
+read-annotated-sub-read-concept t c = search needs
+
+read-annotated-after-requires : (t : ℕ) → read-annotated-lts.Need-after-requires (read-annotated-calls t) (read-annotated-at t) read-annotated.Post
+read-annotated-after-requires t c κs = let notes = annotated-notes t (c .before .before .before) in omega (arith, notes .few, notes .stands .fits .few)
+
+read-annotated-read-concept-requires : (t : ℕ) → read-annotated-lts.Need-read-concept-requires (read-annotated-calls t) (read-annotated-at t) read-annotated.Post
+read-annotated-read-concept-requires t c κs =
+    let at-notes = c .before .before .before .before in
+    (omega (arith, at-notes .before .before .before .before .before .before .before .before .before .pre .0, annotated-notes t at-notes .ahead, c .before .before .end .ensures), annotated.concept-stands (annotated-notes t at-notes) (c .before .before .end .ensures) (c .after .ensures) (at-notes .before .before .before .before .read-all .kept .1 .1 .0))
+
+read-annotated-enum-known-concept : (t : ℕ) → read-annotated-lts.Need-enum-known-concept (read-annotated-calls t) (read-annotated-at t) read-annotated.Post
+read-annotated-enum-known-concept t c = search needs
+
+read-annotated-enum-told-2 : (t : ℕ) → read-annotated-lts.Need-enum-told-2 (read-annotated-calls t) (read-annotated-at t) read-annotated.Post
+read-annotated-enum-told-2 t c = search needs
+
+read-annotated-same-length-2 : (t : ℕ) → read-annotated-lts.Need-same-length-2 (read-annotated-calls t) (read-annotated-at t) read-annotated.Post
+read-annotated-same-length-2 t c = search needs
+
+read-annotated-returns-2 : (t : ℕ) → read-annotated-lts.Need-returns-2 (read-annotated-calls t) (read-annotated-at t) read-annotated.Post
+read-annotated-returns-2 t c =
+    let at-read-concept = c .before .before .before .before in
+    annotated.concept-refused (annotated-notes t (at-read-concept .before .before .before .before .before)) (at-read-concept .before .before .before .end .ensures) (at-read-concept .before .after .ensures) _ _ (at-read-concept .read-concept .ensures) (c .enum-told2 .given .1)
+
+read-annotated-add-t17 : (t : ℕ) → read-annotated-lts.Need-add-t17 (read-annotated-calls t) (read-annotated-at t) read-annotated.Post
+read-annotated-add-t17 t c =
+    let at-read-concept = c .before .before .before .before .before in
+    let notes = annotated-notes t (at-read-concept .before .before .before .before .before) in
+    omega (arith, annotated.all-few notes (at-read-concept .before .before .before .end .ensures) (at-read-concept .before .after .ensures) _ _ (at-read-concept .read-concept .ensures) (c .before .concept .given .1), notes .stands .fits .few)
+
+read-annotated-add-t21 : (t : ℕ) → read-annotated-lts.Need-add-t21 (read-annotated-calls t) (read-annotated-at t) read-annotated.Post
+read-annotated-add-t21 t c = let notes = annotated-notes t (c .before .before .before .before .before .before .before .before .before .before) in omega (arith, notes .few, notes .stands .fits .few)
+
+read-annotated-same-length-3 : (t : ℕ) → read-annotated-lts.Need-same-length-3 (read-annotated-calls t) (read-annotated-at t) read-annotated.Post
+read-annotated-same-length-3 t c = search needs
+
+read-annotated-returns-3 : (t : ℕ) → read-annotated-lts.Need-returns-3 (read-annotated-calls t) (read-annotated-at t) read-annotated.Post
+read-annotated-returns-3 t c =
+    let at-read-concept = c .before .before .before .before .before in
+    annotated.annotated-read (annotated-notes t (at-read-concept .before .before .before .before .before)) (at-read-concept .before .before .before .end .ensures) (at-read-concept .before .after .ensures) _ _ (at-read-concept .read-concept .ensures) (c .before .concept .given .1)
+
+-- ---- read_block: the rest of the line, the children, the closing marker
+
+-- the rest of the line, and the children behind it
+block-rest : (t : ℕ) (c : read-block-lts.After-rest (read-block-calls t) (read-block-at t) read-block.Post) → RestAt (c .before .before .before .before .before .before .args .s .now) (c .before .before .before .before .before .before .args .at) (c .rest .given .0 .0)
+block-rest t c = rest-at _ _ _ _ _ _ (c .before .before .before .before .before .before .pre .1 .0 .in-sheet .inside) (c .before .before .line-rest .ensures) (c .rest .given .1)
+
+block-body : (t : ℕ) (c : read-block-lts.After-body (read-block-calls t) (read-block-at t) read-block.Post)
+    → let start = c .before .before .before .before .before .before .before .before .before .before .before .before .before .args in
+    let read = c .body .given .0 in
+    block.BodyAt (start .s .now) (start .at) (start .cells .now) (start .slot) (boundsOf (modesOf (start .table .now))) (start .nesting .left) (c .before .before .before .before .read-children .last .1 .1 .1 .1 .0) (read .0) (read .1 .0) (read .1 .1 .0)
+block-body t c = block.body-at (c .before .before .before .before .before .before .before .before .before .before .before .before .before .pre .1 .0) _ _ (block-rest t (c .before .before .before .before .before .before .before)) (c .before .before .before .before .read-children .ensures) (c .body .given .1)
+
+read-block-line-rest-requires : (t : ℕ) → read-block-lts.Need-line-rest-requires (read-block-calls t) (read-block-at t) read-block.Post
+read-block-line-rest-requires t c κs = search needs
+
+read-block-enum-known-rest : (t : ℕ) → read-block-lts.Need-enum-known-rest (read-block-calls t) (read-block-at t) read-block.Post
+read-block-enum-known-rest t c = search needs
+
+read-block-enum-told : (t : ℕ) → read-block-lts.Need-enum-told (read-block-calls t) (read-block-at t) read-block.Post
+read-block-enum-told t c = search needs
+
+read-block-returns : (t : ℕ) → read-block-lts.Need-returns (read-block-calls t) (read-block-at t) read-block.Post
+read-block-returns t c = λ k tabs named. block.rest-refused (c .before .before .before .before .before .before .pre .1 .0) _ _ k tabs _ (c .before .before .line-rest .ensures) (c .enum-told .given .1)
+
+read-block-read-children-requires : (t : ℕ) → read-block-lts.Need-read-children-requires (read-block-calls t) (read-block-at t) read-block.Post
+read-block-read-children-requires t c κs =
+    let top = c .before .before .before .before .before .before .before .before in
+    let rest = block-rest t (c .before .before) in (omega (arith, top .pre .0, rest .ahead, rest .inside), stands-on (top .pre .1 .0) (rest .inside) (top .pre .1 .0 .fits))
+
+read-block-enum-known-body : (t : ℕ) → read-block-lts.Need-enum-known-body (read-block-calls t) (read-block-at t) read-block.Post
+read-block-enum-known-body t c = search needs
+
+read-block-enum-told-2 : (t : ℕ) → read-block-lts.Need-enum-told-2 (read-block-calls t) (read-block-at t) read-block.Post
+read-block-enum-told-2 t c = search needs
+
+read-block-same-length : (t : ℕ) → read-block-lts.Need-same-length (read-block-calls t) (read-block-at t) read-block.Post
+read-block-same-length t c = search needs
+
+read-block-returns-2 : (t : ℕ) → read-block-lts.Need-returns-2 (read-block-calls t) (read-block-at t) read-block.Post
+read-block-returns-2 t c = λ k tabs named. block.body-refused (c .before .before .before .before .before .before .before .before .before .before .before .before .before .pre .1 .0) _ _ (block-rest t (c .before .before .before .before .before .before .before)) (c .before .before .before .before .read-children .ensures) k tabs (c .enum-told2 .given .1)
+
+read-block-end-requires : (t : ℕ) → read-block-lts.Need-end-requires (read-block-calls t) (read-block-at t) read-block.Post
+read-block-end-requires t c κs = block-body t (c .before) .inside
+
+read-block-read-closing-requires : (t : ℕ) → read-block-lts.Need-read-closing-requires (read-block-calls t) (read-block-at t) read-block.Post
+read-block-read-closing-requires t c κs =
+    let top = c .before .before .before .before .before .before .before .before .before .before .before .before .before .before .before in
+    (c .end .ensures .2, top .pre .1 .1, top .pre .1 .2)
+
+read-block-enum-known-closing : (t : ℕ) → read-block-lts.Need-enum-known-closing (read-block-calls t) (read-block-at t) read-block.Post
+read-block-enum-known-closing t c = search needs
+
+read-block-enum-told-3 : (t : ℕ) → read-block-lts.Need-enum-told-3 (read-block-calls t) (read-block-at t) read-block.Post
+read-block-enum-told-3 t c = search needs
+
+read-block-same-length-2 : (t : ℕ) → read-block-lts.Need-same-length-2 (read-block-calls t) (read-block-at t) read-block.Post
+read-block-same-length-2 t c = search needs
+
+read-block-returns-3 : (t : ℕ) → read-block-lts.Need-returns-3 (read-block-calls t) (read-block-at t) read-block.Post
+read-block-returns-3 t c = λ k tabs named. block.closing-refused (block-body t (c .before .before .before .before .before)) (c .before .before .before .end .ensures) k named tabs _ (c .before .before .read-closing .ensures) (c .enum-told3 .given .1)
+
+read-block-same-length-3 : (t : ℕ) → read-block-lts.Need-same-length-3 (read-block-calls t) (read-block-at t) read-block.Post
+read-block-same-length-3 t c = search needs
+
+read-block-returns-4 : (t : ℕ) → read-block-lts.Need-returns-4 (read-block-calls t) (read-block-at t) read-block.Post
+read-block-returns-4 t c = λ k tabs named. block.block-read (block-body t (c .before .before .before .before .before .before)) (c .before .before .before .before .end .ensures) k named tabs _ (c .before .before .before .read-closing .ensures) (c .before .closing .given .1)
+
+-- ---- read_children: what the pieces from `i` on make, those from `at` on make; what is left of the slice falls
+
+abbrev read-children-Inv-loop : read-children-lts.InvT-loop
+read-children-Inv-loop table s at nesting cells₀ slot i₀ made₀ own₀ cells i made own = Pieces (modesOf table) (nesting .left) s at cells₀ slot cells i made own
+
+abbrev read-children-μ-loop : read-children-lts.MeasureT-loop
+read-children-μ-loop table s at nesting cells₀ slot i₀ made₀ own₀ cells i made own = length s - i
+
+-- a piece that is read ends further on, and leaves room
+children-ahead : (t : ℕ) (c : read-children-lts.After-piece (read-children-calls t) (read-children-at t) read-children.Post read-children-Inv-loop read-children-μ-loop)
+    → let turn = c .before .before .before .before .before .before .before .before .before in
+    let top = turn .before .before .before .before in
+    (turn .loop .i < c .piece .given .0 .0) × (c .piece .given .0 .0 ≤ length (top .args .s .now)) × (top .args .slot .next + turn .loop .made + c .piece .given .0 .1 .0 ≤ top .args .slot .room) × (c .piece .given .0 .1 .1 .0 ≤ c .piece .given .0 .1 .0)
+children-ahead t c =
+    let at-read-piece = c .before .before .before .before in
+    let at-if = at-read-piece .before .before .before in
+    piece-ahead (at-if .before .before .loop .inv) (at-if .before .is-closing .ensures) (at-if .if1 .taken) (at-read-piece .before .after .ensures) (at-read-piece .read-piece .ensures) (c .piece .given .1)
+
+read-children-loop-holds : (t : ℕ) → read-children-lts.Need-loop-holds (read-children-calls t) (read-children-at t) read-children.Post read-children-Inv-loop read-children-μ-loop
+read-children-loop-holds t c = pieces-begin _ _ _ _ _ _ (c .before .before .before .pre .1 .in-sheet .inside) (c .before .before .before .pre .1 .fits .inside)
+
+read-children-is-closing-requires : (t : ℕ) → read-children-lts.Need-is-closing-requires (read-children-calls t) (read-children-at t) read-children.Post read-children-Inv-loop read-children-μ-loop
+read-children-is-closing-requires t c κs = c .loop .inv .inside
+
+read-children-after-requires : (t : ℕ) → read-children-lts.Need-after-requires (read-children-calls t) (read-children-at t) read-children.Post read-children-Inv-loop read-children-μ-loop
+read-children-after-requires t c κs = omega (arith, c .before .before .before .loop .inv .few, c .before .before .before .before .before .before .before .pre .1 .fits .few)
+
+read-children-read-piece-requires : (t : ℕ) → read-children-lts.Need-read-piece-requires (read-children-calls t) (read-children-at t) read-children.Post read-children-Inv-loop read-children-μ-loop
+read-children-read-piece-requires t c κs =
+    let at-loop = c .before .before .before .before in
+    let top = at-loop .before .before .before .before in
+    (omega (arith, top .pre .0, at-loop .loop .inv .ahead), stands-on (top .pre .1) (at-loop .loop .inv .inside) (fits-after _ (top .pre .1 .fits) (at-loop .loop .inv .held) (at-loop .loop .inv .few) (c .after .ensures)))
+
+read-children-enum-known-piece : (t : ℕ) → read-children-lts.Need-enum-known-piece (read-children-calls t) (read-children-at t) read-children.Post read-children-Inv-loop read-children-μ-loop
+read-children-enum-known-piece t c = search needs
+
+read-children-enum-told : (t : ℕ) → read-children-lts.Need-enum-told (read-children-calls t) (read-children-at t) read-children.Post read-children-Inv-loop read-children-μ-loop
+read-children-enum-told t c = search needs
+
+read-children-same-length : (t : ℕ) → read-children-lts.Need-same-length (read-children-calls t) (read-children-at t) read-children.Post read-children-Inv-loop read-children-μ-loop
+read-children-same-length t c = c .before .before .before .before .read-piece .kept .1 .1 .1 .1 .0 ∙ c .before .before .before .before .before .before .before .before .before .loop .inv .held
+
+read-children-returns : (t : ℕ) → read-children-lts.Need-returns (read-children-calls t) (read-children-at t) read-children.Post read-children-Inv-loop read-children-μ-loop
+read-children-returns t c =
+    let at-read-piece = c .before .before .before .before in
+    let at-if = at-read-piece .before .before .before in
+    pieces-refused (at-if .before .before .loop .inv) (at-if .before .is-closing .ensures) (at-if .if1 .taken) (at-read-piece .before .after .ensures) (at-read-piece .read-piece .ensures) (c .enum-told .given .1)
+
+read-children-add-made : (t : ℕ) → read-children-lts.Need-add-made (read-children-calls t) (read-children-at t) read-children.Post read-children-Inv-loop read-children-μ-loop
+read-children-add-made t c = let on = children-ahead t (c .before) in omega (arith, c .before .before .before .before .before .before .before .before .before .before .before .before .before .before .pre .1 .fits .few)
+
+read-children-add-own : (t : ℕ) → read-children-lts.Need-add-own (read-children-calls t) (read-children-at t) read-children.Post read-children-Inv-loop read-children-μ-loop
+read-children-add-own t c = let on = children-ahead t (c .before) in omega (arith, c .before .before .before .before .before .before .before .before .before .before .loop .inv .fewer, c .before .before .before .before .before .before .before .before .before .before .before .before .before .before .pre .1 .fits .few)
+
+read-children-loop-less : (t : ℕ) → read-children-lts.Need-loop-less (read-children-calls t) (read-children-at t) read-children.Post read-children-Inv-loop read-children-μ-loop
+read-children-loop-less t c = let on = children-ahead t (c .before) in omega arith
+
+read-children-loop-again : (t : ℕ) → read-children-lts.Need-loop-again (read-children-calls t) (read-children-at t) read-children.Post read-children-Inv-loop read-children-μ-loop
+read-children-loop-again t c =
+    let at-read-piece = c .before .before .before .before .before in
+    let at-if = at-read-piece .before .before .before in
+    pieces-on (at-if .before .before .loop .inv) (at-if .before .is-closing .ensures) (at-if .if1 .taken) (at-read-piece .before .after .ensures) (at-read-piece .read-piece .ensures) (c .before .piece .given .1) (at-read-piece .read-piece .kept .1 .1 .1 .1 .0)
+
+read-children-same-length-2 : (t : ℕ) → read-children-lts.Need-same-length-2 (read-children-calls t) (read-children-at t) read-children.Post read-children-Inv-loop read-children-μ-loop
+read-children-same-length-2 t c = c .before .before .loop .inv .held
+
+read-children-returns-2 : (t : ℕ) → read-children-lts.Need-returns-2 (read-children-calls t) (read-children-at t) read-children.Post read-children-Inv-loop read-children-μ-loop
+read-children-returns-2 t c = pieces-over (c .before .before .loop .inv) (c .before .is-closing .ensures) (c .if1 .left)
+
+-- ---- read_concept: the opening marker, what follows it, the entry before them
+
+-- the opening marker is read
+concept-marker : (t : ℕ) (c : read-concept-lts.After-form (read-concept-calls t) (read-concept-at t) read-concept.Post)
+    → let start = c .before .before .before .before .before .before .before .before .before .args in
+    let read = c .form .given .0 in
+    MarkerAt (start .table .now) (start .s .now) (start .at) (start .cells .now) (start .slot) (start .nesting .left) (c .before .before .before .before .read-opening .last .1 .1 .1 .1 .0) (read .0) (read .1 .0) (read .1 .1 .0) (read .1 .1 .1 .0) (read .1 .1 .1 .1 .0) (read .1 .1 .1 .1 .1 .0)
+concept-marker t c = record { stands = c .before .before .before .before .before .before .before .before .before .pre .1; answer = c .before .before .before .before .read-opening .result; opens = c .before .before .before .before .read-opening .ensures; told = c .form .given .1 }
+
+read-concept-read-opening-requires : (t : ℕ) → read-concept-lts.Need-read-opening-requires (read-concept-calls t) (read-concept-at t) read-concept.Post
+read-concept-read-opening-requires t c κs = (c .before .before .before .before .pre .1 .valid, c .before .before .before .before .pre .1 .in-sheet, c .before .before .before .before .pre .1 .fits)
+
+read-concept-enum-known-refusal : (t : ℕ) → read-concept-lts.Need-enum-known-refusal (read-concept-calls t) (read-concept-at t) read-concept.Post
+read-concept-enum-known-refusal t c = search needs
+
+read-concept-refused-requires : (t : ℕ) → read-concept-lts.Need-refused-requires (read-concept-calls t) (read-concept-at t) read-concept.Post
+read-concept-refused-requires t c κs = search needs
+
+read-concept-enum-known-form : (t : ℕ) → read-concept-lts.Need-enum-known-form (read-concept-calls t) (read-concept-at t) read-concept.Post
+read-concept-enum-known-form t c = search needs
+
+read-concept-under-requires : (t : ℕ) → read-concept-lts.Need-under-requires (read-concept-calls t) (read-concept-at t) read-concept.Post
+read-concept-under-requires t c κs = omega (arith, c .before .before .before .before .before .before .before .before .before .before .pre .1 .fits .few, c .before .before .before .before .before .before .before .before .before .before .pre .1 .fits .inside)
+
+read-concept-after-requires : (t : ℕ) → read-concept-lts.Need-after-requires (read-concept-calls t) (read-concept-at t) read-concept.Post
+read-concept-after-requires t c κs = let marker = concept-marker t (c .before .before) in omega (arith, marker-ahead marker .4, marker .stands .fits .few, ap (λ (x : Slot). x .next) (c .under .ensures))
+
+read-concept-add-read-inside : (t : ℕ) → read-concept-lts.Need-add-read-inside (read-concept-calls t) (read-concept-at t) read-concept.Post
+read-concept-add-read-inside t c =
+    let top = c .before .before .before .before .before .before .before .before .before .before .before .before in
+    omega (arith, top .pre .1 .in-sheet .within, top .pre .1 .in-sheet .inside)
+
+read-concept-read-inside-requires : (t : ℕ) → read-concept-lts.Need-read-inside-requires (read-concept-calls t) (read-concept-at t) read-concept.Post
+read-concept-read-inside-requires t c κs =
+    let at-form = c .before .before .before .before in
+    let ahead = marker-ahead (concept-marker t at-form) in
+    (omega (arith, ahead .2, ahead .3, at-form .before .before .before .before .before .before .before .before .before .pre .0), (lent-stands (concept-marker t at-form) (c .before .before .under .ensures) (c .before .after .ensures) (at-form .before .before .before .before .read-opening .kept .1 .1 .1 .1 .0), omega (arith, ahead .0), ahead .1))
+
+read-concept-end-concept-requires : (t : ℕ) → read-concept-lts.Need-end-concept-requires (read-concept-calls t) (read-concept-at t) read-concept.Post
+read-concept-end-concept-requires t c κs =
+    let at-read-inside = c .before .before .before in
+    let at-after = at-read-inside .before .before in
+    may-end (concept-marker t (at-after .before .before .before)) (at-after .before .under .ensures) (at-after .after .ensures) _ (at-read-inside .read-inside .ensures) (at-read-inside .read-inside .kept .1 .1 .1 .1 .1 .1 .1 .1 .0 ∙ at-after .before .before .before .before .before .before .before .read-opening .kept .1 .1 .1 .1 .0)
+
+read-concept-same-length : (t : ℕ) → read-concept-lts.Need-same-length (read-concept-calls t) (read-concept-at t) read-concept.Post
+read-concept-same-length t c = search needs
+
+read-concept-returns : (t : ℕ) → read-concept-lts.Need-returns (read-concept-calls t) (read-concept-at t) read-concept.Post
+read-concept-returns t c = marker-refused (c .before .before .before .before .before .before .before .before .before .before .before .pre .1) (c .before .before .before .before .before .before .read-opening .ensures) _ (c .before .before .refusal .given .1) (c .refused .ensures)
+
+read-concept-same-length-2 : (t : ℕ) → read-concept-lts.Need-same-length-2 (read-concept-calls t) (read-concept-at t) read-concept.Post
+read-concept-same-length-2 t c = search needs
+
+read-concept-returns-2 : (t : ℕ) → read-concept-lts.Need-returns-2 (read-concept-calls t) (read-concept-at t) read-concept.Post
+read-concept-returns-2 t c =
+    let at-read-inside = c .before .before .before .before .before .before in
+    concept-ended (concept-marker t (at-read-inside .before .before .before .before .before)) (at-read-inside .before .before .before .under .ensures) (at-read-inside .before .before .after .ensures) _ (at-read-inside .read-inside .ensures) (c .before .before .end-concept .ensures .0) (c .before .before .end-concept .ensures .1)
+
+-- ---- read_inside: by the form of the marker
+
+read-inside-past-requires : (t : ℕ) → read-inside-lts.Need-past-requires (read-inside-calls t) (read-inside-at t) read-inside.Post
+read-inside-past-requires t c κs = search needs
+
+read-inside-read-block-requires : (t : ℕ) → read-inside-lts.Need-read-block-requires (read-inside-calls t) (read-inside-at t) read-inside.Post
+read-inside-read-block-requires t c κs = (omega (arith, c .before .before .before .before .before .pre .0), c .before .before .before .before .before .pre .1)
+
+read-inside-read-content-requires : (t : ℕ) → read-inside-lts.Need-read-content-requires (read-inside-calls t) (read-inside-at t) read-inside.Post
+read-inside-read-content-requires t c κs =
+    let top = c .before .before .before .before .before in
+    (top .pre .1 .0 .in-sheet, top .pre .1 .0 .fits, top .pre .1 .1, top .pre .1 .2)
+
+read-inside-returns : (t : ℕ) → read-inside-lts.Need-returns (read-inside-calls t) (read-inside-at t) read-inside.Post
+read-inside-returns t c = λ k named. inside-closed (c .before .before .before .before .before .pre .1 .0) _ _ _ k (c .before .match .keys1) (c .past .ensures)
+
+read-inside-same-length : (t : ℕ) → read-inside-lts.Need-same-length (read-inside-calls t) (read-inside-at t) read-inside.Post
+read-inside-same-length t c = search needs
+
+read-inside-returns-2 : (t : ℕ) → read-inside-lts.Need-returns-2 (read-inside-calls t) (read-inside-at t) read-inside.Post
+read-inside-returns-2 t c = λ k named. inside-block (c .before .before .before .before .before .before .before .before .pre .1 .0) _ _ _ k (c .before .before .before .before .match .keys2) (c .before .before .read-block .ensures k _ named)
+
+read-inside-same-length-2 : (t : ℕ) → read-inside-lts.Need-same-length-2 (read-inside-calls t) (read-inside-at t) read-inside.Post
+read-inside-same-length-2 t c = search needs
+
+read-inside-returns-3 : (t : ℕ) → read-inside-lts.Need-returns-3 (read-inside-calls t) (read-inside-at t) read-inside.Post
+read-inside-returns-3 t c = λ k named. inside-content (c .before .before .before .before .before .before .before .before .pre .1 .0) _ _ _ k (c .before .before .before .before .match .rest .0 .1) (c .before .before .before .before .match .rest .1) (c .before .before .read-content .ensures k named)
+
+-- ---- read_piece: a blank line, or tabs, a Concept and the rest of its line
+
+-- the Concept is read
+piece-concept : (t : ℕ) (c : read-piece-lts.After-concept (read-piece-calls t) (read-piece-at t) read-piece.Post)
+    → let start = c .before .before .before .before .before .before .before .before .before .before .before .before .before .before .args in
+    let read = c .concept .given .0 in
+    ConceptAt (modesOf (start .table .now)) (start .nesting .left) (start .s .now) (start .at) (start .cells .now) (start .slot) (c .before .before .before .before .read-annotated .last .1 .1 .1 .1 .0) (read .0) (read .1 .0) (read .1 .1 .0)
+piece-concept t c =
+    let at-read-annotated = c .before .before .before .before in
+    let at-tabs-only = at-read-annotated .before .before .before .before in
+    concept-at (at-tabs-only .before .before .before .before .before .before .pre .1) _ (at-tabs-only .before .before .is-blank-line .ensures) (at-tabs-only .before .if1 .left) _ (at-tabs-only .tabs-only .ensures) (at-read-annotated .before .before .enum-told .given .1) (at-read-annotated .read-annotated .ensures) (c .concept .given .1)
+
+read-piece-is-blank-line-requires : (t : ℕ) → read-piece-lts.Need-is-blank-line-requires (read-piece-calls t) (read-piece-at t) read-piece.Post
+read-piece-is-blank-line-requires t c κs = search needs
+
+read-piece-line-rest-requires : (t : ℕ) → read-piece-lts.Need-line-rest-requires (read-piece-calls t) (read-piece-at t) read-piece.Post
+read-piece-line-rest-requires t c κs = search needs
+
+read-piece-returns : (t : ℕ) → read-piece-lts.Need-returns (read-piece-calls t) (read-piece-at t) read-piece.Post
+read-piece-returns t c = blank-made (c .before .before .before .before .before .before .pre .1) _ (c .before .before .is-blank-line .ensures) (c .before .if1 .taken) _ (c .line-rest .ensures)
+
+read-piece-tabs-only-requires : (t : ℕ) → read-piece-lts.Need-tabs-only-requires (read-piece-calls t) (read-piece-at t) read-piece.Post
+read-piece-tabs-only-requires t c κs = search needs
+
+read-piece-enum-told : (t : ℕ) → read-piece-lts.Need-enum-told (read-piece-calls t) (read-piece-at t) read-piece.Post
+read-piece-enum-told t c = search needs
+
+read-piece-enum-told-2 : (t : ℕ) → read-piece-lts.Need-enum-told-2 (read-piece-calls t) (read-piece-at t) read-piece.Post
+read-piece-enum-told-2 t c = search needs
+
+read-piece-returns-2 : (t : ℕ) → read-piece-lts.Need-returns-2 (read-piece-calls t) (read-piece-at t) read-piece.Post
+read-piece-returns-2 t c = tabs-refused (c .before .before .before .before .before .before .before .before .pre .1) _ (c .before .before .before .before .is-blank-line .ensures) (c .before .before .before .if1 .left) _ (c .before .before .tabs-only .ensures) (c .enum-told2 .given .1)
+
+read-piece-read-annotated-requires : (t : ℕ) → read-piece-lts.Need-read-annotated-requires (read-piece-calls t) (read-piece-at t) read-piece.Post
+read-piece-read-annotated-requires t c κs = (omega (arith, c .before .before .before .before .before .before .before .before .before .pre .0), c .before .before .before .before .before .before .before .before .before .pre .1)
+
+read-piece-enum-known-concept : (t : ℕ) → read-piece-lts.Need-enum-known-concept (read-piece-calls t) (read-piece-at t) read-piece.Post
+read-piece-enum-known-concept t c = search needs
+
+read-piece-enum-told-3 : (t : ℕ) → read-piece-lts.Need-enum-told-3 (read-piece-calls t) (read-piece-at t) read-piece.Post
+read-piece-enum-told-3 t c = search needs
+
+read-piece-same-length : (t : ℕ) → read-piece-lts.Need-same-length (read-piece-calls t) (read-piece-at t) read-piece.Post
+read-piece-same-length t c = c .before .before .before .before .read-annotated .kept .1 .1 .1 .1 .0
+
+read-piece-returns-3 : (t : ℕ) → read-piece-lts.Need-returns-3 (read-piece-calls t) (read-piece-at t) read-piece.Post
+read-piece-returns-3 t c =
+    let at-read-annotated = c .before .before .before .before in
+    let at-tabs-only = at-read-annotated .before .before .before .before in
+    concept-refused (at-tabs-only .before .before .before .before .before .before .pre .1) _ (at-tabs-only .before .before .is-blank-line .ensures) (at-tabs-only .before .if1 .left) _ (at-tabs-only .tabs-only .ensures) (at-read-annotated .before .before .enum-told .given .1) (at-read-annotated .read-annotated .ensures) (c .enum-told3 .given .1)
+
+read-piece-line-rest-requires-2 : (t : ℕ) → read-piece-lts.Need-line-rest-requires-2 (read-piece-calls t) (read-piece-at t) read-piece.Post
+read-piece-line-rest-requires-2 t c κs = piece-concept t (c .before) .inside
+
+read-piece-enum-known-rest : (t : ℕ) → read-piece-lts.Need-enum-known-rest (read-piece-calls t) (read-piece-at t) read-piece.Post
+read-piece-enum-known-rest t c = search needs
+
+read-piece-enum-told-4 : (t : ℕ) → read-piece-lts.Need-enum-told-4 (read-piece-calls t) (read-piece-at t) read-piece.Post
+read-piece-enum-told-4 t c = search needs
+
+read-piece-same-length-2 : (t : ℕ) → read-piece-lts.Need-same-length-2 (read-piece-calls t) (read-piece-at t) read-piece.Post
+read-piece-same-length-2 t c = c .before .before .before .before .before .before .before .before .read-annotated .kept .1 .1 .1 .1 .0
+
+read-piece-returns-4 : (t : ℕ) → read-piece-lts.Need-returns-4 (read-piece-calls t) (read-piece-at t) read-piece.Post
+read-piece-returns-4 t c = rest-refused (piece-concept t (c .before .before .before .before)) _ (c .before .before .line-rest2 .ensures) (c .enum-told4 .given .1)
+
+read-piece-same-length-3 : (t : ℕ) → read-piece-lts.Need-same-length-3 (read-piece-calls t) (read-piece-at t) read-piece.Post
+read-piece-same-length-3 t c = c .before .before .before .before .before .before .before .before .before .read-annotated .kept .1 .1 .1 .1 .0
+
+read-piece-returns-5 : (t : ℕ) → read-piece-lts.Need-returns-5 (read-piece-calls t) (read-piece-at t) read-piece.Post
+read-piece-returns-5 t c = piece-made (piece-concept t (c .before .before .before .before .before)) (rest-at _ _ _ _ _ _ (piece-concept t (c .before .before .before .before .before) .inside) (c .before .before .before .line-rest2 .ensures) (c .before .rest .given .1))
+
+pub +read-annotated+read-block+read-children+read-concept+read-inside+read-piece-spec :
+    {M : Type 1} → statement M
++read-annotated+read-block+read-children+read-concept+read-inside+read-piece-spec =
+    close
+    μ-read-annotated
+    μ-read-block
+    μ-read-children
+    μ-read-concept
+    μ-read-inside
+    μ-read-piece
+    (λ t. read-annotated-lts.spec (read-annotated-calls t)
+    (read-annotated-at t)
+    read-annotated.Post
+    (read-annotated-read-all-requires t)
+    (read-annotated-enum-known-notes t)
+    (read-annotated-enum-told t)
+    (read-annotated-same-length t)
+    (read-annotated-returns t)
+    (read-annotated-end-requires t)
+    (read-annotated-sub-read-concept t)
+    (read-annotated-after-requires t)
+    (read-annotated-read-concept-requires t)
+    (read-annotated-enum-known-concept t)
+    (read-annotated-enum-told-2 t)
+    (read-annotated-same-length-2 t)
+    (read-annotated-returns-2 t)
+    (read-annotated-add-t17 t)
+    (read-annotated-add-t21 t)
+    (read-annotated-same-length-3 t)
+    (read-annotated-returns-3 t))
+    (λ t. read-block-lts.spec (read-block-calls t)
+    (read-block-at t)
+    read-block.Post
+    (read-block-line-rest-requires t)
+    (read-block-enum-known-rest t)
+    (read-block-enum-told t)
+    (read-block-returns t)
+    (read-block-read-children-requires t)
+    (read-block-enum-known-body t)
+    (read-block-enum-told-2 t)
+    (read-block-same-length t)
+    (read-block-returns-2 t)
+    (read-block-end-requires t)
+    (read-block-read-closing-requires t)
+    (read-block-enum-known-closing t)
+    (read-block-enum-told-3 t)
+    (read-block-same-length-2 t)
+    (read-block-returns-3 t)
+    (read-block-same-length-3 t)
+    (read-block-returns-4 t))
+    (λ t. read-children-lts.spec (read-children-calls t)
+    (read-children-at t)
+    read-children.Post
+    read-children-Inv-loop
+    read-children-μ-loop
+    (read-children-loop-holds t)
+    (read-children-is-closing-requires t)
+    (read-children-after-requires t)
+    (read-children-read-piece-requires t)
+    (read-children-enum-known-piece t)
+    (read-children-enum-told t)
+    (read-children-same-length t)
+    (read-children-returns t)
+    (read-children-add-made t)
+    (read-children-add-own t)
+    (read-children-loop-less t)
+    (read-children-loop-again t)
+    (read-children-same-length-2 t)
+    (read-children-returns-2 t))
+    (λ t. read-concept-lts.spec (read-concept-calls t)
+    (read-concept-at t)
+    read-concept.Post
+    (read-concept-read-opening-requires t)
+    (read-concept-enum-known-refusal t)
+    (read-concept-refused-requires t)
+    (read-concept-enum-known-form t)
+    (read-concept-under-requires t)
+    (read-concept-after-requires t)
+    (read-concept-add-read-inside t)
+    (read-concept-read-inside-requires t)
+    (read-concept-end-concept-requires t)
+    (read-concept-same-length t)
+    (read-concept-returns t)
+    (read-concept-same-length-2 t)
+    (read-concept-returns-2 t))
+    (λ t. read-inside-lts.spec (read-inside-calls t)
+    (read-inside-at t)
+    read-inside.Post
+    (read-inside-past-requires t)
+    (read-inside-read-block-requires t)
+    (read-inside-read-content-requires t)
+    (read-inside-returns t)
+    (read-inside-same-length t)
+    (read-inside-returns-2 t)
+    (read-inside-same-length-2 t)
+    (read-inside-returns-3 t))
+    λ t. read-piece-lts.spec (read-piece-calls t)
+    (read-piece-at t)
+    read-piece.Post
+    (read-piece-is-blank-line-requires t)
+    (read-piece-line-rest-requires t)
+    (read-piece-returns t)
+    (read-piece-tabs-only-requires t)
+    (read-piece-enum-told t)
+    (read-piece-enum-told-2 t)
+    (read-piece-returns-2 t)
+    (read-piece-read-annotated-requires t)
+    (read-piece-enum-known-concept t)
+    (read-piece-enum-told-3 t)
+    (read-piece-same-length t)
+    (read-piece-returns-3 t)
+    (read-piece-line-rest-requires-2 t)
+    (read-piece-enum-known-rest t)
+    (read-piece-enum-told-4 t)
+    (read-piece-same-length-2 t)
+    (read-piece-returns-4 t)
+    (read-piece-same-length-3 t)
+    (read-piece-returns-5 t)

@@ -1,0 +1,119 @@
+-- A law for each way out: the room, the traits, the ending.
+use mathlib.Core.Path.{refl}
+use borrow.Author.Needs.{needs}
+use Rattle.paper.specs.declared.Mode.{Mode}
+use Rattle.paper.specs.Modes.{Modes}
+use Rattle.paper.specs.Tree.{block, self}
+use Rattle.sheets.proofs.Slots.{fits-under}
+use Rattle.sheets.proofs.OpeningLaws.{traits-inside, no-room, traits-refused, TraitsAt, marker-traits, ending-refused, marker-read}
+use Rattle.sheets.proofs.opening.read_marker.Statement.{statement}
+use Rattle.sheets.proofs.opening.read_marker.Tie as tie
+
+-- the marker up to its ending
+traits : (c : tie.After-read-ending) (m : Modes) (mode : Mode) → let start = c .before .before .before .before .before .before .before .before .before .before .before .before .before .before .args in
+    TraitsAt (start .s .now) (start .start) (start .to) (start .cells .now) (start .slot) m mode (c .before .before .before .before .before .before .before .read-traits .last .1 .1 .0) (c .before .end2 .result) (c .before .before .before .end .given .0 .1 .0) (c .before .before .before .end .given .0 .1 .1 .0)
+traits c m mode =
+    let at-read-traits = c .before .before .before .before .before .before .before in
+    let at-if = at-read-traits .before .before .before in
+    let top = at-if .before .before .before .before in
+    marker-traits (top .pre .0) (top .pre .2) (top .pre .1) m mode (at-if .before .is-full .ensures) (at-if .if1 .left) (at-read-traits .before .under .ensures) (at-read-traits .read-traits .ensures m) (c .before .before .before .end .given .1) (c .before .end2 .ensures)
+
+is-full-requires : tie.Need-is-full-requires
+is-full-requires c κs = search needs
+
+unopened-requires : tie.Need-unopened-requires
+unopened-requires c κs = search needs
+
+returns : tie.Need-returns
+returns c = λ m mode form. no-room (c .before .before .before .before .before .pre .0) (c .before .before .before .before .before .pre .2) (c .before .before .before .before .before .pre .1) m mode (c .before .before .is-full .ensures) (c .before .if1 .taken) (c .unopened .ensures)
+
+under-requires : tie.Need-under-requires
+under-requires c κs = search needs
+
+read-traits-requires : tie.Need-read-traits-requires
+read-traits-requires c κs = (c .before .before .before .before .before .before .pre .0, fits-under (c .before .before .before .before .before .before .pre .2) (c .before .before .before .is-full .ensures) (c .before .before .if1 .left) (c .under .ensures))
+
+enum-known-refusal : tie.Need-enum-known-refusal
+enum-known-refusal c = search needs
+
+unopened-requires-2 : tie.Need-unopened-requires-2
+unopened-requires-2 c κs = search needs
+
+enum-known-end : tie.Need-enum-known-end
+enum-known-end c = search needs
+
+end-requires : tie.Need-end-requires
+end-requires c κs =
+    let at-read-traits = c .before .before .before .before .before in
+    let top = at-read-traits .before .before .before .before .before .before .before in
+    traits-inside (top .pre .0) (top .pre .2) _ (at-read-traits .read-traits .ensures) (c .before .end .given .1)
+
+read-ending-requires : tie.Need-read-ending-requires
+read-ending-requires c κs = c .end2 .ensures .2
+
+enum-known-refusal-2 : tie.Need-enum-known-refusal-2
+enum-known-refusal-2 c = search needs
+
+unopened-requires-3 : tie.Need-unopened-requires-3
+unopened-requires-3 c κs = search needs
+
+enum-known-end-2 : tie.Need-enum-known-end-2
+enum-known-end-2 c = search needs
+
+enum-known-end-3 : tie.Need-enum-known-end-3
+enum-known-end-3 c = search needs
+
+same-length : tie.Need-same-length
+same-length c = search needs
+
+returns-2 : tie.Need-returns-2
+returns-2 c =
+    let at-read-traits = c .before .before .before .before .before .before in
+    let at-if = at-read-traits .before .before .before in
+    let top = at-if .before .before .before .before in
+    λ m mode form. traits-refused (top .pre .0) (top .pre .2) (top .pre .1) m mode (at-if .before .is-full .ensures) (at-if .if1 .left) (at-read-traits .before .under .ensures) (at-read-traits .read-traits .ensures m) (c .before .before .refusal .given .1) (c .unopened2 .ensures)
+
+same-length-2 : tie.Need-same-length-2
+same-length-2 c = search needs
+
+returns-3 : tie.Need-returns-3
+returns-3 c = λ m mode form. ending-refused (traits (c .before .before .before .before) m mode) _ (c .before .before .before .before .read-ending .ensures) (c .before .before .refusal2 .given .1) (c .unopened3 .ensures)
+
+same-length-3 : tie.Need-same-length-3
+same-length-3 c = search needs
+
+returns-4 : tie.Need-returns-4
+returns-4 c = λ m mode form. marker-read (traits (c .before .before .before) m mode) _ (c .before .before .before .read-ending .ensures) self (c .before .end3 .given .1) refl refl
+
+same-length-4 : tie.Need-same-length-4
+same-length-4 c = search needs
+
+returns-5 : tie.Need-returns-5
+returns-5 c = λ m mode form. marker-read (traits (c .before .before .before) m mode) _ (c .before .before .before .read-ending .ensures) block (c .before .end4 .given .1) form refl
+
+pub read-marker-spec : {M : Type 1} → statement M
+read-marker-spec =
+    tie.close
+    (tie.spec
+    is-full-requires
+    unopened-requires
+    returns
+    under-requires
+    read-traits-requires
+    enum-known-refusal
+    unopened-requires-2
+    enum-known-end
+    end-requires
+    read-ending-requires
+    enum-known-refusal-2
+    unopened-requires-3
+    enum-known-end-2
+    enum-known-end-3
+    same-length
+    returns-2
+    same-length-2
+    returns-3
+    same-length-3
+    returns-4
+    same-length-4
+    returns-5)

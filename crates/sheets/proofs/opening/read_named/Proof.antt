@@ -1,0 +1,120 @@
+-- A law for each way out: the nesting, the table, and what follows a name that is admitted.
+use Prim.Native.Nat.{suc}
+use mathlib.Core.Path.{_≡_, refl, sym, _∙_}
+use native.Mathlib.Omega.{arith}
+use borrow.Author.Needs.{needs}
+use Rattle.paper.specs.declared.Mode.the-variants.{Children, Content}
+use Rattle.values.proofs.Deepening.{one-less, no-less}
+use Rattle.sheets.proofs.OpeningLaws.{too-deep, unlisted, listed}
+use Rattle.sheets.proofs.opening.read_named.Statement.{statement}
+use Rattle.sheets.proofs.opening.read_named.Tie as tie
+
+-- one fewer may be opened inside
+fewer : (c : tie.After-inside) → c .before .before .before .before .before .before .args .nesting .left ≡ suc (c .inside .given .0 .0 .left)
+fewer c = one-less _ _ (c .before .before .step .ensures) _ (c .inside .given .1)
+
+add-start : tie.Need-add-start
+add-start c = search needs
+
+step-requires : tie.Need-step-requires
+step-requires c κs = search needs
+
+enum-known-inside : tie.Need-enum-known-inside
+enum-known-inside c = search needs
+
+enum-told : tie.Need-enum-told
+enum-told c = search needs
+
+unopened-requires : tie.Need-unopened-requires
+unopened-requires c κs = search needs
+
+returns : tie.Need-returns
+returns c =
+    let top = c .before .before .before .before .before .before .before in
+    too-deep (top .pre .1) (top .pre .2) (top .pre .3) _ _ (no-less _ _ (c .before .before .before .step .ensures) (c .before .enum-told .given .1)) (c .unopened .ensures)
+
+sub-mode-of : tie.Need-sub-mode-of
+sub-mode-of c = search needs
+
+part-mode-of-start : tie.Need-part-mode-of-start
+part-mode-of-start c = search needs
+
+part-mode-of-end : tie.Need-part-mode-of-end
+part-mode-of-end c = search needs
+
+mode-of-requires : tie.Need-mode-of-requires
+mode-of-requires c κs = search needs
+
+enum-told-2 : tie.Need-enum-told-2
+enum-told-2 c = search needs
+
+unopened-requires-2 : tie.Need-unopened-requires-2
+unopened-requires-2 c κs = search needs
+
+enum-told-3 : tie.Need-enum-told-3
+enum-told-3 c = search needs
+
+read-marker-requires : tie.Need-read-marker-requires
+read-marker-requires c κs =
+    let top = c .before .before .before .before .before .before .before .before .before .before .before .before in
+    (top .pre .1, omega (arith, top .pre .2), top .pre .3)
+
+enum-told-4 : tie.Need-enum-told-4
+enum-told-4 c = search needs
+
+read-marker-requires-2 : tie.Need-read-marker-requires-2
+read-marker-requires-2 c κs =
+    let top = c .before .before .before .before .before .before .before .before .before .before .before .before in
+    (top .pre .1, omega (arith, top .pre .2), top .pre .3)
+
+returns-2 : tie.Need-returns-2
+returns-2 c =
+    let at-mode-of = c .before .before .before in
+    let top = at-mode-of .before .before .before .before .before .before .before .before .before in
+    unlisted (top .pre .1) (top .pre .2) (top .pre .3) _ _ (fewer (at-mode-of .before .before .before)) (sym (c .before .enum-told2 .given .1) ∙ at-mode-of .mode-of .ensures) (c .unopened2 .ensures)
+
+same-length : tie.Need-same-length
+same-length c = search needs
+
+returns-3 : tie.Need-returns-3
+returns-3 c =
+    let at-enum-told = c .before .before .before .before in
+    let at-inside = at-enum-told .before .before .before .before .before in
+    let top = at-inside .before .before .before .before .before .before in
+    listed (top .pre .1) (top .pre .2) (top .pre .3) _ _ (fewer at-inside) Children (omega arith) (sym (at-enum-told .enum-told3 .given .1) ∙ at-enum-told .before .before .mode-of .ensures) (c .before .before .read-marker .ensures _ Children refl)
+
+same-length-2 : tie.Need-same-length-2
+same-length-2 c = search needs
+
+returns-4 : tie.Need-returns-4
+returns-4 c =
+    let at-enum-told = c .before .before .before .before in
+    let at-inside = at-enum-told .before .before .before .before .before in
+    let top = at-inside .before .before .before .before .before .before in
+    listed (top .pre .1) (top .pre .2) (top .pre .3) _ _ (fewer at-inside) Content (omega arith) (sym (at-enum-told .enum-told4 .given .1) ∙ at-enum-told .before .before .mode-of .ensures) (c .before .before .read-marker2 .ensures _ Content refl)
+
+pub read-named-spec : {M : Type 1} → statement M
+read-named-spec =
+    tie.close
+    (tie.spec
+    add-start
+    step-requires
+    enum-known-inside
+    enum-told
+    unopened-requires
+    returns
+    sub-mode-of
+    part-mode-of-start
+    part-mode-of-end
+    mode-of-requires
+    enum-told-2
+    unopened-requires-2
+    enum-told-3
+    read-marker-requires
+    enum-told-4
+    read-marker-requires-2
+    returns-2
+    same-length
+    returns-3
+    same-length-2
+    returns-4)

@@ -1,0 +1,304 @@
+// Concepts and children: the Concept reader and the reader of a children body call each other, and siblings go round in a loop.
+// Document 01, "The grammar", Lines, Markers and Content, and "Entries".
+use crate::opening::CHILDREN;
+use crate::opening::CLOSED;
+use crate::opening::Opening;
+use crate::opening::read_opening;
+use entries::CONCEPT;
+use entries::Entry;
+use entries::Slot;
+use entries::put;
+use lines::annotations;
+use lines::blank::is_blank_line;
+use lines::blank::tabs_only;
+use lines::content::read_content;
+use lines::marks::read_closing;
+use lines::part::Part;
+use lines::part::line_rest;
+use lines::part::past;
+use lines::part::refused;
+use text::parts::starts_with;
+use text::runs;
+use text::runs::Class;
+use values::nesting::Nesting;
+ghost use mathlib.Core.Path.{_≡_};
+ghost use Prim.Native.Nat.{ℕ, _+_, _-_, _≤_, _<_};
+ghost use lib.ListN.{length, drop};
+ghost use Rattle.paper.specs.Bytes.{bytes, behind, startsWith};
+ghost use Rattle.paper.specs.Tree.{Marker};
+ghost use Rattle.paper.specs.Entries.{conceptSize, bodySize, bodyCount, bodyEntries};
+ghost use Rattle.paper.specs.Reading.{isTab, conceptOf, blockOf, bodyOf, boundsOf};
+ghost use Rattle.modes.specs.Table.{modesOf};
+ghost use Rattle.lines.specs.Parts.{Makes, part};
+ghost use Rattle.sheets.specs.Concepts.{Stands, wholeConcept, insideOf, insideSize, insideCount, bodyOfConcept, annotatedOf, annotatedSize, annotatedCount, annotatedEntries, pieceOf, endedBy, cellsEnded, Ends};
+
+// Reads the Concept whose "<" is due at `at`, on a line of so many tabs, and enters it with what it holds.
+fn read_concept(
+    table: &[u8],
+    s: &[u8],
+    at: usize,
+    tabs: usize,
+    nesting: Nesting,
+    cells: &mut [u32],
+    slot: Slot,
+) -> Part
+    requires { ⌜ Stands (now table) (now s) at (now cells) slot ⌝ }
+    ensures { λ r. ⌜ Makes conceptSize (λ c. 1) (wholeConcept (slot .parent) (slot .next) at tabs) (now (s .entry)) (now (cells .entry)) (slot .next) (conceptOf (boundsOf (modesOf (now (table .entry)))) (nesting .left) (slot .room - slot .next) tabs (drop at (now (s .entry)))) r (now (cells .exit)) ⌝ }
+{
+    match read_opening(table, s, at, nesting, cells, slot) {
+        Opening::Refused { refusal, place } => refused(refusal, place),
+        Opening::Opened {
+            form,
+            to,
+            end,
+            made,
+            own,
+            inside,
+        } => {
+            let next = slot.under().after(made);
+            let body = read_inside(table, s, end, form, tabs, at + 1, to, inside, cells, next);
+            end_concept(body, form, at, to, made, own, cells, slot)
+        }
+    }
+}
+
+// Enters a Concept that ends with its body: its "<" stands at `at`, its name ends at `to`, and its traits made so many entries.
+fn end_concept(
+    body: Part,
+    form: u32,
+    at: usize,
+    to: usize,
+    made: usize,
+    own: usize,
+    cells: &mut [u32],
+    slot: Slot,
+) -> Part
+    requires { ⌜ Ends (now cells) slot body at to made own ⌝ }
+    ensures { λ r. ⌜ (r ≡ endedBy body made) × (now (cells .exit) ≡ cellsEnded (now (cells .entry)) slot body form at to own) ⌝ }
+{
+    let Part::Read {
+        end,
+        made: inside,
+        own: count,
+    } = body
+    else {
+        return body;
+    };
+    let n = slot.next;
+    put(
+        cells,
+        n,
+        Entry {
+            kind: CONCEPT,
+            form,
+            parent: slot.parent,
+            count: (own + count) as u32,
+            name_start: (at + 1) as u32,
+            name_end: to as u32,
+            start: at as u32,
+            end: end as u32,
+        },
+    );
+    Part::Read {
+        end,
+        made: 1 + made + inside,
+        own: 1,
+    }
+}
+
+// Reads what follows an opening marker of this form that ends at `at`: nothing, children or Content.
+fn read_inside(
+    table: &[u8],
+    s: &[u8],
+    at: usize,
+    form: u32,
+    tabs: usize,
+    from: usize,
+    to: usize,
+    nesting: Nesting,
+    cells: &mut [u32],
+    slot: Slot,
+) -> Part
+    requires { ⌜ Stands (now table) (now s) at (now cells) slot × (from ≤ to) × (to ≤ length (now s)) ⌝ }
+    ensures { λ r. ⌜ ((k : Marker) → k .name ≡ part (now (s .entry)) from to → Makes insideSize insideCount (bodyOfConcept (slot .parent) (slot .next) tabs at) (now (s .entry)) (now (cells .entry)) (slot .next) (insideOf form (modesOf (now (table .entry))) (nesting .left) (slot .room - slot .next) tabs k (drop at (now (s .entry)))) r (now (cells .exit))) ⌝ }
+{
+    match form {
+        CLOSED => past(at),
+        CHILDREN => read_block(table, s, at, from, to, nesting, cells, slot),
+        _ => read_content(s, at, tabs, from, to, cells, slot),
+    }
+}
+
+// Reads the children of a block from behind its marker's ">" on, with its closing marker. Its name stands from `from` to `to`.
+fn read_block(
+    table: &[u8],
+    s: &[u8],
+    at: usize,
+    from: usize,
+    to: usize,
+    nesting: Nesting,
+    cells: &mut [u32],
+    slot: Slot,
+) -> Part
+    requires { ⌜ Stands (now table) (now s) at (now cells) slot × (from ≤ to) × (to ≤ length (now s)) ⌝ }
+    ensures { λ r. ⌜ ((k : Marker) (tabs : ℕ) → k .name ≡ part (now (s .entry)) from to → Makes insideSize insideCount (bodyOfConcept (slot .parent) (slot .next) tabs at) (now (s .entry)) (now (cells .entry)) (slot .next) (blockOf (boundsOf (modesOf (now (table .entry)))) (nesting .left) (slot .room - slot .next) k (drop at (now (s .entry)))) r (now (cells .exit))) ⌝ }
+{
+    let rest = line_rest(s, at);
+    let Part::Read {
+        end: start,
+        made: _,
+        own: _,
+    } = rest
+    else {
+        return rest;
+    };
+    let body = read_children(table, s, start, nesting, cells, slot);
+    let Part::Read {
+        end: line,
+        made,
+        own,
+    } = body
+    else {
+        return body;
+    };
+    let closing = read_closing(s, runs::end(s, line, Class::Tab), from, to);
+    let Part::Read {
+        end,
+        made: _,
+        own: _,
+    } = closing
+    else {
+        return closing;
+    };
+    Part::Read { end, made, own }
+}
+
+// Reads the lines of a children body that stand at `at`, up to the line of the closing marker.
+fn read_children(
+    table: &[u8],
+    s: &[u8],
+    at: usize,
+    nesting: Nesting,
+    cells: &mut [u32],
+    slot: Slot,
+) -> Part
+    requires { ⌜ Stands (now table) (now s) at (now cells) slot ⌝ }
+    ensures { λ r. ⌜ Makes bodySize bodyCount (bodyEntries (slot .parent) (slot .next) at) (now (s .entry)) (now (cells .entry)) (slot .next) (bodyOf (boundsOf (modesOf (now (table .entry)))) (nesting .left) (slot .room - slot .next) (drop at (now (s .entry)))) r (now (cells .exit)) ⌝ }
+{
+    let mut i = at;
+    let mut made = 0;
+    let mut own = 0;
+    while !is_closing(s, i) {
+        let piece = read_piece(table, s, i, nesting, cells, slot.after(made));
+        let Part::Read {
+            end,
+            made: more,
+            own: mine,
+        } = piece
+        else {
+            return piece;
+        };
+        i = end;
+        made += more;
+        own += mine;
+    }
+    Part::Read { end: i, made, own }
+}
+
+// Whether the line at `at` is that of a closing marker.
+fn is_closing(s: &[u8], at: usize) -> bool
+    requires { ⌜ at ≤ length (now s) ⌝ }
+    ensures { λ r. ⌜ r ≡ startsWith (bytes "</") (behind isTab (drop at (now (s .entry)))) ⌝ }
+{
+    starts_with(s, runs::end(s, at, Class::Tab), b"</")
+}
+
+// Reads a blank line, or a Concept with its annotations and the rest of its line.
+fn read_piece(
+    table: &[u8],
+    s: &[u8],
+    at: usize,
+    nesting: Nesting,
+    cells: &mut [u32],
+    slot: Slot,
+) -> Part
+    requires { ⌜ Stands (now table) (now s) at (now cells) slot ⌝ }
+    ensures { λ r. ⌜ Makes bodySize bodyCount (bodyEntries (slot .parent) (slot .next) at) (now (s .entry)) (now (cells .entry)) (slot .next) (pieceOf (modesOf (now (table .entry))) (nesting .left) (slot .room - slot .next) (drop at (now (s .entry)))) r (now (cells .exit)) ⌝ }
+{
+    if is_blank_line(s, at) {
+        return line_rest(s, at);
+    }
+    let tabs = tabs_only(s, at);
+    let Part::Read {
+        end: _,
+        made: _,
+        own: _,
+    } = tabs
+    else {
+        return tabs;
+    };
+    let concept = read_annotated(table, s, at, nesting, cells, slot);
+    let Part::Read { end, made, own } = concept else {
+        return concept;
+    };
+    let rest = line_rest(s, end);
+    let Part::Read {
+        end: next,
+        made: _,
+        own: _,
+    } = rest
+    else {
+        return rest;
+    };
+    Part::Read {
+        end: next,
+        made,
+        own,
+    }
+}
+
+// Reads the annotations that stand at `at` and their Concept, which is due behind the tabs of the next line.
+pub fn read_annotated(
+    table: &[u8],
+    s: &[u8],
+    at: usize,
+    nesting: Nesting,
+    cells: &mut [u32],
+    slot: Slot,
+) -> Part
+    requires { ⌜ Stands (now table) (now s) at (now cells) slot ⌝ }
+    ensures { λ r. ⌜ Makes annotatedSize annotatedCount (annotatedEntries (slot .parent) (slot .next) at) (now (s .entry)) (now (cells .entry)) (slot .next) (annotatedOf (modesOf (now (table .entry))) (nesting .left) (slot .room - slot .next) (drop at (now (s .entry)))) r (now (cells .exit)) ⌝ }
+{
+    let notes = annotations::read_all(s, at, cells, slot);
+    let Part::Read {
+        end: line,
+        made,
+        own: _,
+    } = notes
+    else {
+        return notes;
+    };
+    let mark = runs::end(s, line, Class::Tab);
+    let concept = read_concept(
+        table,
+        s,
+        mark,
+        mark - line,
+        nesting,
+        cells,
+        slot.after(made),
+    );
+    let Part::Read {
+        end,
+        made: inside,
+        own: _,
+    } = concept
+    else {
+        return concept;
+    };
+    Part::Read {
+        end,
+        made: made + inside,
+        own: made + 1,
+    }
+}

@@ -1,0 +1,195 @@
+// Sheets: reading one under a mode table, and the part of it that an entry's span names.
+// Document 01, "Entries", "Refusal numbers" and "Order".
+pub mod concepts;
+pub mod opening;
+pub mod traits;
+
+use concepts::read_annotated;
+use entries::CELLS;
+use entries::Slot;
+use entries::TOP;
+use entries::room;
+use entries::zero_from;
+use lines::blank::blank_lines;
+use lines::blank::last_blanks;
+use lines::blank::tabs_only;
+use lines::part::Part;
+use paper::Answer;
+use paper::Refusal;
+use text::utf8;
+use text::utf8::Checked;
+use text::utf8::Cursor;
+use values::nesting::Nesting;
+ghost use mathlib.Core.Path.{_≡_};
+ghost use Prim.Native.Nat.{_≤_};
+ghost use lib.ListN.{length, drop};
+ghost use Rattle.paper.specs.Answer.{told};
+ghost use Rattle.paper.specs.Limits.{sheetLimit, conceptLimit};
+ghost use Rattle.paper.specs.Entries.{sheetSize, entries};
+ghost use Rattle.paper.specs.Reading.{sheetTree, sheetOf, reading, roomOf, boundsOf};
+ghost use Rattle.paper.specs.View.{viewed, viewAnswer};
+ghost use Rattle.modes.specs.Table.{Valid, modesOf};
+ghost use Rattle.lines.specs.Parts.{seen, passed, Makes};
+ghost use Rattle.sheets.specs.Sheets.{Reads, rootCount, restOf, spanOf};
+
+// Reads a sheet. An acceptance has its length and how many entries it made; the cells behind them are zero.
+// A refusal leaves every cell zero.
+pub fn read(table: &[u8], sheet: &[u8], cells: &mut [u32]) -> Answer
+    ensures { λ r. ⌜ record { answer = told r; cells = now (cells .exit) } ≡ reading (now (table .entry)) (now (sheet .entry)) (length (now (cells .entry))) ⌝ }
+{
+    let modes = modes::read(table);
+    let Answer::Accepted { place: _, count: _ } = modes else {
+        zero_from(cells, 0);
+        return modes;
+    };
+    let answer = read_under(table, sheet, cells);
+    zero_from(cells, answer.count() * CELLS);
+    answer
+}
+
+// Reads a sheet under a table that `modes::read` accepts. It zeroes no cell: those behind the entries are as they were, and what a refusal
+// leaves is not told.
+pub fn read_under(table: &[u8], sheet: &[u8], cells: &mut [u32]) -> Answer
+    requires { ⌜ Valid (now table) ⌝ }
+    ensures { λ r. ⌜ Reads (now (sheet .entry)) (now (cells .entry)) (sheetOf (modesOf (now (table .entry))) (roomOf (length (now (cells .entry)))) (now (sheet .entry))) (told r) (now (cells .exit)) ⌝ }
+{
+    if Cursor::LIMIT < sheet.len() {
+        return Answer::Refused {
+            refusal: Refusal::SheetTooLong,
+            place: Cursor::LIMIT,
+        };
+    }
+    match utf8::check(sheet) {
+        Checked::Broken(place) => Answer::Refused {
+            refusal: Refusal::Bytes,
+            place,
+        },
+        Checked::Sound => match read_tree(table, sheet, cells) {
+            Part::Refused { refusal, place } => Answer::Refused { refusal, place },
+            Part::Read { end, made, own: _ } => Answer::Accepted {
+                place: end,
+                count: made,
+            },
+        },
+    }
+}
+
+// Reads the root with its annotations and the blank lines around them, and enters it from the first cell on.
+fn read_tree(table: &[u8], s: &[u8], cells: &mut [u32]) -> Part
+    requires { ⌜ Valid (now table) × (length (now s) ≤ sheetLimit) ⌝ }
+    ensures { λ r. ⌜ Makes sheetSize rootCount entries (now (s .entry)) (now (cells .entry)) 0 (sheetTree (boundsOf (modesOf (now (table .entry)))) conceptLimit (roomOf (length (now (cells .entry)))) (now (s .entry))) r (now (cells .exit)) ⌝ }
+{
+    let blanks = blank_lines(s, 0);
+    let Part::Read {
+        end: first,
+        made: _,
+        own: _,
+    } = blanks
+    else {
+        return blanks;
+    };
+    let tabs = tabs_only(s, first);
+    let Part::Read {
+        end: _,
+        made: _,
+        own: _,
+    } = tabs
+    else {
+        return tabs;
+    };
+    let slot = Slot {
+        next: 0,
+        room: room(cells.len()),
+        parent: TOP,
+    };
+    let root = read_annotated(
+        table,
+        s,
+        first,
+        Nesting::new(Nesting::CONCEPTS),
+        cells,
+        slot,
+    );
+    let Part::Read { end, made, own } = root else {
+        return root;
+    };
+    let rest = read_rest(s, end);
+    let Part::Read {
+        end: last,
+        made: _,
+        own: _,
+    } = rest
+    else {
+        return rest;
+    };
+    Part::Read {
+        end: last,
+        made,
+        own,
+    }
+}
+
+// Past the blank lines behind the root, up to the end of input.
+fn read_rest(s: &[u8], at: usize) -> Part
+    requires { ⌜ at ≤ length (now s) ⌝ }
+    ensures { λ r. ⌜ seen r ≡ passed (now (s .entry)) (restOf (drop at (now (s .entry)))) ⌝ }
+{
+    let blanks = blank_lines(s, at);
+    let Part::Read {
+        end,
+        made: _,
+        own: _,
+    } = blanks
+    else {
+        return blanks;
+    };
+    last_blanks(s, end)
+}
+
+// Where the part of an entry stands in the sheet, or that the entry cannot be viewed.
+enum Span {
+    Part { start: usize, end: usize },
+    Nowhere,
+}
+
+// The part of the sheet that an entry's span names; empty where the entry cannot be viewed.
+pub fn view<'a>(sheet: &'a [u8], cells: &[u32], entry: usize) -> &'a [u8]
+    ensures { λ r. ⌜ now r ≡ viewed (now (sheet .entry)) (now (cells .entry)) entry ⌝ }
+{
+    match span_of(sheet, cells, entry) {
+        Span::Part { start, end } => &sheet[start..end],
+        Span::Nowhere => &sheet[..0],
+    }
+}
+
+// Whether an entry can be viewed: 0, 0 and the length of its part, or 17.
+pub fn view_answer(sheet: &[u8], cells: &[u32], entry: usize) -> Answer
+    ensures { λ r. ⌜ told r ≡ viewAnswer (now (sheet .entry)) (now (cells .entry)) entry ⌝ }
+{
+    match span_of(sheet, cells, entry) {
+        Span::Part { start, end } => Answer::Accepted {
+            place: 0,
+            count: end - start,
+        },
+        Span::Nowhere => Answer::Refused {
+            refusal: Refusal::View,
+            place: 0,
+        },
+    }
+}
+
+// An entry can be viewed where it lies wholly in the cells, has a kind, and its span lies in the sheet and is not reversed.
+fn span_of(sheet: &[u8], cells: &[u32], entry: usize) -> Span
+    ensures { λ r. ⌜ r ≡ spanOf (now (sheet .entry)) (now (cells .entry)) entry ⌝ }
+{
+    if cells.len() / CELLS <= entry {
+        return Span::Nowhere;
+    }
+    let at = entry * CELLS;
+    let start = cells[at + 6] as usize;
+    let end = cells[at + 7] as usize;
+    if cells[at] == 0 || end < start || sheet.len() < end {
+        return Span::Nowhere;
+    }
+    Span::Part { start, end }
+}

@@ -1,0 +1,159 @@
+// The opening marker of a Concept: "<", name, traits, and ">" or "/>".
+// Document 01, "The grammar", Markers; a name is judged by 4, 10, 5 and 11, in this order.
+use crate::traits::read_traits;
+use entries::Slot;
+use lines::marks::Ending;
+use lines::marks::read_ending;
+use lines::part::Part;
+use lines::part::Whose;
+use lines::part::byte_due;
+use lines::part::name_end;
+use modes::mode_of;
+use paper::Mode;
+use paper::Refusal;
+use text::runs;
+use text::runs::Class;
+use values::nesting::Deeper;
+use values::nesting::Nesting;
+ghost use mathlib.Core.Path.{_≡_};
+ghost use Prim.Native.Nat.{suc, _+_, _-_, _≤_, _<_};
+ghost use lib.ListN.{length, drop};
+ghost use Rattle.paper.specs.declared.Mode.{Mode};
+ghost use Rattle.paper.specs.Modes.{Modes};
+ghost use Rattle.modes.specs.Table.{Valid, modesOf};
+ghost use Rattle.entries.specs.Laid.{Fits};
+ghost use Rattle.lines.specs.Parts.{seen, passed, In, part};
+ghost use Rattle.sheets.specs.Opening.{headOf, markedOf, namedOf, heldOf, blockForm, Opens};
+
+// The forms of Concepts.
+pub const CLOSED: u32 = 1;
+
+pub const CHILDREN: u32 = 2;
+
+pub const CONTENT: u32 = 3;
+
+// What an opening marker says: the Concept's form, where its name and the marker itself end, how many entries its traits made,
+// how many of them are traits, and how many Concepts may still be opened inside. Or it is refused.
+pub enum Opening {
+    Opened {
+        form: u32,
+        to: usize,
+        end: usize,
+        made: usize,
+        own: usize,
+        inside: Nesting,
+    },
+    Refused {
+        refusal: Refusal,
+        place: usize,
+    },
+}
+
+// Reads the opening marker that is due at `at`, and enters its traits behind the entry that is kept free for the Concept.
+pub fn read_opening(
+    table: &[u8],
+    s: &[u8],
+    at: usize,
+    nesting: Nesting,
+    cells: &mut [u32],
+    slot: Slot,
+) -> Opening
+    requires { ⌜ Valid (now table) × In (now s) at × Fits (now cells) slot ⌝ }
+    ensures { λ r. ⌜ Opens (nesting .left) (now (s .entry)) (at + 1) (now (cells .entry)) slot (markedOf (modesOf (now (table .entry))) (nesting .left) (slot .room - slot .next) (drop at (now (s .entry)))) r (now (cells .exit)) ⌝ }
+{
+    match read_head(s, at) {
+        Part::Refused { refusal, place } => Opening::Refused { refusal, place },
+        Part::Read {
+            end: to,
+            made: _,
+            own: _,
+        } => read_named(table, s, at, to, nesting, cells, slot),
+    }
+}
+
+// Past the "<" that is due at `at`, and the name of a Concept.
+fn read_head(s: &[u8], at: usize) -> Part
+    requires { ⌜ at ≤ length (now s) ⌝ }
+    ensures { λ r. ⌜ seen r ≡ passed (now (s .entry)) (headOf (drop at (now (s .entry)))) ⌝ }
+{
+    let mark = byte_due(s, at, b'<');
+    let Part::Read {
+        end: start,
+        made: _,
+        own: _,
+    } = mark
+    else {
+        return mark;
+    };
+    name_end(s, start, Whose::Concepts)
+}
+
+// Goes on behind the name that stands from behind the "<" at `at` to `to`.
+fn read_named(
+    table: &[u8],
+    s: &[u8],
+    at: usize,
+    to: usize,
+    nesting: Nesting,
+    cells: &mut [u32],
+    slot: Slot,
+) -> Opening
+    requires { ⌜ Valid (now table) × In (now s) to × (at < to) × Fits (now cells) slot ⌝ }
+    ensures { λ r. ⌜ Opens (nesting .left) (now (s .entry)) (at + 1) (now (cells .entry)) slot (namedOf (modesOf (now (table .entry))) (nesting .left) (slot .room - slot .next) (drop at (now (s .entry))) (part (now (s .entry)) (at + 1) to) (drop to (now (s .entry)))) r (now (cells .exit)) ⌝ }
+{
+    let start = at + 1;
+    let Deeper::Inside(inside) = nesting.step() else {
+        return unopened(Refusal::TooDeep, at);
+    };
+    match mode_of(table, &s[start..to]) {
+        Mode::Absent => unopened(Refusal::Unlisted, start),
+        Mode::Children => read_marker(s, start, to, CHILDREN, inside, cells, slot),
+        Mode::Content => read_marker(s, start, to, CONTENT, inside, cells, slot),
+    }
+}
+
+// Goes on behind the name that stands from `start` to `to`, which is of a Concept that may stand here; if a block opens, its form is `block`.
+fn read_marker(
+    s: &[u8],
+    start: usize,
+    to: usize,
+    block: u32,
+    inside: Nesting,
+    cells: &mut [u32],
+    slot: Slot,
+) -> Opening
+    requires { ⌜ In (now s) to × (start ≤ to) × Fits (now cells) slot ⌝ }
+    ensures { λ r. ⌜ ((m : Modes) (mode : Mode) → block ≡ blockForm mode → Opens (suc (inside .left)) (now (s .entry)) start (now (cells .entry)) slot (heldOf m mode (slot .room - slot .next) (drop start (now (s .entry))) (part (now (s .entry)) start to) (drop to (now (s .entry)))) r (now (cells .exit))) ⌝ }
+{
+    if slot.is_full() {
+        return unopened(Refusal::NoEntryLeft, start);
+    }
+    match read_traits(s, to, cells, slot.under()) {
+        Part::Refused { refusal, place } => unopened(refusal, place),
+        Part::Read { end, made, own } => match read_ending(s, runs::end(s, end, Class::White)) {
+            Ending::Refused { refusal, place } => unopened(refusal, place),
+            Ending::Closed(end) => Opening::Opened {
+                form: CLOSED,
+                to,
+                end,
+                made,
+                own,
+                inside,
+            },
+            Ending::Block(end) => Opening::Opened {
+                form: block,
+                to,
+                end,
+                made,
+                own,
+                inside,
+            },
+        },
+    }
+}
+
+fn unopened(refusal: Refusal, place: usize) -> Opening
+    ensures { λ r. ⌜ r ≡ Opening.Refused refusal place ⌝ }
+{
+    Opening::Refused { refusal, place }
+}
