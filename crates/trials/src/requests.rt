@@ -1,0 +1,158 @@
+// Requests: what a line asks, and its answer. A letter says what is asked; behind it stand words, each after one space.
+// Document 01, "The grammar", Bytes and Values, "The mode table", "Entries", and the answers of "Order".
+use crate::hex;
+use crate::print;
+use crate::words;
+use crate::words::Listed;
+use crate::words::Numeral;
+use paper::Refusal;
+use text::utf8;
+use values::lists;
+use values::read::Read;
+ghost use Prim.Native.Nat.{_≤_};
+ghost use lib.ListN.{length};
+ghost use Rattle.trials.specs.Lines.{lineLimit, Request, cellLimit};
+
+// The longest line spells fewer bytes than this.
+const ROOM: usize = 32768;
+
+// So many cells can be lent: twice as many as the entries of a sheet fill.
+const CELLS: usize = 16384;
+
+// What cells hold before a sheet is read, so that every zero behind its entries is the reader's.
+const STALE: u32 = 4294967295;
+
+// Answers a line. TABLE, SHEET and BYTES are bytes in hex, the other words are decimals; an empty word is no bytes.
+//     b BYTES              may a sheet have these bytes? 0 and their length, or the refusal and its place
+//     t TABLE              reads a mode table: number, place and count
+//     v BYTES              reads the value that stands in front: 0, its end and its form, or the refusal and its place
+//     s TABLE SHEET LENT   reads a sheet with so many cells lent: number, place, count, and the cells up to the last that is not zero
+//     p SHEET ENTRY CELL.. views an entry of these cells: number, place and count of the second call, and the part in hex
+// Any other line is answered `?`.
+pub fn answer(line: &[u8])
+    requires { ⌜ length (now line) ≤ lineLimit ⌝ }
+{
+    if line.len() < 2 || line[1] != b' ' || !is_answered(line) {
+        print::line(b"?");
+    }
+}
+
+// Answers what the letter of a line asks of the words behind it. False, and nothing is printed, where it asks nothing of such words.
+fn is_answered(line: &[u8]) -> bool
+    requires { ⌜ Request (now line) ⌝ }
+{
+    match line[0] {
+        b's' => sheet(line),
+        b'p' => part(line),
+        _ => bytes(line),
+    }
+}
+
+// Answers a request whose one word is bytes.
+fn bytes(line: &[u8]) -> bool
+    requires { ⌜ Request (now line) ⌝ }
+{
+    let mut room = [0u8; ROOM];
+    let hex::Spelt::Bytes(n) = hex::read(&line[2..], &mut room) else {
+        return false;
+    };
+    let bytes = &room[..n];
+    match line[0] {
+        b'b' => sheet_bytes(bytes),
+        b't' => mode_table(bytes),
+        b'v' => value(bytes),
+        _ => {
+            return false;
+        }
+    }
+    true
+}
+
+fn sheet_bytes(sheet: &[u8]) {
+    match utf8::check(sheet) {
+        utf8::Checked::Sound => print::row(&[0, sheet.len() as u64]),
+        utf8::Checked::Broken(place) => {
+            print::row(&[paper::number(Refusal::Bytes) as u64, place as u64]);
+        }
+    }
+}
+
+fn mode_table(table: &[u8]) {
+    print::answer(modes::read(table));
+    print::line(b"");
+}
+
+fn value(bytes: &[u8]) {
+    match lists::read_whole(bytes, 0) {
+        Read::Found { form, end } => print::row(&[0, end as u64, form as u64]),
+        Read::Refused { refusal, place } => {
+            print::row(&[paper::number(refusal) as u64, place as u64]);
+        }
+    }
+}
+
+fn sheet(line: &[u8]) -> bool
+    requires { ⌜ Request (now line) ⌝ }
+{
+    let mut table = [0u8; ROOM];
+    let mut sheet = [0u8; ROOM];
+    let table_end = words::end(line, 2);
+    let sheet_start = words::past(line, table_end);
+    let sheet_end = words::end(line, sheet_start);
+    let lent_start = words::past(line, sheet_end);
+    let hex::Spelt::Bytes(t) = hex::read(&line[2..table_end], &mut table) else {
+        return false;
+    };
+    let hex::Spelt::Bytes(n) = hex::read(&line[sheet_start..sheet_end], &mut sheet) else {
+        return false;
+    };
+    let Numeral::Is(lent) = words::number(&line[lent_start..]) else {
+        return false;
+    };
+    if CELLS < lent {
+        return false;
+    }
+    read_lent(&table[..t], &sheet[..n], lent);
+    true
+}
+
+// Reads a sheet with so many cells lent.
+fn read_lent(table: &[u8], sheet: &[u8], lent: usize)
+    requires { ⌜ lent ≤ cellLimit ⌝ }
+{
+    let mut cells = [STALE; CELLS];
+    read_into(table, sheet, &mut cells[..lent]);
+}
+
+fn read_into(table: &[u8], sheet: &[u8], cells: &mut [u32]) {
+    print::answer(sheets::read(table, sheet, cells));
+    print::cells(cells);
+}
+
+fn part(line: &[u8]) -> bool
+    requires { ⌜ Request (now line) ⌝ }
+{
+    let mut sheet = [0u8; ROOM];
+    let mut cells = [0u32; CELLS];
+    let sheet_end = words::end(line, 2);
+    let entry_start = words::past(line, sheet_end);
+    let entry_end = words::end(line, entry_start);
+    let cells_start = words::past(line, entry_end);
+    let hex::Spelt::Bytes(n) = hex::read(&line[2..sheet_end], &mut sheet) else {
+        return false;
+    };
+    let Numeral::Is(entry) = words::number(&line[entry_start..entry_end]) else {
+        return false;
+    };
+    let Listed::Cells(k) = words::cells(&line[cells_start..], &mut cells) else {
+        return false;
+    };
+    view(&sheet[..n], &cells[..k], entry);
+    true
+}
+
+// Views an entry, and asks for the view's number by the second call.
+fn view(sheet: &[u8], cells: &[u32], entry: usize) {
+    print::answer(sheets::view_answer(sheet, cells, entry));
+    print::bytes(sheets::view(sheet, cells, entry));
+}

@@ -1,3 +1,0 @@
--- Laws of the vectors' own form.
-pub mod Digits
-pub mod Spelling

@@ -1,3 +1,0 @@
--- What the contracts of the vectors' program cite.
-pub mod Hex
-pub mod Lines
