@@ -94,9 +94,8 @@ fn table_case(words: &[&str]) -> Option<String> {
 }
 
 fn view_case(words: &[&str]) -> Option<String> {
-    let [sheet, number, cells @ ..] = words.strip_prefix(&["view"])? else {
-        return None;
-    };
+    let (sheet, words) = words.strip_prefix(&["view"])?.split_first()?;
+    let (number, cells) = words.split_first()?;
     let (sheet, number, cells) = (from_hex(sheet)?, number.parse().ok()?, numbers(cells)?);
     let part = view(&sheet, &cells, number).unwrap_or_default();
     let lists = format!("sheet = {}; cells = {}; part = {}", list(&sheet), list(&cells), list(part));

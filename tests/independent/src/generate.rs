@@ -9,32 +9,52 @@ use crate::writer::write_form;
 /// Cells for every entry a sheet may have.
 const PLENTY: usize = ENTRIES * ENTRY_CELLS;
 
-/// `count` request lines, none with a sheet longer than `longest`.
-pub fn requests(seed: u64, count: usize, longest: usize) -> Vec<String> {
+/// The kinds of requests, by their first words.
+pub const KINDS: [&str; 4] = ["table", "sheet", "form", "view"];
+
+/// `count` request lines of the kinds named, none with a sheet longer than `longest`.
+pub fn requests(seed: u64, count: usize, longest: usize, kinds: &[&str]) -> Vec<String> {
     let mut chance = Chance(seed);
     let mut lines = Vec::new();
     while lines.len() < count {
-        let names = Names::random(&mut chance);
-        match chance.below(200) {
-            0..=19 => lines.push(format!("table {}", to_hex(&damaged_table(&mut chance, &names)))),
-            20..=27 => add_limit(&mut lines, &mut chance, longest),
-            28 => add_cuts(&mut lines, &mut chance, &names, longest),
-            29..=69 => {
-                let sheet = pieces_in_a_row(&mut chance);
-                add_sheet(&mut lines, &mut chance, &Names::papers().table(), sheet.as_bytes(), longest);
-            }
-            70..=89 => {
-                let sheet = one_value(&mut chance);
-                add_sheet(&mut lines, &mut chance, &Names::papers().table(), sheet.as_bytes(), longest);
-            }
-            _ => {
-                let sheet = any_sheet(&mut chance, &names);
-                add_sheet(&mut lines, &mut chance, &names.table(), &sheet, longest);
-            }
-        }
+        let mut made = Vec::new();
+        add_requests(&mut made, &mut chance, longest);
+        lines.extend(made.into_iter().filter(|line| kinds.iter().any(|kind| line.starts_with(kind))));
     }
     lines.truncate(count);
     lines
+}
+
+/// The requests about one table or sheet, of all kinds.
+fn add_requests(lines: &mut Vec<String>, chance: &mut Chance, longest: usize) {
+    let names = Names::random(chance);
+    match chance.below(200) {
+        0..=19 => add_table(lines, chance, &names, longest),
+        20..=27 => add_limit(lines, chance, longest),
+        28 => add_cuts(lines, chance, &names, longest),
+        29..=69 => {
+            let sheet = pieces_in_a_row(chance);
+            add_sheet(lines, chance, &Names::papers().table(), sheet.as_bytes(), longest);
+        }
+        70..=89 => {
+            let sheet = one_value(chance);
+            add_sheet(lines, chance, &Names::papers().table(), sheet.as_bytes(), longest);
+        }
+        _ => {
+            let sheet = any_sheet(chance, &names);
+            add_sheet(lines, chance, &names.table(), &sheet, longest);
+        }
+    }
+}
+
+/// A table that is mostly refused, and at times a sheet under it.
+fn add_table(lines: &mut Vec<String>, chance: &mut Chance, names: &Names, longest: usize) {
+    let table = damaged_table(chance, names);
+    lines.push(format!("table {}", to_hex(&table)));
+    if chance.one_in(4) {
+        let sheet = any_sheet(chance, names);
+        add_sheet(lines, chance, &table, &sheet, longest);
+    }
 }
 
 /// The requests about one sheet: its reading, mostly its form, and at times a view.
@@ -62,7 +82,7 @@ fn random_room(chance: &mut Chance, table: &[u8], sheet: &[u8]) -> usize {
     *chance.pick(&[&enough, &enough.saturating_sub(1), &(4 * SHEET_BYTES)])
 }
 
-/// A view of some entry, at times over cells of which one was changed or the last were taken away.
+/// A view of some entry or of none, at times over cells of which one was changed or the last were taken away.
 fn view_request(chance: &mut Chance, table: &[u8], sheet: &[u8]) -> String {
     let (answer, mut cells) = read_sheet(table, sheet, PLENTY);
     cells.truncate((answer.count + chance.below(2)) * ENTRY_CELLS);
@@ -74,7 +94,8 @@ fn view_request(chance: &mut Chance, table: &[u8], sheet: &[u8]) -> String {
     if chance.one_in(8) {
         cells.truncate(chance.below(cells.len() + 1));
     }
-    let number = chance.below(answer.count + 2);
+    let far = [1 << 32, 1 << 61, usize::MAX];
+    let number = if chance.one_in(16) { far[chance.below(3)] } else { chance.below(answer.count + 2) };
     let cells: String = cells.iter().map(|cell| format!(" {cell}")).collect();
     format!("view {} {number}{cells}", to_hex(sheet))
 }
@@ -359,7 +380,7 @@ impl<'a> Printer<'a> {
             self.put_one_of(&["x", "<Lab/>", "</Lab>", "[a]", " \t<", "\n\nx", "\x7F"]);
         }
         if self.chance.one_in(3) {
-            while self.text.last().is_some_and(|last| b" \t\r\n".contains(last)) {
+            while self.text.last().map_or(false, |last| b" \t\r\n".contains(last)) {
                 self.text.pop();
             }
         }

@@ -10,6 +10,7 @@ mod writer;
 #[cfg(test)]
 mod examples;
 
+use generate::KINDS;
 use reader::{read_sheet, table_answer, view, view_answer, Answer, SHEET_BYTES};
 use std::io::{BufRead, Write};
 use writer::write_form;
@@ -19,8 +20,9 @@ fn main() {
     let words: Vec<&str> = words.iter().map(String::as_str).collect();
     let done = match words.as_slice() {
         [] => answer_requests(),
-        ["generate", seed, count] => print_requests(seed, count, "16385"),
-        ["generate", seed, count, longest] => print_requests(seed, count, longest),
+        ["generate", seed, count] => print_requests(seed, count, "16385", &KINDS),
+        ["generate", seed, count, longest] => print_requests(seed, count, longest, &KINDS),
+        ["generate", seed, count, longest, kinds @ ..] => print_requests(seed, count, longest, kinds),
         ["definitions", specs] => print_module(specs),
         _ => usage(),
     };
@@ -30,27 +32,27 @@ fn main() {
 }
 
 fn usage() -> bool {
-    eprintln!("independent                                answers request lines");
-    eprintln!("independent generate SEED COUNT [LONGEST]  prints COUNT request lines, with sheets up to LONGEST bytes");
-    eprintln!("independent definitions SPECS              prints request lines and their answers as statements about SPECS");
+    eprintln!("independent                                         answers request lines");
+    eprintln!("independent generate SEED COUNT [LONGEST [KIND..]]  prints COUNT request lines, with sheets up to LONGEST bytes");
+    eprintln!("independent definitions SPECS                       prints request lines and their answers as statements about SPECS");
     false
 }
 
-/// Prints `count` request lines; false where an argument is no number.
-fn print_requests(seed: &str, count: &str, longest: &str) -> bool {
-    let (Ok(seed), Ok(count), Ok(longest)) = (seed.parse(), count.parse(), longest.parse()) else {
-        return usage();
-    };
+/// Prints `count` request lines; false where an argument is no number or no kind of request.
+fn print_requests(seed: &str, count: &str, longest: &str, kinds: &[&str]) -> bool {
     let mut out = std::io::stdout().lock();
-    generate::requests(seed, count, longest).iter().all(|line| writeln!(out, "{line}").is_ok())
+    match (seed.parse(), count.parse(), longest.parse()) {
+        (Ok(seed), Ok(count), Ok(longest)) if kinds.iter().all(|kind| KINDS.contains(kind)) => {
+            generate::requests(seed, count, longest, kinds).iter().all(|line| writeln!(out, "{line}").is_ok())
+        }
+        _ => usage(),
+    }
 }
 
 /// Prints the request lines of standard input as a module of statements about the definitions in the folder `specs`.
 fn print_module(specs: &str) -> bool {
-    let Ok(requests) = std::io::stdin().lock().lines().collect::<Result<Vec<String>, _>>() else {
-        return false;
-    };
-    match definitions::module(specs.as_ref(), &requests) {
+    let requests: Result<Vec<String>, _> = std::io::stdin().lock().lines().collect();
+    match requests.and_then(|requests| definitions::module(specs.as_ref(), &requests)) {
         Ok(module) => write!(std::io::stdout(), "{module}").is_ok(),
         Err(_) => false,
     }
@@ -59,10 +61,10 @@ fn print_module(specs: &str) -> bool {
 fn answer_requests() -> bool {
     let mut out = std::io::stdout().lock();
     for line in std::io::stdin().lock().lines() {
-        let Ok(line) = line else {
-            return false;
+        let answer = match line {
+            Ok(line) => answer_line(&line).unwrap_or("not a request".to_string()),
+            Err(_) => return false,
         };
-        let answer = answer_line(&line).unwrap_or("not a request".to_string());
         if writeln!(out, "{answer}").is_err() {
             return false;
         }
@@ -79,10 +81,10 @@ struct SheetRequest {
 
 impl SheetRequest {
     fn of(words: &[&str]) -> Option<SheetRequest> {
-        let [table, sheet, lent] = words else {
-            return None;
-        };
-        Some(SheetRequest { table: from_hex(table)?, sheet: from_hex(sheet)?, lent: lent.parse().ok()? })
+        match words {
+            [table, sheet, lent] => Some(SheetRequest { table: from_hex(table)?, sheet: from_hex(sheet)?, lent: lent.parse().ok()? }),
+            _ => None,
+        }
     }
 }
 

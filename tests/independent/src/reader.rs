@@ -247,7 +247,7 @@ impl Reader<'_> {
     /// Passes all bytes that fit, and says how many.
     fn pass_while(&mut self, fits: fn(u8) -> bool) -> usize {
         let start = self.at;
-        while self.byte().is_some_and(fits) {
+        while self.byte().map_or(false, fits) {
             self.at += 1;
         }
         self.at - start
@@ -519,8 +519,9 @@ impl Reader<'_> {
     /// A line of spaces and tabs only has empty text; any other starts with one tab more than the marker.
     fn text_of_line(&self, line: Span, tabs: usize) -> Result<Span, Refusal> {
         let bytes = line.of(self.sheet);
-        let Some(first) = bytes.iter().position(|&byte| byte != b' ' && byte != b'\t') else {
-            return Ok(Span { start: line.end, end: line.end });
+        let first = match bytes.iter().position(|&byte| byte != b' ' && byte != b'\t') {
+            Some(first) => first,
+            None => return Ok(Span { start: line.end, end: line.end }),
         };
         if !bytes.starts_with(&b"\t".repeat(tabs + 1)) {
             return Err(Refusal { number: 7, place: line.start + first });

@@ -263,7 +263,7 @@ fn kind_of_word(word: &[u8]) -> Option<Kind> {
 
 /// Letters and digits of which the first meets `first`: Pascal case or camel case.
 fn is_run(run: &[u8], first: fn(&u8) -> bool) -> bool {
-    run.first().is_some_and(first) && run.iter().all(u8::is_ascii_alphanumeric)
+    run.first().map_or(false, first) && run.iter().all(u8::is_ascii_alphanumeric)
 }
 
 fn is_uuid(word: &[u8]) -> bool {
@@ -311,17 +311,18 @@ fn is_whole(digits: &[u8]) -> bool {
 }
 
 fn is_decimal(unsigned: &[u8]) -> bool {
-    split_at(unsigned, |byte| byte == b'.').is_some_and(|(integer, rest)| is_whole(integer) && is_digits(rest))
+    split_at(unsigned, |byte| byte == b'.').map_or(false, |(integer, rest)| is_whole(integer) && is_digits(rest))
 }
 
 /// Scheme, ":", body of 001 §14. The scheme ends at the first colon.
 fn is_iri(word: &[u8]) -> bool {
-    let Some((scheme, body)) = split_at(word, |byte| byte == b':') else {
-        return false;
+    let (scheme, body) = match split_at(word, |byte| byte == b':') {
+        Some(parts) => parts,
+        None => return false,
     };
     let scheme_byte = |byte: &u8| byte.is_ascii_alphanumeric() || b"+-.".contains(byte);
     let body_text = std::str::from_utf8(body).expect("the bytes were checked");
-    scheme.first().is_some_and(u8::is_ascii_alphabetic) && scheme.iter().all(scheme_byte) && body_text.chars().all(is_iri_scalar)
+    scheme.first().map_or(false, u8::is_ascii_alphabetic) && scheme.iter().all(scheme_byte) && body_text.chars().all(is_iri_scalar)
 }
 
 fn is_iri_scalar(one: char) -> bool {

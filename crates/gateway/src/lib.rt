@@ -1,0 +1,51 @@
+// The C interface: the public functions for programs that are not written in Rattle.
+// Document 01, "Refusal numbers" and the answers of "Order"; include/cdx.h declares these functions for C.
+use entries::CELLS;
+use paper::Answer;
+use sheets::read;
+use sheets::view_answer;
+ghost use mathlib.Core.Path.{_≡_};
+ghost use lib.ListN.{length};
+ghost use Rattle.paper.specs.Answer.{told};
+ghost use Rattle.paper.specs.Modes.{readTable};
+ghost use Rattle.paper.specs.Reading.{reading};
+ghost use Rattle.gateway.specs.Answers.{Few, threeOf, viewOf};
+
+// Reads a mode table. The answer is number, place and count.
+#[no_mangle]
+pub extern "C" fn cdx_table(table: &[u8], answer: &mut [u32; 3])
+    ensures { λ _. ⌜ now (answer .exit) ≡ threeOf (readTable (now (table .entry))) ⌝ }
+{
+    tell(modes::read(table), answer);
+}
+
+// Reads a sheet under a mode table into the cells lent. The answer is number, place and count.
+#[no_mangle]
+pub extern "C" fn cdx_sheet(table: &[u8], sheet: &[u8], cells: &mut [u32], answer: &mut [u32; 3])
+    ensures { λ _. ⌜ (now (cells .exit) ≡ reading (now (table .entry)) (now (sheet .entry)) (length (now (cells .entry))) .cells)
+        × (now (answer .exit) ≡ threeOf (reading (now (table .entry)) (now (sheet .entry)) (length (now (cells .entry))) .answer)) ⌝ }
+{
+    tell(read(table, sheet, cells), answer);
+}
+
+// The part of the sheet that an entry's span names. The answer is number, start and end of the part; both are 0 where it is refused.
+#[no_mangle]
+pub extern "C" fn cdx_view(sheet: &[u8], cells: &[u32], entry: u64, answer: &mut [u32; 3])
+    ensures { λ _. ⌜ now (answer .exit) ≡ viewOf (now (sheet .entry)) (now (cells .entry)) entry ⌝ }
+{
+    let number = view_answer(sheet, cells, entry as usize).number();
+    if number != 0 {
+        *answer = [number, 0, 0];
+        return;
+    }
+    let at = entry as usize * CELLS;
+    *answer = [0, cells[at + 6], cells[at + 7]];
+}
+
+// Writes an answer's number, place and count. They are small enough for an answer's cells.
+fn tell(given: Answer, answer: &mut [u32; 3])
+    requires { ⌜ Few (told given) ⌝ }
+    ensures { λ _. ⌜ now (answer .exit) ≡ threeOf (told given) ⌝ }
+{
+    *answer = [given.number(), given.place() as u32, given.count() as u32];
+}

@@ -1,0 +1,91 @@
+/* cdx.h: reading Codex sheets (.cdx), for C.
+ *
+ * Link with libgateway.a. Every function takes any bytes and any room: there is nothing to check before a call, and a call
+ * neither allocates nor keeps anything. What is lent must be there for its whole length, and what a function writes (cells, answer)
+ * must not overlap anything else that is lent in the same call.
+ *
+ * A pointer may not be null, also where its length is 0.
+ */
+#ifndef CDX_H
+#define CDX_H
+
+#include <stddef.h>
+#include <stdint.h>
+
+#ifdef __cplusplus
+extern "C" {
+#endif
+
+/* An answer's number: CDX_OK, or why the input is refused. */
+enum cdx_number {
+    CDX_OK = 0,
+    CDX_TABLE = 1,          /* the mode table is not in order */
+    CDX_SHEET_TOO_LONG = 2, /* the sheet has more than 16,384 bytes */
+    CDX_BYTES = 3,          /* bytes that no sheet may have: not UTF-8, or a control byte */
+    CDX_NAME = 4,           /* a name breaks the name rule or is longer than 32 bytes */
+    CDX_UNLISTED = 5,       /* a Concept's name is not in the mode table */
+    CDX_VALUE = 6,          /* a trait's value is of no kind */
+    CDX_DUE = 7,            /* something else was due here */
+    CDX_CLOSING_NAME = 8,   /* a closing marker has another name than the open Concept */
+    CDX_CUT = 9,            /* the input ends before the root is closed */
+    CDX_TOO_DEEP = 10,      /* more than 32 Concepts or 8 lists in one another */
+    CDX_NO_ENTRY_LEFT = 11, /* more entries than 1,024, or than there are cells lent for */
+    CDX_VIEW = 17           /* this entry cannot be viewed */
+};
+
+/* An entry is so many cells, and these are its cells by their place in it. */
+#define CDX_CELLS 8
+
+enum cdx_cell {
+    CDX_KIND = 0,       /* an enum cdx_kind; 0 where there is no entry */
+    CDX_FORM = 1,       /* of a Concept: enum cdx_concept_form; of a trait or an item: enum cdx_value_form; else 0 */
+    CDX_PARENT = 2,     /* the number of the entry that this one belongs to, or CDX_TOP */
+    CDX_COUNT = 3,      /* how many entries name this one as parent */
+    CDX_NAME_START = 4, /* where its name starts and ends in the sheet; */
+    CDX_NAME_END = 5,   /*   without a name both are the start of the span */
+    CDX_SPAN_START = 6, /* where its span starts in the sheet, */
+    CDX_SPAN_END = 7    /*   and the place behind its last byte */
+};
+
+/* The parent of what stands at the top. */
+#define CDX_TOP UINT32_C(4294967295)
+
+enum cdx_kind { CDX_CONCEPT = 1, CDX_TRAIT = 2, CDX_ITEM = 3, CDX_ANNOTATION = 4, CDX_CONTENT = 5 };
+
+enum cdx_concept_form { CDX_SELF_CLOSED = 1, CDX_CHILDREN = 2, CDX_HAS_CONTENT = 3 };
+
+enum cdx_value_form {
+    CDX_STRING = 1,
+    CDX_CHARACTER = 2,
+    CDX_BOOLEAN = 3,
+    CDX_INTEGER = 4,
+    CDX_DECIMAL = 5,
+    CDX_SCIENTIFIC = 6,
+    CDX_FRACTION = 7,
+    CDX_PASCAL = 8, /* "$" and a name */
+    CDX_CAMEL = 9,  /* "~" and a name */
+    CDX_UUID = 10,
+    CDX_IRI = 11,
+    CDX_LIST = 12
+};
+
+/* Reads a mode table.
+ * answer: CDX_OK, the table's length and how many names it has; or CDX_TABLE, the place of the fault and 0. */
+void cdx_table(const uint8_t *table, size_t table_len, uint32_t answer[3]);
+
+/* Reads a sheet under a mode table, and writes its entries into the cells lent.
+ * cells_len counts cells, not bytes; there is room for cells_len / CDX_CELLS entries, and no sheet has more than 1,024.
+ * answer: CDX_OK, the sheet's length and how many entries it has; all cells behind them are 0. Or the number of a
+ * refusal, its place (in the table for CDX_TABLE, else in the sheet) and 0; then every cell is 0. */
+void cdx_sheet(const uint8_t *table, size_t table_len, const uint8_t *sheet, size_t sheet_len, uint32_t *cells, size_t cells_len, uint32_t answer[3]);
+
+/* Finds the part of a sheet that an entry's span names. The cells may be any, not only those that cdx_sheet wrote.
+ * answer: CDX_OK, and where the part starts and ends in the sheet; or CDX_VIEW, 0 and 0, where the entry lies not wholly in the
+ * cells, has no kind, or its span is reversed or ends outside of the sheet. */
+void cdx_view(const uint8_t *sheet, size_t sheet_len, const uint32_t *cells, size_t cells_len, uint64_t entry, uint32_t answer[3]);
+
+#ifdef __cplusplus
+}
+#endif
+
+#endif

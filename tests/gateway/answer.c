@@ -1,0 +1,293 @@
+/* Answers requests on standard input, one a line, with the functions of libgateway.a. The lines are those of
+ * tests/independent/README.md, without `form`, so that the answers of both programs can be compared as text.
+ *
+ * A call gets copies of the request's bytes and cells, and cells and an answer full of junk, each between guards. A call that
+ * changes what it may not has a line that begins with `broken` for its answer.
+ *
+ * Status 0, or 2 where a line could not be read, an answer not be written, or there is no memory. */
+#define _POSIX_C_SOURCE 200809L
+
+#include "cdx.h"
+
+#include <stdbool.h>
+#include <stdio.h>
+#include <stdlib.h>
+#include <string.h>
+
+static void fail(const char *why)
+{
+    fprintf(stderr, "answer: %s\n", why);
+    exit(2);
+}
+
+static void *memory(size_t size)
+{
+    void *block = malloc(size);
+    if (block == NULL)
+        fail("no memory left");
+    return block;
+}
+
+/* ---- Loans */
+
+enum { GUARD = 64, JUNK = 0xA5 };
+
+/* `size` bytes to lend, between two guards of GUARD bytes, and all these bytes as they were before the call. */
+struct loan {
+    uint8_t *block;
+    uint8_t *before;
+    size_t size;
+};
+
+/* Lends a copy of the bytes, or junk where they are NULL. */
+static struct loan lend(const void *bytes, size_t size)
+{
+    if (size > SIZE_MAX / 2)
+        fail("no memory left");
+    size_t whole = GUARD + size + GUARD;
+    struct loan loan = {memory(whole), memory(whole), size};
+    memset(loan.block, JUNK, whole);
+    if (bytes != NULL)
+        memcpy(loan.block + GUARD, bytes, size);
+    memcpy(loan.before, loan.block, whole);
+    return loan;
+}
+
+/* Lends so many u32 cells: copies of these, or junk where they are NULL. */
+static struct loan lend_cells(const uint32_t *cells, size_t count)
+{
+    if (count > SIZE_MAX / 2 / sizeof *cells)
+        fail("no memory left");
+    return lend(cells, count * sizeof *cells);
+}
+
+static uint8_t *bytes_of(struct loan loan)
+{
+    return loan.block + GUARD;
+}
+
+static uint32_t *cells_of(struct loan loan)
+{
+    return (uint32_t *)(void *)(loan.block + GUARD);
+}
+
+static bool guards_kept(struct loan loan)
+{
+    size_t behind = GUARD + loan.size;
+    return memcmp(loan.block, loan.before, GUARD) == 0 && memcmp(loan.block + behind, loan.before + behind, GUARD) == 0;
+}
+
+static bool all_kept(struct loan loan)
+{
+    return memcmp(loan.block, loan.before, GUARD + loan.size + GUARD) == 0;
+}
+
+static void give_back(struct loan loan)
+{
+    free(loan.block);
+    free(loan.before);
+}
+
+/* ---- Words of a request */
+
+/* The bytes or cells that words of a request name. */
+struct input {
+    void *items;
+    size_t count;
+};
+
+/* Takes the next word from what is left of a request; it is empty where there is none. */
+static char *next_word(char **rest)
+{
+    const char *spaces = " \t\n\v\f\r";
+    char *word = *rest + strspn(*rest, spaces);
+    char *end = word + strcspn(word, spaces);
+    *rest = *end == 0 ? end : end + 1;
+    *end = 0;
+    return word;
+}
+
+/* A number of one or more digits, at most `most`. */
+static bool read_number(const char *word, uint64_t most, uint64_t *number)
+{
+    *number = 0;
+    for (const char *at = word; *at != 0; at++) {
+        if (*at < '0' || *at > '9')
+            return false;
+        uint64_t digit = (uint64_t)(*at - '0');
+        if (*number > (most - digit) / 10)
+            return false;
+        *number = *number * 10 + digit;
+    }
+    return *word != 0;
+}
+
+/* A hex digit's value, or -1. */
+static int digit_value(char digit)
+{
+    if (digit >= '0' && digit <= '9')
+        return digit - '0';
+    if (digit >= 'a' && digit <= 'f')
+        return digit - 'a' + 10;
+    if (digit >= 'A' && digit <= 'F')
+        return digit - 'A' + 10;
+    return -1;
+}
+
+/* Bytes from pairs of hex digits; "-" is no bytes. */
+static bool read_bytes(const char *word, struct input *bytes)
+{
+    size_t digits = strcmp(word, "-") == 0 ? 0 : strlen(word);
+    uint8_t *to = bytes->items = memory(digits / 2 + 1);
+    bytes->count = digits / 2;
+    for (size_t at = 0; at < bytes->count; at++) {
+        int high = digit_value(word[2 * at]), low = digit_value(word[2 * at + 1]);
+        if (high < 0 || low < 0)
+            return false;
+        to[at] = (uint8_t)(high * 16 + low);
+    }
+    return *word != 0 && digits % 2 == 0;
+}
+
+/* The cells that are left of a request. */
+static bool read_cells(char **rest, struct input *cells)
+{
+    uint32_t *to = cells->items = memory((strlen(*rest) / 2 + 1) * sizeof *to);
+    for (char *word = next_word(rest); *word != 0; word = next_word(rest)) {
+        uint64_t number;
+        if (!read_number(word, UINT32_MAX, &number))
+            return false;
+        to[cells->count++] = (uint32_t)number;
+    }
+    return true;
+}
+
+/* ---- Answers */
+
+static void print_answer(const uint32_t answer[3])
+{
+    printf("%u %u %u", (unsigned)answer[0], (unsigned)answer[1], (unsigned)answer[2]);
+}
+
+/* Number, place, count. */
+static void answer_table(struct input table)
+{
+    struct loan lent_table = lend(table.items, table.count), answer = lend_cells(NULL, 3);
+    cdx_table(bytes_of(lent_table), table.count, cells_of(answer));
+    if (!all_kept(lent_table))
+        printf("broken: cdx_table changed the table or its guards");
+    else if (!guards_kept(answer))
+        printf("broken: cdx_table wrote outside of the answer");
+    else
+        print_answer(cells_of(answer));
+    give_back(lent_table);
+    give_back(answer);
+}
+
+/* The cells up to the last that is not zero. */
+static void print_cells(const uint32_t *cells, size_t count)
+{
+    while (count > 0 && cells[count - 1] == 0)
+        count--;
+    for (size_t at = 0; at < count; at++)
+        printf(" %u", (unsigned)cells[at]);
+}
+
+/* Number, place, count, and the cells. */
+static void answer_sheet(struct input table, struct input sheet, size_t lent)
+{
+    struct loan lent_table = lend(table.items, table.count), lent_sheet = lend(sheet.items, sheet.count);
+    struct loan cells = lend_cells(NULL, lent), answer = lend_cells(NULL, 3);
+    cdx_sheet(bytes_of(lent_table), table.count, bytes_of(lent_sheet), sheet.count, cells_of(cells), lent, cells_of(answer));
+    if (!all_kept(lent_table))
+        printf("broken: cdx_sheet changed the table or its guards");
+    else if (!all_kept(lent_sheet))
+        printf("broken: cdx_sheet changed the sheet or its guards");
+    else if (!guards_kept(cells))
+        printf("broken: cdx_sheet wrote outside of the cells");
+    else if (!guards_kept(answer))
+        printf("broken: cdx_sheet wrote outside of the answer");
+    else {
+        print_answer(cells_of(answer));
+        print_cells(cells_of(cells), lent);
+    }
+    give_back(lent_table);
+    give_back(lent_sheet);
+    give_back(cells);
+    give_back(answer);
+}
+
+/* Number, 0, the part's length, and the part; a refusal is printed as it came, with no part. */
+static void print_part(const uint32_t answer[3], struct input sheet)
+{
+    uint32_t start = answer[1], end = answer[2];
+    if (answer[0] != CDX_OK) {
+        print_answer(answer);
+        printf(" -");
+    } else if (start > end || end > sheet.count) {
+        printf("broken: cdx_view named the part from %u to %u", (unsigned)start, (unsigned)end);
+    } else {
+        printf("0 0 %u %s", (unsigned)(end - start), start == end ? "-" : "");
+        for (uint32_t at = start; at < end; at++)
+            printf("%02x", ((const uint8_t *)sheet.items)[at]);
+    }
+}
+
+static void answer_view(struct input sheet, uint64_t entry, struct input cells)
+{
+    struct loan lent_sheet = lend(sheet.items, sheet.count), lent_cells = lend_cells(cells.items, cells.count);
+    struct loan answer = lend_cells(NULL, 3);
+    cdx_view(bytes_of(lent_sheet), sheet.count, cells_of(lent_cells), cells.count, entry, cells_of(answer));
+    if (!all_kept(lent_sheet))
+        printf("broken: cdx_view changed the sheet or its guards");
+    else if (!all_kept(lent_cells))
+        printf("broken: cdx_view changed the cells or their guards");
+    else if (!guards_kept(answer))
+        printf("broken: cdx_view wrote outside of the answer");
+    else
+        print_part(cells_of(answer), sheet);
+    give_back(lent_sheet);
+    give_back(lent_cells);
+    give_back(answer);
+}
+
+/* Answers the request that stands in the line, or says that there is none. */
+static void answer_line(char *line)
+{
+    struct input first = {NULL, 0}, second = {NULL, 0};
+    uint64_t number;
+    const char *kind = next_word(&line);
+    if (strcmp(kind, "table") == 0 && read_bytes(next_word(&line), &first) && *next_word(&line) == 0)
+        answer_table(first);
+    else if (strcmp(kind, "sheet") == 0 && read_bytes(next_word(&line), &first) && read_bytes(next_word(&line), &second) &&
+             read_number(next_word(&line), SIZE_MAX, &number) && *next_word(&line) == 0)
+        answer_sheet(first, second, (size_t)number);
+    else if (strcmp(kind, "view") == 0 && read_bytes(next_word(&line), &first) &&
+             read_number(next_word(&line), UINT64_MAX, &number) && read_cells(&line, &second))
+        answer_view(first, number, second);
+    else
+        printf("not a request");
+    free(first.items);
+    free(second.items);
+}
+
+int main(void)
+{
+    char *line = NULL;
+    size_t room = 0;
+    ssize_t length;
+    setvbuf(stdout, NULL, _IOLBF, 0); /* an answer is out before the next request is read */
+    while ((length = getline(&line, &room, stdin)) >= 0) {
+        if (strlen(line) != (size_t)length)
+            printf("not a request");
+        else
+            answer_line(line);
+        putchar('\n');
+        if (ferror(stdout))
+            fail("an answer could not be written");
+    }
+    if (!feof(stdin))
+        fail("a line could not be read");
+    free(line);
+    return 0;
+}

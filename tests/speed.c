@@ -1,0 +1,53 @@
+/* Reads one sheet many times over: the program that tests/speed counts instructions of.
+ *
+ *     speed TABLE SHEET LENT TIMES
+ *
+ * TABLE and SHEET are files, LENT says how many cells are lent. The sheet is read TIMES times, each time into the same cells. The
+ * last answer is printed: number, place and count.
+ */
+#include "cdx.h"
+
+#include <stdio.h>
+#include <stdlib.h>
+
+enum { ROOM = 32768, CELLS = 8192 };
+
+static uint8_t table[ROOM];
+static uint8_t sheet[ROOM];
+static uint32_t cells[CELLS];
+
+/* Puts a file into the room of an input, and gives its length. */
+static size_t load(const char *path, uint8_t *room)
+{
+    FILE *file = fopen(path, "rb");
+    if (file == NULL) {
+        perror(path);
+        exit(2);
+    }
+    size_t length = fread(room, 1, ROOM, file);
+    fclose(file);
+    return length;
+}
+
+int main(int argc, char **argv)
+{
+    if (argc != 5) {
+        fprintf(stderr, "usage: speed TABLE SHEET LENT TIMES\n");
+        return 2;
+    }
+    size_t table_len = load(argv[1], table);
+    size_t sheet_len = load(argv[2], sheet);
+    size_t lent = strtoul(argv[3], NULL, 10);
+    long times = strtol(argv[4], NULL, 10);
+    if (CELLS < lent) {
+        fprintf(stderr, "speed: at most %d cells can be lent\n", CELLS);
+        return 2;
+    }
+    uint32_t answer[3] = {0, 0, 0};
+    while (0 < times) {
+        cdx_sheet(table, table_len, sheet, sheet_len, cells, lent, answer);
+        times -= 1;
+    }
+    printf("%u %u %u\n", answer[0], answer[1], answer[2]);
+    return 0;
+}
