@@ -1,3 +1,4 @@
 -- Laws of cells and the entries that are laid in them.
 pub mod Zeros
 pub mod Laying
+pub mod Slots

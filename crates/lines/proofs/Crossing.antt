@@ -16,9 +16,7 @@ use Rattle.paper.specs.Found.{Found, found, fault, andThen}
 use Rattle.paper.specs.Entries.{Entry}
 use Rattle.paper.proofs.Finds.{Reads}
 use Rattle.text.proofs.Places.{place-back}
-use Rattle.text.proofs.Answers.{Tells, found-to, fault-to}
-pub use Rattle.text.proofs.Answers.{FaultAt}
-pub use Rattle.text.proofs.Stretch.{Stretch, behind-at, front-at, behind-none, behind-some}
+use Rattle.text.proofs.Answers.{FaultAt, Tells, found-to, fault-to}
 use Rattle.entries.specs.Laid.{lay, Fits}
 use Rattle.entries.specs.declared.Slot.{Slot}
 use Rattle.lines.specs.Parts.{Seen, seen, seenOf, Makes}
@@ -102,9 +100,6 @@ room-left cells slot o h asked f = omega (arith, leb-false (slot .room) (slot .n
 module _ {A : Type 0} (size own : A → ℕ) (of : A → List Entry) (s cells : List ℕ) (n : ℕ) (x : Found A) (r : Part) (after : List ℕ) where
   makes-fault : (k : ℕ) (left : List ℕ) → x ≡ fault k left → seen r ≡ seenOf size own s x → Makes size own of s cells n x r after
   makes-fault k left f e = record { says = e; laid = λ a end g. let z : _≡_ {A = ℕ} 0 1 = cc in absurd (omega arith) }
-
-  pub makes-cut : r ≡ Refused Cut (length s) → x ≡ fault 9 [] → Makes size own of s cells n x r after
-  makes-cut e f = makes-fault 9 [] f (says-cut size own s x r e f)
 
   pub makes-refused : (why : Refusal) (at : ℕ) → r ≡ Refused why at → at ≤ length s → x ≡ fault (numberOf why) (drop at s) → Makes size own of s cells n x r after
   makes-refused why at e h f = makes-fault (numberOf why) (drop at s) f (says-refused size own s x r why at e h f)

@@ -9,4 +9,5 @@ pub mod NoteRuns
 pub mod Closing
 pub mod ContentLines
 pub mod ContentRun
+pub mod ReadAt
 pub mod MarkLaws

@@ -4,8 +4,8 @@ use mathlib.Core.Path.{_≡_, refl, sym, ap, _∙_}
 use mathlib.Core.Bool.{true, false}
 use mathlib.Core.List.{List, [], _∷_}
 use native.Mathlib.Omega.{arith}
-use lib.ListN.{length, take, drop, getD, length-drop, length-append, drop-of-length-le}
-use lib.Seq.{take-append-seam, drop-drop}
+use lib.ListN.{length, drop, getD, length-drop, drop-of-length-le}
+use lib.Seq.{drop-drop}
 use lib.Dec.{eqb}
 use native.Mathlib.Nat.{sub-zero}
 use Rattle.paper.specs.declared.Refusal.{Refusal}
@@ -15,7 +15,6 @@ use Rattle.paper.specs.Bytes.{byte, bytes, same, startsWith}
 use Rattle.paper.specs.Reading.{due, name, ending, closing}
 use Rattle.paper.proofs.Tests.{split, true-false, when-true, when-false}
 use Rattle.paper.proofs.Lists.{starts-is}
-use Rattle.paper.proofs.Lines.{due-reads, ReadName, name-reads}
 use Rattle.lines.specs.Parts.{seen, passed, part}
 use Rattle.lines.specs.Endings.{ended, endedOf, faultHere}
 use Rattle.lines.specs.declared.marks.Ending.{Ending}
@@ -23,7 +22,8 @@ use Rattle.lines.specs.declared.marks.Ending.the-variants.{Block, Closed
 use Rattle.text.proofs.Places.{here, place-back}
 use Rattle.lines.specs.declared.part.Part.{Part}
 use Rattle.lines.specs.declared.part.Part.the-variants.{Read, Refused}
-use Rattle.lines.proofs.Crossing.{FoundAt, found-at, refused-then, says-refused}
+use Rattle.lines.proofs.Crossing.{refused-then, says-refused}
+use Rattle.lines.proofs.ReadAt.{DueAt, due-at, NameAt, name-at, part-is}
 
 -- ---- a closing marker: "<", "/", its name, ">"; the answer on each is what is known
 
@@ -33,8 +33,8 @@ module _ (s : List ℕ) (at : ℕ) where
   no-less w r why place e q = refused-then (λ a. 0) (λ a. 0) s r (λ a. 0) (λ a. 0) _ (due (byte "<") (drop at s)) why place e q
 
   module _ (h : at ≤ length s) (less : Part) (slash lm lo : ℕ) (less-says : seen less ≡ passed s (due (byte "<") (drop at s))) (less-is : less ≡ Read slash lm lo) where
-    less-found : FoundAt (λ a. 0) (λ a. 0) (λ c left. drop at s ≡ byte "<" ∷ left) s at (due (byte "<") (drop at s)) slash lm lo
-    less-found = found-at (λ a. 0) (λ a. 0) s less (λ c left. drop at s ≡ byte "<" ∷ left) at (due (byte "<") (drop at s)) slash lm lo less-says (due-reads (byte "<") (drop at s)) h less-is
+    less-found : DueAt (byte "<") s at slash
+    less-found = due-at (byte "<") s at less slash lm lo h less-says less-is
 
     pub less-inside : slash ≤ length s
     less-inside = less-found .inside
@@ -44,8 +44,8 @@ module _ (s : List ℕ) (at : ℕ) where
     no-slash w r why place e q = rw (less-found .finds) (refused-then (λ a. 0) (λ a. 0) s r (λ a. 0) (λ a. 0) _ (due (byte "/") (drop slash s)) why place e q)
 
     module _ (mark : Part) (start mm mo : ℕ) (mark-says : seen mark ≡ passed s (due (byte "/") (drop slash s))) (mark-is : mark ≡ Read start mm mo) where
-      mark-found : FoundAt (λ a. 0) (λ a. 0) (λ c left. drop slash s ≡ byte "/" ∷ left) s slash (due (byte "/") (drop slash s)) start mm mo
-      mark-found = found-at (λ a. 0) (λ a. 0) s mark (λ c left. drop slash s ≡ byte "/" ∷ left) slash (due (byte "/") (drop slash s)) start mm mo mark-says (due-reads (byte "/") (drop slash s)) less-inside mark-is
+      mark-found : DueAt (byte "/") s slash start
+      mark-found = due-at (byte "/") s slash mark start mm mo less-inside mark-says mark-is
 
       pub mark-inside : start ≤ length s
       mark-inside = mark-found .inside
@@ -55,8 +55,8 @@ module _ (s : List ℕ) (at : ℕ) where
       no-name w r why place e q = rw (less-found .finds, mark-found .finds) (refused-then (λ a. 0) (λ a. 0) s r (λ a. 0) (λ a. 0) _ (name (λ v. true) (drop start s)) why place e q)
 
       module _ (named : Part) (end nm no : ℕ) (name-says : seen named ≡ passed s (name (λ v. true) (drop start s))) (name-is : named ≡ Read end nm no) where
-        name-found : FoundAt (λ a. 0) (λ a. 0) (λ v left. ReadName (λ v. true) (drop start s) v left) s start (name (λ v. true) (drop start s)) end nm no
-        name-found = found-at (λ a. 0) (λ a. 0) s named (λ v left. ReadName (λ v. true) (drop start s) v left) start (name (λ v. true) (drop start s)) end nm no name-says (name-reads (λ v. true) (drop start s)) mark-inside name-is
+        name-found : NameAt (λ v. true) s start end
+        name-found = name-at (λ v. true) s start named end nm no mark-inside name-says name-is
 
         pub name-ahead : start ≤ end
         name-ahead = name-found .ahead
@@ -66,11 +66,7 @@ module _ (s : List ℕ) (at : ℕ) where
 
         -- the name that is read is the part between its places
         name-part : name-found .it ≡ part s start end
-        name-part =
-            let v = name-found .it in
-            let c = name-found .holds .covers in
-            let n : length v ≡ end - start = omega (arith, ap length c, length-append v (drop end s), length-drop start s, length-drop end s, name-ahead, name-inside) in
-            sym (ap (λ (l : List ℕ). take (end - start) l) c ∙ rw (← n) (take-append-seam v (drop end s)))
+        name-part = sym (part-is s (name-found .it) (drop end s) start end (name-found .covers) (omega (arith, name-found .long, name-ahead)))
 
         pub other-name : (w : List ℕ) (r : Part) → same w (part s start end) ≡ false → r ≡ Refused ClosingName start → seen r ≡ passed s (closing w (drop at s))
         unfolding closing

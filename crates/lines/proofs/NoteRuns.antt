@@ -19,6 +19,7 @@ use Rattle.paper.specs.Reading.{isTab, annotation, annotationTurn, annotations}
 use Rattle.paper.proofs.Annotations.{ReadBehind, annotation-reads, annotation-shorter}
 use Rattle.entries.specs.Laid.{slotAfter, Fits}
 use Rattle.entries.specs.declared.Slot.{Slot}
+use Rattle.entries.proofs.Slots.{fits-after}
 use Rattle.lines.specs.Parts.{Makes, noteEntries}
 use Rattle.lines.specs.declared.part.Part.{Part}
 use Rattle.lines.specs.declared.part.Part.the-variants.{Read, Refused}
@@ -86,7 +87,7 @@ module _ (s : List ℕ) (at : ℕ) (lent : List ℕ) (slot : Slot) (cells : List
     -- the slot that is lent for one more
     module _ (next : Slot) (lends : next ≡ slotAfter slot made) where
       pub lent-fits : Fits lent slot → Fits cells next
-      lent-fits h = rw lends (record { held = omega (arith, h .held, so-far .held); few = h .few; inside = so-far .few })
+      lent-fits h = fits-after made h (so-far .held) (so-far .few) lends
 
       module _ (r : Part) (after : List ℕ)
           (one : (tabs : ℕ) → Makes (λ a. 1) (λ a. 1) (noteEntries (next .parent) (mark + 1)) s cells (next .next) (annotation (next .room - next .next) tabs (drop (mark + 1) s)) r after) where

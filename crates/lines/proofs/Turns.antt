@@ -1,4 +1,4 @@
--- A loop over a run of things: what one turn does to the answer of the whole run.
+-- Something made of what is found behind entries that are laid; and a loop over a run of things: what one turn does to the answer of the whole run.
 -- Over plain lists and any turn. Assumes nothing.
 use Prim.Native.Nat.{ℕ, suc, _+_, _-_, _≤_}
 use mathlib.Core.Path.{_≡_, refl, sym, ap, _∙_}
@@ -15,6 +15,19 @@ use Rattle.lines.specs.Parts.{seen, seenOf, Makes}
 use Rattle.lines.specs.declared.part.Part.{Part}
 use Rattle.lines.specs.declared.part.Part.the-variants.{Read, Refused}
 use Rattle.lines.proofs.Crossing.{seen-map, passed-on, makes-passed, makes-read}
+
+-- what is made of what is found, where some of its entries are laid before
+pub makes-behind : {A B : Type 0} (make : A → B) (size own : B → ℕ) (of : B → List Entry) (others : A → List Entry) (first : List Entry) (s cells mid : List ℕ) (n : ℕ) (x : Found A) (y : Found B) (r : Part) (after : List ℕ)
+    → y ≡ andThen x (λ a left. found (make a) left) → ((a : A) → of (make a) ≡ first ++ others a) → mid ≡ lay cells n first
+    → Makes (λ a. size (make a)) (λ a. own (make a)) others s mid (n + length first) x r after → Makes size own of s cells n y r after
+makes-behind {A} {B} make size own of others first s cells mid n x y r after e o l k =
+    record { says = k .says ∙ sym (ap (seenOf size own s) e ∙ seen-map size own s make x); laid = λ b left f. go x refl b left (sym e ∙ f) }
+  where
+    go : (z : Found A) → x ≡ z → (b : B) (left : List ℕ) → andThen z (λ a end. found (make a) end) ≡ found b left → after ≡ lay cells n (of b)
+    go (found a end) p b left f =
+        let q : make a ≡ b = cc in
+        k .laid a end p ∙ ap (λ (c : List ℕ). lay c (n + length first) (others a)) l ∙ lay-append cells n first (others a) ∙ ap (lay cells n) (sym (o a) ∙ ap of q)
+    go (fault j end) p b left f = let no : _≡_ {A = ℕ} 0 1 = cc in absurd (omega arith)
 
 module _ {A : Type 0} (size : A → ℕ) (turn : ℕ → List ℕ → Turn A) (shorter : (room : ℕ) (s : List ℕ) → Shorter s (turn room s)) (room : ℕ) (l : List ℕ) where
   by-turn : manyOf size turn room l ≡ goOn (λ a left. manyOf size turn (room - size a) left) (turn room l)
@@ -55,10 +68,4 @@ module _ {A : Type 0} (size : A → ℕ) (turn : ℕ → List ℕ → Turn A) (s
       → Makes (λ things. f (a ∷ things)) (λ things. g (a ∷ things)) others s mid (n + length first) (manyOf size turn (room - size a) left) r after
       → Makes f g of s cells n (manyOf size turn room l) r after
   makes-more f g of others first s cells mid n a left r after t o m k =
-      record { says = k .says ∙ turn-more f g s a left t; laid = λ things end e. go (manyOf size turn (room - size a) left) refl things end (sym (by-turn ∙ rw t) ∙ e) }
-    where
-      go : (x : Found (List A)) → manyOf size turn (room - size a) left ≡ x → (things : List A) (end : List ℕ) → andThen x (λ things end. found (a ∷ things) end) ≡ found things end → after ≡ lay cells n (of things)
-      go (found ts z) p things end e =
-          let q : a ∷ ts ≡ things = cc in
-          k .laid ts z p ∙ ap (λ (c : List ℕ). lay c (n + length first) (others ts)) m ∙ lay-append cells n first (others ts) ∙ ap (lay cells n) (sym (o ts) ∙ ap of q)
-      go (fault j z) p things end e = let no : _≡_ {A = ℕ} 0 1 = cc in absurd (omega arith)
+      makes-behind (λ things. a ∷ things) f g of others first s cells mid n (manyOf size turn (room - size a) left) (manyOf size turn room l) r after (by-turn ∙ rw t) o m k

@@ -82,6 +82,15 @@ reads-on s P Q next (fault n left) h f = h
 pub reads-then : {A B : Type 0} (s : List ℕ) (P : A → List ℕ → Type 0) (Q : B → List ℕ → Type 0) (next : A → List ℕ → Found B) (x : Found A) → Reads s P x → ((a : A) (left : List ℕ) → P a left → Reads left Q (next a left)) → Reads s Q (andThen x next)
 reads-then s P Q next x h f = reads-on s P Q next x h (λ a left t p. reads-in t Q (next a left) (f a left p))
 
+-- one reading after another: how they are grouped, and alike ones
+pub then-then : {A B C : Type 0} (x : Found A) (f : A → List ℕ → Found B) (g : B → List ℕ → Found C) → andThen (andThen x f) g ≡ andThen x (λ a left. andThen (f a left) g)
+then-then (found a left) f g = refl
+then-then (fault n left) f g = refl
+
+pub then-alike : {A B : Type 0} (x : Found A) (f g : A → List ℕ → Found B) → ((a : A) (left : List ℕ) → f a left ≡ g a left) → andThen x f ≡ andThen x g
+then-alike (found a left) f g e = e a left
+then-alike (fault n left) f g e = refl
+
 -- two readings that go on alike after whatever the first one finds
 pub then-same : {A B : Type 0} (s : List ℕ) (P : A → List ℕ → Type 0) (x : Found A) (f g : A → List ℕ → Found B) → Reads s P x → ((a : A) (left : List ℕ) → Tail s left → P a left → f a left ≡ g a left) → andThen x f ≡ andThen x g
 then-same s P (found a left) f g h e = e a left (h .0) (h .1)

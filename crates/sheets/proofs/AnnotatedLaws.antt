@@ -19,17 +19,19 @@ use Rattle.paper.proofs.Annotations.{ReadAnnotations, annotations-reads}
 use Rattle.paper.proofs.Widths.{tabs-wide, annotations-wide, concept-wide}
 use Rattle.paper.proofs.Concepts.{ReadConcept, concept-reads}
 use Rattle.paper.proofs.Sizes.{notes-size}
+use Rattle.text.proofs.Stretch.{Stretch, behind-at}
 use Rattle.entries.specs.Laid.{lay, slotAfter}
 use Rattle.entries.specs.declared.Slot.{Slot}
 use Rattle.entries.proofs.Laying.{lay-append}
+use Rattle.entries.proofs.Slots.{fits-after}
 use Rattle.lines.specs.Parts.{Makes}
 use Rattle.lines.specs.declared.part.Part.{Part}
 use Rattle.lines.specs.declared.part.Part.the-variants.{Read, Refused}
-use Rattle.lines.proofs.Crossing.{Stretch, behind-at, FoundAt, found-at, makes-passed, makes-read}
+use Rattle.lines.proofs.Crossing.{FoundAt, found-at, makes-passed, makes-read}
 use Rattle.lines.proofs.Lengths.{notes-long}
 use Rattle.lines.proofs.NoteRuns.{All}
 use Rattle.sheets.specs.Concepts.{Stands, wholeConcept, Annotated, annotatedOf, annotatedSize, annotatedCount, annotatedEntries}
-use Rattle.sheets.proofs.Slots.{fits-after, stands-on}
+use Rattle.sheets.proofs.Slots.{stands-on}
 
 -- ---- what reading finds
 

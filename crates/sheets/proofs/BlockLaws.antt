@@ -15,12 +15,13 @@ use Rattle.paper.specs.Reading.{Bounds, isTab, lineRest, closing, blockOf, body
 use Rattle.paper.proofs.Markers.{closing-reads}
 use Rattle.paper.proofs.Concepts.{ReadBody, body-reads}
 use Rattle.paper.proofs.Fuel.{block-of}
+use Rattle.text.proofs.Stretch.{Stretch, behind-at}
 use Rattle.entries.specs.Laid.{lay}
 use Rattle.entries.specs.declared.Slot.{Slot}
 use Rattle.lines.specs.Parts.{seen, passed, Makes}
 use Rattle.lines.specs.declared.part.Part.{Part}
 use Rattle.lines.specs.declared.part.Part.the-variants.{Read, Refused}
-use Rattle.lines.proofs.Crossing.{Stretch, behind-at, found-at, makes-passed, makes-read}
+use Rattle.lines.proofs.Crossing.{found-at, makes-passed, makes-read}
 use Rattle.lines.proofs.Ends.{RestAt}
 use Rattle.lines.proofs.Lengths.{blank-long}
 use Rattle.sheets.specs.Concepts.{Stands, insideSize, insideCount, bodyOfConcept}

@@ -16,13 +16,12 @@ use Rattle.paper.specs.Entries.{Entry, annotationEntries, conceptSize, bodySize
 use Rattle.paper.specs.Reading.{lineRest, isBlankLine, isTab, tabsOnly, annotations, conceptOf, bodyOf, boundsOf}
 use Rattle.paper.proofs.Tests.{split, when-true, when-false}
 use Rattle.paper.proofs.Lists.{starts-is}
-use Rattle.paper.proofs.Finds.{Reads, reads-then, reads-on, reads-map}
+use Rattle.paper.proofs.Finds.{Reads, reads-then, reads-on, reads-map, then-then, then-alike}
 use Rattle.paper.proofs.Lines.{ReadBlank, rest-reads, tabs-covers, only-reads, marked-line, only-complete}
 use Rattle.paper.proofs.Widths.{blank-wide}
 use Rattle.paper.proofs.Fuel.{body-of-blank, body-of-fault, body-of-closing, body-of-element}
 use Rattle.lines.proofs.Lengths.{tabs-long, blank-long, notes-long}
 use Rattle.sheets.specs.Concepts.{annotatedOf, pieceOf}
-use Rattle.sheets.proofs.Readings.{then-then, then-alike}
 use Rattle.sheets.proofs.Lengths.{concept-long}
 use Rattle.sheets.proofs.AnnotatedLaws.{ReadAnnotated, annotated-reads}
 

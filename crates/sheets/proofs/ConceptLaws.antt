@@ -23,16 +23,17 @@ use Rattle.modes.specs.Table.{modesOf}
 use Rattle.entries.specs.Laid.{lay, slotAfter, slotUnder}
 use Rattle.entries.specs.declared.Slot.{Slot}
 use Rattle.entries.proofs.Laying.{lay-none, lay-append, lay-before}
+use Rattle.entries.proofs.Slots.{fits-on}
 use Rattle.values.specs.declared.nesting.Nesting.{Nesting}
 use Rattle.lines.specs.Parts.{seen, Makes, part, contentEntries}
 use Rattle.lines.specs.declared.part.Part.{Part}
 use Rattle.lines.proofs.Crossing.{FoundAt, found-at, makes-passed, makes-read}
+use Rattle.lines.proofs.ReadAt.{part-is}
 use Rattle.sheets.specs.declared.opening.Opening.{Opening}
 use Rattle.sheets.specs.declared.opening.Opening.the-variants.{Opened, Refused}
 use Rattle.sheets.specs.Opening.{Marked, markedOf, formIn, partOf, madeBy, traitsIn, enteredBy, Opens}
 use Rattle.sheets.specs.Concepts.{Stands, wholeConcept, endedBy, cellsEnded, Ends, insideOf, insideSize, insideCount, bodyOfConcept}
-use Rattle.sheets.proofs.Slots.{fits-on, stands-on}
-use Rattle.sheets.proofs.ReadAt.{part-is}
+use Rattle.sheets.proofs.Slots.{stands-on}
 use Rattle.sheets.proofs.Lengths.{marker-long, concept-long, body-few}
 use Rattle.sheets.proofs.Marked.{marked-reads, not-absent, after, concept-marked, endingOf, Formed, inside-reads}
 

@@ -1,7 +1,5 @@
 -- Laws that the proofs of this crate use, over plain lists and numbers.
-pub mod Readings
 pub mod Slots
-pub mod ReadAt
 pub mod Lengths
 pub mod TraitLaws
 pub mod TraitRuns

@@ -15,7 +15,7 @@ use Rattle.paper.specs.Grammar.{inMode}
 use Rattle.paper.specs.Entries.{traitsSize, markerOf, conceptForm}
 use Rattle.paper.specs.Reading.{due, name, Opened, opened, admitted, contentOf, conceptOf, blockOf, boundsOf}
 use Rattle.paper.proofs.Tests.{true-false}
-use Rattle.paper.proofs.Finds.{Tail, whole, tail-then, tail-drop, Reads, reads-as, reads-in, reads-on, reads-map, then-same}
+use Rattle.paper.proofs.Finds.{Tail, whole, tail-then, tail-drop, Reads, reads-as, reads-in, reads-on, reads-map, then-same, then-then, then-alike}
 use Rattle.paper.proofs.Lines.{ReadName, name-reads, due-reads}
 use Rattle.paper.proofs.Content.{content-reads}
 use Rattle.paper.proofs.Markers.{ReadOpened, opened-reads}
@@ -23,7 +23,6 @@ use Rattle.paper.proofs.Concepts.{Admits, admitted-reads, Opens, opens-made, ch
 use Rattle.paper.proofs.Fuel.{behindMarker, concept-of}
 use Rattle.sheets.specs.Opening.{Marked, headOf, restOf, namedOf, markedOf, formIn}
 use Rattle.sheets.specs.Concepts.{insideOf}
-use Rattle.sheets.proofs.Readings.{then-then, then-alike}
 
 -- ---- the marker
 

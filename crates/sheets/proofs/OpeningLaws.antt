@@ -23,6 +23,7 @@ use Rattle.paper.specs.Entries.{Entry, traitsSize, traitEntries}
 use Rattle.paper.specs.Reading.{due, name, makes, ending, opened, admitted, boundsOf}
 use Rattle.paper.proofs.Lines.{makes-complete}
 use Rattle.paper.proofs.Markers.{ReadTraits, traits-reads, ending-reads}
+use Rattle.text.proofs.Stretch.{Stretch, behind-at}
 use Rattle.entries.specs.Laid.{lay, slotUnder, Fits}
 use Rattle.entries.specs.declared.Slot.{Slot}
 use Rattle.values.specs.declared.nesting.Nesting.{Nesting}
@@ -32,13 +33,13 @@ use Rattle.lines.specs.declared.part.Part.{Part}
 use Rattle.lines.specs.declared.part.Part.the-variants.{Read}
 use Rattle.lines.specs.declared.marks.Ending.{Ending}
 use Rattle.lines.specs.declared.marks.Ending.the-variants.{Block, Closed}
-use Rattle.lines.proofs.Crossing.{Stretch, behind-at, FoundAt, found-at, refused-then, makes-refused, makes-passed, makes-read}
+use Rattle.lines.proofs.Crossing.{FoundAt, found-at, refused-then, makes-refused, makes-passed, makes-read}
 use Rattle.lines.proofs.Closing.{part-length}
+use Rattle.lines.proofs.ReadAt.{DueAt, part-is}
 use Rattle.sheets.specs.Traits.{traitsOf}
 use Rattle.sheets.specs.Opening.{Marked, headOf, heldOf, namedOf, markedOf, blockForm, formIn, partOf, madeBy, traitsIn, enteredBy, Opens}
 use Rattle.sheets.specs.declared.opening.Opening.{Opening}
 use Rattle.sheets.specs.declared.opening.Opening.the-variants.{Opened, Refused}
-use Rattle.sheets.proofs.ReadAt.{DueAt, part-is}
 use Rattle.sheets.proofs.Marked.{ReadHead, head-reads}
 
 -- ---- an answer: refused, or read

@@ -27,8 +27,8 @@ use Rattle.lines.specs.declared.part.Part.{Part}
 use Rattle.lines.specs.declared.part.Part.the-variants.{Read, Refused}
 use Rattle.lines.proofs.Crossing.{further, FoundAt, found-at, makes-passed, makes-read, makes-same}
 use Rattle.lines.proofs.Ends.{RestAt}
+use Rattle.lines.proofs.Turns.{makes-behind}
 use Rattle.sheets.specs.Concepts.{Stands, Annotated, annotatedOf, annotatedSize, annotatedCount, annotatedEntries, pieceOf}
-use Rattle.sheets.proofs.Readings.{makes-behind}
 use Rattle.sheets.proofs.Lengths.{body-long, body-few}
 use Rattle.sheets.proofs.AnnotatedLaws.{ReadAnnotated, annotated-reads}
 use Rattle.sheets.proofs.Bodies.{joined, joined-size, joined-count, joined-entries, body-over, body-on, onward, ofTabs, piece-blank, piece-line, ReadPiece, piece-reads}

@@ -21,7 +21,7 @@ use Rattle.paper.specs.Entries.{noParent, sheetSize, entries, filled, allCells}
 use Rattle.paper.specs.Reading.{blankLines, isTab, tabsOnly, annotations, conceptOf, lastBlanks, sheetTree, roomOf, sheetOf, Reading, reading, boundsOf}
 use Rattle.paper.proofs.Told.{number-positive}
 use Rattle.paper.proofs.Tests.{split}
-use Rattle.paper.proofs.Finds.{Finds, Reads as ReadsIn}
+use Rattle.paper.proofs.Finds.{Finds, Reads as ReadsIn, then-then, then-alike}
 use Rattle.paper.proofs.Lines.{ReadBlanks, blanks-reads, only-reads}
 use Rattle.paper.proofs.Sheets.{ReadSheet, sheet-reads}
 use Rattle.paper.proofs.Before.{Only, bytes-only}
@@ -40,7 +40,6 @@ use Rattle.lines.proofs.Crossing.{seen-map, FoundAt, found-at, fault-at, refuse
 use Rattle.lines.proofs.Lengths.{blanks-long}
 use Rattle.sheets.specs.Concepts.{Stands, Annotated, annotatedOf, annotatedSize, annotatedCount, annotatedEntries}
 use Rattle.sheets.specs.Sheets.{toldOf, Reads, rootCount, restOf}
-use Rattle.sheets.proofs.Readings.{then-then, then-alike}
 use Rattle.sheets.proofs.AnnotatedLaws.{ReadAnnotated, annotated-reads}
 
 -- ---- blank lines, by their place

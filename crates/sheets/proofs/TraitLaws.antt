@@ -29,6 +29,7 @@ use Rattle.text.proofs.Places.{place-back}
 use Rattle.entries.specs.Laid.{lay, slotUnder, Fits}
 use Rattle.entries.specs.declared.Slot.{Slot}
 use Rattle.entries.proofs.Laying.{lay-before}
+use Rattle.entries.proofs.Slots.{fits-under}
 use Rattle.values.specs.declared.read.Read.{Read as Whole}
 use Rattle.values.specs.declared.entering.Entered.{Entered}
 use Rattle.values.specs.declared.entering.Entered.the-variants.{Items, Full}
@@ -38,9 +39,8 @@ use Rattle.lines.specs.Parts.{Seen, seen, passed, Makes, In}
 use Rattle.lines.specs.declared.part.Part.{Part}
 use Rattle.lines.specs.declared.part.Part.the-variants.{Read, Refused}
 use Rattle.lines.proofs.Crossing.{found-at, makes-refused, makes-passed, makes-read}
+use Rattle.lines.proofs.ReadAt.{DueAt, NameAt}
 use Rattle.sheets.specs.Traits.{valueIn, oneTrait}
-use Rattle.sheets.proofs.Slots.{fits-under}
-use Rattle.sheets.proofs.ReadAt.{DueAt, NameAt}
 
 -- ---- a value's answer as that of a part, without its form
 

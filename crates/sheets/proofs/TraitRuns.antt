@@ -23,12 +23,13 @@ use Rattle.paper.proofs.ReadValues.{value-length}
 use Rattle.paper.proofs.Markers.{ReadTrait, trait-reads, trait-shorter}
 use Rattle.paper.proofs.Sizes.{item-size}
 use Rattle.text.proofs.Places.{here}
+use Rattle.text.proofs.Stretch.{Stretch, front-at, behind-none, behind-some}
 use Rattle.entries.specs.Laid.{slotAfter}
 use Rattle.entries.specs.declared.Slot.{Slot}
 use Rattle.lines.specs.Parts.{seen, seenOf, Makes}
 use Rattle.lines.specs.declared.part.Part.{Part}
 use Rattle.lines.specs.declared.part.Part.the-variants.{Read, Refused}
-use Rattle.lines.proofs.Crossing.{Stretch, front-at, behind-none, behind-some, says-cut, says-refused, FoundAt, found-at, makes-same}
+use Rattle.lines.proofs.Crossing.{says-cut, says-refused, FoundAt, found-at, makes-same}
 use Rattle.lines.proofs.Turns.{makes-over, makes-stop, makes-more}
 use Rattle.lines.proofs.Closing.{part-length}
 use Rattle.sheets.specs.Traits.{traitsOf, oneTrait}

@@ -7,9 +7,10 @@ use borrow.Author.Needs.{needs}
 use Rattle.paper.specs.Reading.{boundsOf}
 use Rattle.modes.specs.Table.{modesOf}
 use Rattle.entries.specs.declared.Slot.{Slot}
+use Rattle.entries.proofs.Slots.{fits-after}
 use Rattle.lines.proofs.Ends.{RestAt, rest-at}
 use Rattle.sheets.proofs.ConceptLaws.{inside-closed, inside-block, inside-content, marker-refused, MarkerAt, marker-ahead, lent-stands, may-end, concept-ended}
-use Rattle.sheets.proofs.Slots.{fits-after, stands-on}
+use Rattle.sheets.proofs.Slots.{stands-on}
 use Rattle.sheets.proofs.PieceLaws.{blank-made, tabs-refused, concept-refused, ConceptAt, concept-at, rest-refused, piece-made, Pieces, pieces-begin, pieces-over, pieces-refused, piece-ahead, pieces-on}
 use Rattle.sheets.proofs.AnnotatedLaws as annotated
 use Rattle.sheets.proofs.BlockLaws as block

@@ -3,7 +3,7 @@ use mathlib.Core.Path.{sym, ap, _∙_}
 use borrow.Author.Needs.{needs}
 use Rattle.paper.specs.Bytes.{bytes, startsWith}
 use Rattle.paper.specs.Reading.{isTab}
-use Rattle.lines.proofs.Crossing.{behind-at}
+use Rattle.text.proofs.Stretch.{behind-at}
 use Rattle.sheets.proofs.concepts.is_closing.Statement.{statement}
 use Rattle.sheets.proofs.concepts.is_closing.Tie as tie
 

@@ -1,7 +1,7 @@
 -- The "<", and then the name.
 use borrow.Author.Needs.{needs}
 use Rattle.paper.specs.Bytes.{byte}
-use Rattle.sheets.proofs.ReadAt.{DueAt, due-at}
+use Rattle.lines.proofs.ReadAt.{DueAt, due-at}
 use Rattle.sheets.proofs.OpeningLaws.{no-mark, mark-named}
 use Rattle.sheets.proofs.opening.read_head.Statement.{statement}
 use Rattle.sheets.proofs.opening.read_head.Tie as tie

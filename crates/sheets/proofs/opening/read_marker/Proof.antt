@@ -4,7 +4,7 @@ use borrow.Author.Needs.{needs}
 use Rattle.paper.specs.declared.Mode.{Mode}
 use Rattle.paper.specs.Modes.{Modes}
 use Rattle.paper.specs.Tree.{block, self}
-use Rattle.sheets.proofs.Slots.{fits-under}
+use Rattle.entries.proofs.Slots.{fits-under}
 use Rattle.sheets.proofs.OpeningLaws.{traits-inside, no-room, traits-refused, TraitsAt, marker-traits, ending-refused, marker-read}
 use Rattle.sheets.proofs.opening.read_marker.Statement.{statement}
 use Rattle.sheets.proofs.opening.read_marker.Tie as tie

@@ -2,7 +2,7 @@
 use borrow.Author.Needs.{needs}
 use Rattle.paper.specs.Bytes.{byte}
 use Rattle.paper.specs.Names.{isTraitName}
-use Rattle.sheets.proofs.ReadAt.{DueAt, due-at, NameAt, name-at}
+use Rattle.lines.proofs.ReadAt.{DueAt, due-at, NameAt, name-at}
 use Rattle.sheets.proofs.TraitLaws.{behind-equals, no-name, no-equals, trait-entered}
 use Rattle.sheets.proofs.traits.read_trait.Statement.{statement}
 use Rattle.sheets.proofs.traits.read_trait.Tie as tie

@@ -4,7 +4,7 @@ use mathlib.Core.Path.{refl, sym, _∙_}
 use native.Mathlib.Omega.{arith}
 use lib.ListN.{length}
 use borrow.Author.Needs.{needs}
-use Rattle.sheets.proofs.Slots.{fits-after}
+use Rattle.entries.proofs.Slots.{fits-after}
 use Rattle.sheets.proofs.TraitRuns.{Traits, traits-begin, Begins, traits-cut, traits-over, traits-due, traits-refused, trait-ahead, traits-on}
 use Rattle.sheets.proofs.traits.read_traits.Statement.{statement}
 use Rattle.sheets.proofs.traits.read_traits.Tie as tie

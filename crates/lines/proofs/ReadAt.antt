@@ -30,6 +30,7 @@ due-at c s at r end made mine h e q =
 pub record NameAt (rule : List ℕ → Bool) (s : List ℕ) (at end : ℕ) : Type 0 where
   pub it : List ℕ
   pub finds : name rule (drop at s) ≡ found it (drop end s)
+  pub covers : drop at s ≡ it ++ drop end s
   pub long : length it ≡ end - at
   pub ahead : at ≤ end
   pub inside : end ≤ length s
@@ -40,6 +41,7 @@ name-at rule s at r end made mine h e q =
     record {
       it = f .it;
       finds = f .finds;
+      covers = f .holds .covers;
       long = omega (arith, ap length (f .holds .covers), length-append (f .it) (drop end s), length-drop at s, length-drop end s, f .ahead, f .inside);
       ahead = f .ahead;
       inside = f .inside;
