@@ -1,14 +1,17 @@
 -- The bytes of a class that stand at a place: a turn of a loop that walks them, its two ends, and what is left behind them.
 -- Over plain lists and any class. Assumes nothing.
 use Prim.Native.Nat.{ℕ, _+_, _-_, _≤_, _<_}
-use mathlib.Core.Path.{_≡_, sym, ap, _∙_}
+use mathlib.Core.Path.{_≡_, refl, sym, ap, _∙_}
 use mathlib.Core.List.{List, [], _∷_}
 use mathlib.Core.Bool.{Bool, true, false}
 use native.Mathlib.Omega.{arith}
 use native.Mathlib.Nat.{add-zero}
 use lib.ListN.{length, getD, take, drop, drop-of-length-le}
 use lib.Seq.{drop-drop}
-use Rattle.paper.specs.Bytes.{lengthIn, front, behind}
+use borrow.Author.Tests.{ne-eqb}
+use Rattle.paper.specs.Bytes.{lf, cr, isLineEnd, lengthIn, front, behind}
+use Rattle.text.specs.declared.runs.Class.{Class}
+use Rattle.text.specs.Runs.{inClass, Skips}
 use Rattle.text.proofs.Places.{here}
 
 module _ (class : ℕ → Bool) (s : List ℕ) (i : ℕ) where
@@ -42,3 +45,32 @@ module _ (class : ℕ → Bool) (s : List ℕ) (at end : ℕ) (run : Stretch cla
 
   pub behind-some : end < length s → behind class (drop at s) ≡ getD s end 0 ∷ drop (end + 1) s
   behind-some h = behind-at ∙ here s end h
+
+-- ---- places ahead, up to which all is of the class
+
+module _ (class : ℕ → Bool) (s : List ℕ) (at : ℕ) where
+  pub skips-none : at ≤ length s → Skips class s at (at + 0)
+  skips-none h = rw (add-zero at) (omega arith, h, refl)
+
+  -- one byte further
+  pub skips-on : (i : ℕ) → at + i < length s → class (getD s (at + i) 0) ≡ true → Skips class s at (at + i) → Skips class s at (at + (i + 1))
+  skips-on i h e k =
+      let next : at + (i + 1) ≡ at + i + 1 = omega arith in
+      rw next (omega arith, omega arith, sym (goes-on class s (at + i) h e) ∙ k .2)
+
+  -- one stretch after another
+  pub skips-then : (i next : ℕ) → Skips class s at i → Skips class s i next → Skips class s at next
+  skips-then i next f g = (omega (arith, f .0, g .0), g .1, g .2 ∙ f .2)
+
+  -- the run ends where it ends from there on
+  pub skips-end : (i end : ℕ) → Skips class s at i → Stretch class s i end → Stretch class s at end
+  skips-end i end f g = (g .0 ∙ f .2, omega (arith, f .0, g .1), g .2)
+
+-- a byte above every line end is text
+pub text-above : (b : ℕ) → cr < b → inClass Class.Text b ≡ true
+unfolding isLineEnd
+text-above b h = rw (ne-eqb b lf (omega arith), ne-eqb b cr (omega arith))
+
+-- the run of a class, from a place ahead on
+pub class-end : (class known : Class) (s : List ℕ) (at i end : ℕ) → class ≡ known → Skips (inClass known) s at i → Stretch (inClass known) s i end → Stretch (inClass class) s at end
+class-end class known s at i end e f g = rw e (skips-end (inClass known) s at i end f g)

@@ -2,10 +2,11 @@
 // Document 01, "The grammar", Names, Lines, Markers and Values.
 use crate::classes;
 ghost use mathlib.Core.Path.{_≡_};
+ghost use mathlib.Core.Bool.{true};
 ghost use Prim.Native.Nat.{_+_, _≤_};
 ghost use lib.ListN.{length, drop};
 ghost use Rattle.paper.specs.Bytes.{lengthIn};
-ghost use Rattle.text.specs.Runs.{inClass};
+ghost use Rattle.text.specs.Runs.{inClass, Skips};
 
 // What a run is made of: letters and digits, spaces and tabs, tabs, white space, digits, hex digits, what an IRI's
 // scheme is made of, or what is no line end.
@@ -41,6 +42,18 @@ pub fn end(s: &[u8], at: usize, class: Class) -> usize
     requires { ⌜ at ≤ length (now s) ⌝ }
     ensures { λ r. ⌜ (r ≡ at + lengthIn (inClass class) (drop at (now (s .entry)))) × (at ≤ r) × (r ≤ length (now (s .entry))) ⌝ }
 {
+    match class {
+        Class::Tab => end_from(s, skip_tabs(s, at), Class::Tab),
+        Class::Text => end_from(s, skip_text(s, at), Class::Text),
+        _ => end_from(s, at, class),
+    }
+}
+
+// The same, byte by byte.
+fn end_from(s: &[u8], at: usize, class: Class) -> usize
+    requires { ⌜ at ≤ length (now s) ⌝ }
+    ensures { λ r. ⌜ (r ≡ at + lengthIn (inClass class) (drop at (now (s .entry)))) × (at ≤ r) × (r ≤ length (now (s .entry))) ⌝ }
+{
     let mut i = at;
     while i < s.len() {
         if !is_in(class, s[i]) {
@@ -49,4 +62,66 @@ pub fn end(s: &[u8], at: usize, class: Class) -> usize
         i += 1;
     }
     i
+}
+
+// Past tabs at `at`, eight at a time.
+fn skip_tabs(s: &[u8], at: usize) -> usize
+    requires { ⌜ at ≤ length (now s) ⌝ }
+    ensures { λ r. ⌜ Skips (inClass Class.Tab) (now (s .entry)) at r ⌝ }
+{
+    let mut i = at;
+    while 8 <= s.len() - i {
+        if !are_tabs(s, i) {
+            return i;
+        }
+        i += 8;
+    }
+    i
+}
+
+// Whether the eight bytes at `at` are tabs. With no way out of the loop the compiler compares them all at once.
+fn are_tabs(s: &[u8], at: usize) -> bool
+    requires { ⌜ at + 8 ≤ length (now s) ⌝ }
+    ensures { λ r. ⌜ (r ≡ true → Skips (inClass Class.Tab) (now (s .entry)) at (at + 8)) ⌝ }
+{
+    let mut all = true;
+    let mut i = 0;
+    while i < 8 {
+        if s[at + i] != b'\t' {
+            all = false;
+        }
+        i += 1;
+    }
+    all
+}
+
+// Past bytes at `at` that are no line ends, sixteen at a time.
+fn skip_text(s: &[u8], at: usize) -> usize
+    requires { ⌜ at ≤ length (now s) ⌝ }
+    ensures { λ r. ⌜ Skips (inClass Class.Text) (now (s .entry)) at r ⌝ }
+{
+    let mut i = at;
+    while 16 <= s.len() - i {
+        if !are_text(s, i) {
+            return i;
+        }
+        i += 16;
+    }
+    i
+}
+
+// Whether the sixteen bytes at `at` are above every line end, and so are text.
+fn are_text(s: &[u8], at: usize) -> bool
+    requires { ⌜ at + 16 ≤ length (now s) ⌝ }
+    ensures { λ r. ⌜ (r ≡ true → Skips (inClass Class.Text) (now (s .entry)) at (at + 16)) ⌝ }
+{
+    let mut all = true;
+    let mut i = 0;
+    while i < 16 {
+        if s[at + i] <= b'\r' {
+            all = false;
+        }
+        i += 1;
+    }
+    all
 }

@@ -2,10 +2,11 @@
 // Document 01, "The grammar", Bytes, "Sizes" and refusal 3; RFC 3629 §4.
 use crate::parts::starts_with;
 ghost use mathlib.Core.Path.{_≡_};
-ghost use Prim.Native.Nat.{_≤_, _<_};
+ghost use mathlib.Core.Bool.{true};
+ghost use Prim.Native.Nat.{_+_, _≤_, _<_};
 ghost use lib.ListN.{length, getD, drop};
 ghost use Rattle.paper.specs.Bytes.{two, three, four, rowOf, follower, mayStand};
-ghost use Rattle.text.specs.Steps.{bitsOf, stepAt, checked};
+ghost use Rattle.text.specs.Steps.{bitsOf, stepAt, checked, checkedAt, Plain, Walks};
 
 // A place in a sheet.
 pub struct Cursor {
@@ -147,6 +148,87 @@ fn may_stand(v: u32, s: &[u8], after: usize) -> bool
     }
 }
 
+// So many bytes are looked at together.
+const BLOCK: usize = 32;
+
+// What a walk over some bytes says: all may stand, and the place behind them; or the place of the first sequence that may not.
+enum Walked {
+    To(usize),
+    Broken(usize),
+}
+
+// 1 of a byte that is a scalar value and may stand whatever follows: printing ASCII, tab and LF. Else 0.
+fn plain(b: u8) -> u8
+    ensures { λ r. ⌜ (r ≤ 1) × (r ≡ 1 → Plain b) ⌝ }
+{
+    if b == b'\t' || b == b'\n' || (b' ' <= b && b <= b'~') {
+        1
+    } else {
+        0
+    }
+}
+
+// Are the bytes of the block at `at` all plain? They are counted, with no way out of the loop, so that the compiler takes them together.
+fn is_plain_block(s: &[u8], at: usize) -> bool
+    requires { ⌜ at + 32 ≤ length (now s) ⌝ }
+    ensures { λ r. ⌜ (r ≡ true → checkedAt (now (s .entry)) (at + 32) ≡ checkedAt (now (s .entry)) at) ⌝ }
+{
+    let mut count = 0;
+    let mut i = 0;
+    while i < BLOCK {
+        count += plain(s[at + i]);
+        i += 1;
+    }
+    count == 32
+}
+
+// Walks over the one sequence that stands at `at`.
+fn walk_one(s: &[u8], at: usize) -> Walked
+    requires { ⌜ at < length (now s) ⌝ }
+    ensures { λ r. ⌜ Walks (now (s .entry)) at r ⌝ }
+{
+    let cursor = Cursor { at };
+    match cursor.step(s) {
+        Step::End => Walked::Broken(at),
+        Step::Broken => Walked::Broken(at),
+        Step::Scalar(v, next) => {
+            if !may_stand(v, s, next.at) {
+                return Walked::Broken(at);
+            }
+            Walked::To(next.at)
+        }
+    }
+}
+
+// Walks from `at` to `stop`, or over the first sequence before it that is not plain.
+fn walk(s: &[u8], at: usize, stop: usize) -> Walked
+    requires { ⌜ (at < stop) × (stop ≤ length (now s)) ⌝ }
+    ensures { λ r. ⌜ Walks (now (s .entry)) at r ⌝ }
+{
+    let mut i = at;
+    while i < stop {
+        if plain(s[i]) != 1 {
+            return walk_one(s, i);
+        }
+        i += 1;
+    }
+    Walked::To(i)
+}
+
+// Walks over the block at `at`, or over what is left where that is less.
+fn walk_block(s: &[u8], at: usize) -> Walked
+    requires { ⌜ at < length (now s) ⌝ }
+    ensures { λ r. ⌜ Walks (now (s .entry)) at r ⌝ }
+{
+    if s.len() - at < BLOCK {
+        return walk(s, at, s.len());
+    }
+    if is_plain_block(s, at) {
+        return Walked::To(at + BLOCK);
+    }
+    walk(s, at, at + BLOCK)
+}
+
 // Are the bytes of s UTF-8, all of it allowed in a sheet, with no byte order mark in front?
 pub fn check(s: &[u8]) -> Checked
     ensures { λ r. ⌜ r ≡ checked (now (s .entry)) ⌝ }
@@ -154,21 +236,16 @@ pub fn check(s: &[u8]) -> Checked
     if starts_with(s, 0, b"\xEF\xBB\xBF") {
         return Checked::Broken(0);
     }
-    let mut cursor = Cursor::new();
-    loop {
-        match cursor.step(s) {
-            Step::End => {
-                return Checked::Sound;
+    let mut i = 0;
+    while i < s.len() {
+        match walk_block(s, i) {
+            Walked::Broken(place) => {
+                return Checked::Broken(place);
             }
-            Step::Broken => {
-                return Checked::Broken(cursor.at);
-            }
-            Step::Scalar(v, next) => {
-                if !may_stand(v, s, next.at) {
-                    return Checked::Broken(cursor.at);
-                }
-                cursor = next;
+            Walked::To(next) => {
+                i = next;
             }
         }
     }
+    Checked::Sound
 }

@@ -1,21 +1,19 @@
--- The loop's invariant: the check from the cursor on answers as the whole does; the measure is what is left behind it. Assumes nothing.
+-- The loop's invariant: the check from `i` on answers as the whole does; the measure is what is left behind it. Assumes nothing.
 use borrow.Author.Needs.{needs}
-use mathlib.Core.Path.{_≡_, sym, _∙_}
+use mathlib.Core.Path.{_≡_, refl, sym, _∙_}
 use native.Mathlib.Omega.{arith}
-use Prim.Native.Nat.{_-_}
+use Prim.Native.Nat.{_-_, _≤_}
 use lib.ListN.{length}
-use borrow.Author.Tests.{not-true, not-false}
-use Rattle.text.specs.Steps.{checked}
-use Rattle.text.proofs.Checks.{checkedAt, check-mark, check-start, check-end, check-broken, check-stop, check-on}
-use Rattle.text.proofs.Steps.{stepped}
+use Rattle.text.specs.Steps.{checked, checkedAt}
+use Rattle.text.proofs.Checks.{check-mark, check-start, check-out, walked-to, walked-broken}
 use Rattle.text.proofs.utf8.check.Statement.{statement}
 use Rattle.text.proofs.utf8.check.Tie as tie
 
 abbrev Inv-loop : tie.InvT-loop
-Inv-loop s cursor₀ cursor = checkedAt s (cursor .at) ≡ checked s
+Inv-loop s i₀ i = (i ≤ length s) × (checkedAt s i ≡ checked s)
 
 abbrev μ-loop : tie.MeasureT-loop
-μ-loop s cursor₀ cursor = length s - cursor .at
+μ-loop s i₀ i = length s - i
 
 slice-aggregate-starts-with : tie.Need-slice-aggregate-starts-with Inv-loop μ-loop
 slice-aggregate-starts-with c = search needs
@@ -26,41 +24,37 @@ starts-with-requires c κs = search needs
 returns : tie.Need-returns Inv-loop μ-loop
 returns c = check-mark _ (sym (c .before .starts-with .ensures) ∙ c .if1 .taken)
 
-new-requires : tie.Need-new-requires Inv-loop μ-loop
-new-requires c κs = search needs
-
 loop-holds : tie.Need-loop-holds Inv-loop μ-loop
-loop-holds c = check-start _ _ (c .new .ensures) (sym (c .before .before .starts-with .ensures) ∙ c .before .if1 .left)
+loop-holds c = (omega arith, check-start _ _ refl (sym (c .before .starts-with .ensures) ∙ c .if1 .left))
 
-step-requires : tie.Need-step-requires Inv-loop μ-loop
-step-requires c κs = search needs
+walk-block-requires : tie.Need-walk-block-requires Inv-loop μ-loop
+walk-block-requires c κs = search needs
 
-enum-told : tie.Need-enum-told Inv-loop μ-loop
-enum-told c = search needs
+enum-known-place : tie.Need-enum-known-place Inv-loop μ-loop
+enum-known-place c = search needs
 
 returns-2 : tie.Need-returns-2 Inv-loop μ-loop
-returns-2 c = check-end (c .before .before .before .before .before .before .before .before .before .args .s .now) (c .before .before .before .loop .cursor .at) (sym (c .enum-told .given .1) ∙ c .before .before .step .ensures) ∙ c .before .before .before .loop .inv
+returns-2 c =
+    let turn = c .before .before .before in
+    walked-broken _ _ (turn .walk-block .result) _ (c .before .place .given .1) (turn .walk-block .ensures) ∙ turn .before .before .loop .inv .1
 
-enum-told-2 : tie.Need-enum-told-2 Inv-loop μ-loop
-enum-told-2 c = search needs
-
-returns-3 : tie.Need-returns-3 Inv-loop μ-loop
-returns-3 c = check-broken _ _ (sym (c .enum-told2 .given .1) ∙ c .before .before .step .ensures) ∙ c .before .before .before .loop .inv
-
-enum-known-v : tie.Need-enum-known-v Inv-loop μ-loop
-enum-known-v c = search needs
-
-may-stand-requires : tie.Need-may-stand-requires Inv-loop μ-loop
-may-stand-requires c κs = search needs
-
-returns-4 : tie.Need-returns-4 Inv-loop μ-loop
-returns-4 c = check-stop _ _ _ _ (stepped (c .before .before .before .before .before .before .before .before .before .before .before .before .args .s .now) (c .before .before .before .before .before .before .loop .cursor .at) _ _ (sym (c .before .before .before .v .given .1) ∙ c .before .before .before .before .before .step .ensures)) (sym (c .before .may-stand .ensures) ∙ not-true _ (c .if2 .taken)) ∙ c .before .before .before .before .before .before .loop .inv
+enum-known-next : tie.Need-enum-known-next Inv-loop μ-loop
+enum-known-next c = search needs
 
 loop-less : tie.Need-loop-less Inv-loop μ-loop
-loop-less c = let f = stepped (c .before .before .before .before .before .before .before .before .before .before .before .before .args .s .now) (c .before .before .before .before .before .before .loop .cursor .at) _ _ (sym (c .before .before .before .v .given .1) ∙ c .before .before .before .before .before .step .ensures) in omega arith
+loop-less c =
+    let turn = c .before .before .before in
+    let w = walked-to _ (turn .before .before .loop .i) (turn .walk-block .result) _ (c .before .next .given .1) (turn .walk-block .ensures) in
+    omega (arith, w .0, w .1)
 
 loop-again : tie.Need-loop-again Inv-loop μ-loop
-loop-again c = check-on _ _ _ _ (stepped (c .before .before .before .before .before .before .before .before .before .before .before .before .args .s .now) (c .before .before .before .before .before .before .loop .cursor .at) _ _ (sym (c .before .before .before .v .given .1) ∙ c .before .before .before .before .before .step .ensures)) (sym (c .before .may-stand .ensures) ∙ not-false _ (c .if2 .left)) ∙ c .before .before .before .before .before .before .loop .inv
+loop-again c =
+    let turn = c .before .before .before in
+    let w = walked-to _ (turn .before .before .loop .i) (turn .walk-block .result) _ (c .before .next .given .1) (turn .walk-block .ensures) in
+    (w .1, w .2 ∙ turn .before .before .loop .inv .1)
+
+returns-3 : tie.Need-returns-3 Inv-loop μ-loop
+returns-3 c = check-out _ _ (c .loop-test .left) ∙ c .before .loop .inv .1
 
 pub check-spec : {M : Type 1} → statement M
 check-spec =
@@ -71,15 +65,11 @@ check-spec =
     slice-aggregate-starts-with
     starts-with-requires
     returns
-    new-requires
     loop-holds
-    step-requires
-    enum-told
+    walk-block-requires
+    enum-known-place
     returns-2
-    enum-told-2
-    returns-3
-    enum-known-v
-    may-stand-requires
-    returns-4
+    enum-known-next
     loop-less
-    loop-again)
+    loop-again
+    returns-3)

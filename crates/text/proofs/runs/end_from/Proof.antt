@@ -1,0 +1,64 @@
+-- The invariant: the run from `i` on ends where the run from `at` on ends.
+-- The measure is what is left of the slice.
+use Prim.Native.Nat.{_+_, _≤_, _-_}
+use mathlib.Core.Path.{_≡_, sym, _∙_}
+use native.Mathlib.Omega.{arith}
+use lib.ListN.{length, drop}
+use borrow.Author.Needs.{needs}
+use borrow.Author.Tests.{not-true, not-false}
+use Rattle.paper.specs.Bytes.{lengthIn}
+use Rattle.text.specs.Runs.{inClass}
+use Rattle.text.proofs.Stretch.{goes-on, stops, cut-off}
+use Rattle.text.proofs.runs.end_from.Statement.{statement}
+use Rattle.text.proofs.runs.end_from.Tie as tie
+
+abbrev Inv-loop : tie.InvT-loop
+Inv-loop s at class i₀ i = (at ≤ i) × (i ≤ length s) × (i + lengthIn (inClass class) (drop i s) ≡ at + lengthIn (inClass class) (drop at s))
+
+abbrev μ-loop : tie.MeasureT-loop
+μ-loop s at class i₀ i = length s - i
+
+loop-holds : tie.Need-loop-holds Inv-loop μ-loop
+loop-holds c = search needs
+
+shared-slice-read-is-in : tie.Need-shared-slice-read-is-in Inv-loop μ-loop
+shared-slice-read-is-in c = search needs
+
+is-in-requires : tie.Need-is-in-requires Inv-loop μ-loop
+is-in-requires c κs = search needs
+
+returns : tie.Need-returns Inv-loop μ-loop
+returns c =
+    let turn = c .before .before .before in
+    let other = sym (c .before .is-in .ensures) ∙ not-true _ (c .if1 .taken) in
+    (sym (stops _ _ _ (turn .loop-test .taken) other) ∙ turn .before .loop .inv .2, omega arith, omega arith)
+
+add-i : tie.Need-add-i Inv-loop μ-loop
+add-i c = omega arith
+
+loop-less : tie.Need-loop-less Inv-loop μ-loop
+loop-less c = omega arith
+
+loop-again : tie.Need-loop-again Inv-loop μ-loop
+loop-again c =
+    let turn = c .before .before .before in
+    let byte = sym (c .before .is-in .ensures) ∙ not-false _ (c .if1 .left) in
+    (omega arith, omega arith, sym (goes-on _ _ _ (turn .loop-test .taken) byte) ∙ turn .before .loop .inv .2)
+
+returns-2 : tie.Need-returns-2 Inv-loop μ-loop
+returns-2 c = (sym (cut-off _ _ _ (c .loop-test .left)) ∙ c .before .loop .inv .2, omega arith, omega arith)
+
+pub end-from-spec : {M : Type 1} → statement M
+end-from-spec =
+    tie.close
+    (tie.spec
+    Inv-loop
+    μ-loop
+    loop-holds
+    shared-slice-read-is-in
+    is-in-requires
+    returns
+    add-i
+    loop-less
+    loop-again
+    returns-2)
