@@ -281,7 +281,7 @@ pub record Stands (by : Bounds) (deeper room : ℕ) (k : Marker) (e : Ending) (m
   pub fits : suc (traitsSize (k .traits)) ≤ room
 
 -- reading a Concept whose marker stands there goes on behind the marker
-abbrev afterMarker : Bounds → ℕ → ℕ → ℕ → ℕ → List ℕ → Marker → Mode → List ℕ → Ending → Found Concept
+abbrev pub afterMarker : Bounds → ℕ → ℕ → ℕ → ℕ → List ℕ → Marker → Mode → List ℕ → Ending → Found Concept
 afterMarker by fuel deeper room tabs named k mode left self = found (selfClosed k) left
 afterMarker by fuel deeper room tabs named k mode left block =
     elim mode [
@@ -290,7 +290,7 @@ afterMarker by fuel deeper room tabs named k mode left block =
       | Absent ↦ fault 5 named
     ]
 
-marker-complete : (by : Bounds) (fuel deeper room tabs : ℕ) (k : Marker) (e : Ending) (mode : Mode) (next : List ℕ) → Stands by deeper room k e mode → concept by (suc fuel) deeper room tabs (markerOnto k (endingOnto e next)) ≡ afterMarker by fuel deeper room tabs (k .name ++ traitsOnto (k .traits) (k .white ++ endingOnto e next)) k mode next e
+pub marker-complete : (by : Bounds) (fuel deeper room tabs : ℕ) (k : Marker) (e : Ending) (mode : Mode) (next : List ℕ) → Stands by deeper room k e mode → concept by (suc fuel) deeper room tabs (markerOnto k (endingOnto e next)) ≡ afterMarker by fuel deeper room tabs (k .name ++ traitsOnto (k .traits) (k .white ++ endingOnto e next)) k mode next e
 unfolding concept markerRule markerFits isName
 marker-complete by fuel deeper room tabs k e mode next p =
     let m = both _ (all isWhite (k .white)) (p .rule) in
@@ -307,7 +307,7 @@ marker-complete by fuel deeper room tabs k e mode next p =
     same-end named block = refl
 
 -- what a mode's test says
-mode-is : (mode : Mode) (m : Modes) (w : List ℕ) → inMode mode m w ≡ true → modeOf m w ≡ mode
+pub mode-is : (mode : Mode) (m : Modes) (w : List ℕ) → inMode mode m w ≡ true → modeOf m w ≡ mode
 unfolding inMode
 mode-is mode m w e = go mode (modeOf m w) refl e
   where
@@ -322,11 +322,11 @@ mode-is mode m w e = go mode (modeOf m w) refl e
     go Absent Content f e = true-false (sym e ∙ rw (f, inMode))
     go Absent Absent f e = f
 
-listed-children : (m : Modes) (w : List ℕ) → modeOf m w ≡ Children → inMode Absent m w ≡ false
+pub listed-children : (m : Modes) (w : List ℕ) → modeOf m w ≡ Children → inMode Absent m w ≡ false
 unfolding inMode
 listed-children m w e = rw (e, inMode)
 
-listed-content : (m : Modes) (w : List ℕ) → modeOf m w ≡ Content → inMode Absent m w ≡ false
+pub listed-content : (m : Modes) (w : List ℕ) → modeOf m w ≡ Content → inMode Absent m w ≡ false
 unfolding inMode
 listed-content m w e = rw (e, inMode)
 
@@ -402,7 +402,7 @@ blank-ends b next r = ap atLineEnd (behind-of isBlank (b .blanks) (lineEndOnto (
     go LF = refl
     go CRLF = refl
 
-marker-name : (k : Marker) → markerRule k ≡ true → nameRule isUpper (k .name) ≡ true
+pub marker-name : (k : Marker) → markerRule k ≡ true → nameRule isUpper (k .name) ≡ true
 unfolding markerRule
 marker-name k r = both (nameRule isUpper (k .name)) (all traitRule (k .traits)) (both _ (all isWhite (k .white)) r .0) .0
 
@@ -410,10 +410,10 @@ closing-tab : (w next : List ℕ) → startsIn isTab (closingOnto w next) ≡ fa
 unfolding startsIn
 closing-tab w next = refl
 
-no-self : {X : Type 0} → self ≡ block → X
+pub no-self : {X : Type 0} → self ≡ block → X
 no-self e = let z : _≡_ {A = ℕ} 0 1 = cc in absurd (omega arith)
 
-block-parts : (a b c d e : Bool) → a && b && c && d && e ≡ true → (a ≡ true) × (b ≡ true) × (c ≡ true) × (d ≡ true) × (e ≡ true)
+pub block-parts : (a b c d e : Bool) → a && b && c && d && e ≡ true → (a ≡ true) × (b ≡ true) × (c ≡ true) × (d ≡ true) × (e ≡ true)
 block-parts a b c d e r =
     let p = both (a && b && c && d) e r in
     let q = both (a && b && c) d (p .0) in
@@ -453,7 +453,7 @@ mutual
       ∙ children-complete by k rest inner back fuel (deeper - 1) (room - 1 - traitsSize (k .traits)) next (rule-name isUpper (k .name) (marker-name k (p .0))) (p .3) (p .4) (q .1) (omega arith) (omega arith)
       (omega (arith, marker-wide k block behind, rule-name isUpper (k .name) (marker-name k (p .0)) .1))
 
-  children-complete : (by : Bounds) (k : Marker) (rest : Blank) (inner : Body) (back fuel deeper room : ℕ) (next : List ℕ) → (all isNameByte (k .name) ≡ true) × (0 < length (k .name)) → blankRule rest ≡ true → bodyRule (by .modes) inner ≡ true → bodyFits (by .names) (by .lists) inner ≡ true → bodyDepth inner ≤ deeper → bodySize inner ≤ room → length (blankOnto rest (bodyOnto inner (tabsOnto back (closingOnto (k .name) next)))) + 2 < fuel → childrenOf by fuel deeper room k (blankOnto rest (bodyOnto inner (tabsOnto back (closingOnto (k .name) next)))) ≡ found (children k rest inner back) next
+  pub children-complete : (by : Bounds) (k : Marker) (rest : Blank) (inner : Body) (back fuel deeper room : ℕ) (next : List ℕ) → (all isNameByte (k .name) ≡ true) × (0 < length (k .name)) → blankRule rest ≡ true → bodyRule (by .modes) inner ≡ true → bodyFits (by .names) (by .lists) inner ≡ true → bodyDepth inner ≤ deeper → bodySize inner ≤ room → length (blankOnto rest (bodyOnto inner (tabsOnto back (closingOnto (k .name) next)))) + 2 < fuel → childrenOf by fuel deeper room k (blankOnto rest (bodyOnto inner (tabsOnto back (closingOnto (k .name) next)))) ≡ found (children k rest inner back) next
   children-complete by k rest inner back zero deeper room next n b r w d f l = absurd (omega arith)
   children-complete by k rest inner back (suc fuel) deeper room next n b r w d f l =
       let end = tabsOnto back (closingOnto (k .name) next) in

@@ -23,7 +23,7 @@ use Rattle.paper.proofs.Lines.{fault-end, ReadBlank, rest-reads, rest-c
 -- ---- the closing line
 
 -- the closing mark in front of what follows
-mark-onto : (tabs : ℕ) (w next : List ℕ) → tabsOnto tabs (closingOnto w next) ≡ closingMark tabs w ++ next
+pub mark-onto : (tabs : ℕ) (w next : List ℕ) → tabsOnto tabs (closingOnto w next) ≡ closingMark tabs w ++ next
 mark-onto tabs w next = sym (append-assoc (replicate tabs tab) (closingOnto w []) next ∙ ap (λ (l : List ℕ). replicate tabs tab ++ (byte "<" ∷ byte "/" ∷ l)) (append-assoc w (byte ">" ∷ []) next))
 
 pub closes-is : (tabs : ℕ) (w s : List ℕ) → closesLine tabs w s ≡ true → s ≡ tabsOnto tabs (closingOnto w (drop (length (closingMark tabs w)) s))
@@ -117,7 +117,7 @@ blanks-line tabs t e next r =
 starts-tabs : (n : ℕ) (s : List ℕ) → startsWith (tabsOnto n []) s ≡ true → s ≡ tabsOnto n (drop n s)
 starts-tabs n s e = starts-is (tabsOnto n []) s e ∙ rw (append-nil (replicate n tab), length-replicate n tab)
 
-tabs-start : (n : ℕ) (next : List ℕ) → startsWith (tabsOnto n []) (tabsOnto n next) ≡ true
+pub tabs-start : (n : ℕ) (next : List ℕ) → startsWith (tabsOnto n []) (tabsOnto n next) ≡ true
 tabs-start n next = rw (append-nil (replicate n tab)) (starts-of (replicate n tab) next)
 
 -- what stands behind the blanks of a line that is not blank
@@ -191,7 +191,7 @@ unfolding otherLine
 other-complete tabs b r t e next h =
     rw (tabs-start (suc tabs) (t ++ lineEndOnto e next), otherLine, drop-tabs (suc tabs) (t ++ lineEndOnto e next), text-complete t e next h)
 
-line-complete : (tabs : ℕ) (w : List ℕ) (room : ℕ) (l : Line) (next : List ℕ) → lineRule l ≡ true → lineTurn tabs w room (lineOnto tabs l next) ≡ more l next
+pub line-complete : (tabs : ℕ) (w : List ℕ) (room : ℕ) (l : Line) (next : List ℕ) → lineRule l ≡ true → lineTurn tabs w room (lineOnto tabs l next) ≡ more l next
 unfolding lineTurn
 line-complete tabs w room (blank b) next r = rw (blank-open tabs w b next r, lineTurn, blank-line b next r, rest-complete b next r)
 line-complete tabs w room (text t e) next r =

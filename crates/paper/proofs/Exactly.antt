@@ -47,7 +47,7 @@ abbrev pub Answers : Modes → ℕ → List ℕ → Found Sheet → Type 0
 Answers m room s (found t left) = (left ≡ []) × Accepts m room s t
 Answers m room s (fault n left) = Rejects s n left
 
-sheet-answers : (m : Modes) (room : ℕ) (s : List ℕ) → Answers m room s (sheetOf m room s)
+pub sheet-answers : (m : Modes) (room : ℕ) (s : List ℕ) → Answers m room s (sheetOf m room s)
 unfolding sheetOf withinLimits
 sheet-answers m room s =
     split (ltb sheetLimit (length s))
@@ -70,7 +70,7 @@ sheet-answers m room s =
     bytes l (fault n left) e h = record { least = omega (arith, h .0); most = omega (arith, h .0); place = omega arith; short = omega arith }
     bytes l (found vs left) e h = tree l vs (e ∙ ap (found vs) (sheet-made s vs left e .empty)) (sheetTree (boundsOf m) conceptLimit room s) (sheet-reads (boundsOf m) conceptLimit room s)
 
-sheet-accepts : (m : Modes) (room : ℕ) (s : List ℕ) (t : Sheet) → Accepts m room s t → sheetOf m room s ≡ found t []
+pub sheet-accepts : (m : Modes) (room : ℕ) (s : List ℕ) (t : Sheet) → Accepts m room s t → sheetOf m room s ≡ found t []
 unfolding sheetOf withinLimits
 sheet-accepts m room s t a =
     let d = a .derives in

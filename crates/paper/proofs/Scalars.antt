@@ -295,7 +295,7 @@ module _ (v : ℕ) (r : List ℕ) where
 
 -- ---- what is left is shorter
 
-encode-some : (v : ℕ) → 0 < length (encode v)
+pub encode-some : (v : ℕ) → 0 < length (encode v)
 encode-some v =
     upTo v 0x7F (λ h. rw (encode-one v h) (omega arith))
     (λ l. upTo v 0x7FF (λ h. rw (encode-two v l h) (omega arith))

@@ -13,3 +13,4 @@ pub mod ReadingValues
 pub mod Reading
 pub mod Canonical
 pub mod View
+pub mod Roll
