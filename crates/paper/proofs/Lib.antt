@@ -25,7 +25,9 @@ pub mod Exactly
 pub mod OnlyOne
 pub mod Starred
 pub mod RollStarred
+pub mod Beginning
 pub mod Rolls
+pub mod Boundaries
 pub mod Laid
 pub mod Meant
 pub mod Again
