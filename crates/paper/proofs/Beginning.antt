@@ -7,10 +7,11 @@ use native.Mathlib.Omega.{arith}
 use Rattle.paper.specs.Found.{Found, found, fault}
 use Rattle.paper.specs.Modes.{Modes, modeTable}
 use Rattle.paper.specs.Tree.{Sheet}
+use Rattle.paper.specs.Entries.{entries}
 use Rattle.paper.specs.Reading.{roomOf, sheetOf, refusal, reading}
 use Rattle.paper.specs.Writing.{Begun, tree, unread, begin}
 use Rattle.paper.proofs.Before.{Only, table-only, table-whole}
-use Rattle.paper.proofs.Exactly.{Answers, sheet-answers}
+use Rattle.paper.proofs.Exactly.{Answers, sheet-answers, accepting}
 
 -- the sheet reads to this tree
 pub record Sound (table s : List ℕ) (lent : ℕ) (t : Sheet) : Type 0 where
@@ -43,3 +44,7 @@ begins table s lent = by-table (modeTable table) refl (table-only table)
 pub begins-tree : {table s : List ℕ} {lent : ℕ} {t : Sheet} → Sound table s lent t → begin table s lent ≡ tree t
 unfolding begin
 begins-tree h = rw (h .valid, begin, h .read) refl
+
+pub reads-tree : {table s : List ℕ} {lent : ℕ} {t : Sheet} → Sound table s lent t → reading table s lent ≡ accepting s lent (entries t)
+unfolding reading
+reads-tree h = rw (h .valid, reading, h .read) refl

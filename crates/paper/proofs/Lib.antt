@@ -15,6 +15,7 @@ pub mod Content
 pub mod ReadValues
 pub mod Markers
 pub mod Widths
+pub mod Fronts
 pub mod Concepts
 pub mod Fuel
 pub mod Sheets
@@ -42,4 +43,6 @@ pub mod ReadsBack
 pub mod Cut
 pub mod DemandThree
 pub mod Shapes
+pub mod Telling
+pub mod DemandTwo
 pub mod AddedReads
