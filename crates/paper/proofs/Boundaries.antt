@@ -9,7 +9,7 @@ use lib.ListN.{length, take}
 use lib.Dec.{eqb}
 use borrow.Author.Tests.{eqb-true}
 use Rattle.paper.specs.Bytes.{byte, bytes, isUpper, startsIn, startsWith, lf}
-use Rattle.paper.specs.Roll.{isBoundary, Parts, parts, inFront, partsFrom, partsOf, together}
+use Rattle.paper.specs.Roll.{isBoundary, endsLine, Parts, parts, inFront, partsFrom, partsOf, together}
 use Rattle.paper.proofs.Tests.{split, true-false}
 use Rattle.paper.proofs.Lists.{both, starts-is}
 use Rattle.paper.proofs.Rolls.{whole, nothing-lost, after-end, Piece}
@@ -56,7 +56,7 @@ single-first : (p next : List ℕ) → Single p → startsIn isUpper (p ++ next)
 unfolding partsFrom isBoundary startsWith startsIn isUpper
 single-first [] next e = let z : _≡_ {A = ℕ} 0 1 = ap sheetsIn e in absurd (omega arith)
 single-first (b ∷ p) next e =
-    let h = behind-first (isBoundary (b ∷ p)) b p (partsFrom (eqb b lf) p) e in
+    let h = behind-first (isBoundary (b ∷ p)) b p (partsFrom (endsLine b) p) e in
     let k : b ∷ p ≡ byte "<" ∷ p = starts-is (bytes "<") (b ∷ p) (both (startsWith (bytes "<") (b ∷ p)) (startsIn isUpper p) (h .0) .0) in
     let q : b ≡ byte "<" = cc in
     rw q refl
@@ -75,7 +75,7 @@ own-boundary b (c ∷ lead) ps hs = refl
 abbrev pub AllSingle : Bool → Parts → Type 0
 AllSingle fresh (parts lead sheets) = Still fresh lead × Singles sheets
 
-one-byte : (fresh : Bool) (b : ℕ) (l : List ℕ) (q : Parts) → whole q ≡ l → AllSingle (eqb b lf) q → AllSingle fresh (inFront (fresh && isBoundary (b ∷ l)) b q)
+one-byte : (fresh : Bool) (b : ℕ) (l : List ℕ) (q : Parts) → whole q ≡ l → AllSingle (endsLine b) q → AllSingle fresh (inFront (fresh && isBoundary (b ∷ l)) b q)
 unfolding partsFrom
 one-byte fresh b l (parts lead sheets) w h =
     let k : isBoundary (b ∷ l) ≡ isBoundary (b ∷ lead) = ap (λ (m : List ℕ). isBoundary (b ∷ m)) (sym w) ∙ own-boundary b lead sheets (h .1) in
@@ -87,7 +87,7 @@ one-byte fresh b l (parts lead sheets) w h =
 pub parts-single : (fresh : Bool) (r : List ℕ) → AllSingle fresh (partsFrom fresh r)
 unfolding partsFrom
 parts-single fresh [] = (refl, over)
-parts-single fresh (b ∷ l) = one-byte fresh b l (partsFrom (eqb b lf) l) (nothing-lost (eqb b lf) l) (parts-single (eqb b lf) l)
+parts-single fresh (b ∷ l) = one-byte fresh b l (partsFrom (endsLine b) l) (nothing-lost (endsLine b) l) (parts-single (endsLine b) l)
 
 -- ---- a piece that lost its tail, its line end kept
 
@@ -108,8 +108,8 @@ unfolding partsFrom
 cut-still fresh zero l e = line-still fresh
 cut-still fresh (suc k) [] e = line-still fresh
 cut-still fresh (suc k) (b ∷ l) e =
-    let h = behind-still (fresh && isBoundary (b ∷ l)) b l (partsFrom (eqb b lf) l) e in
-    rw (no-boundary fresh (h .0), cut-still (eqb b lf) k l (h .1)) refl
+    let h = behind-still (fresh && isBoundary (b ∷ l)) b l (partsFrom (endsLine b) l) e in
+    rw (no-boundary fresh (h .0), cut-still (endsLine b) k l (h .1)) refl
   where
     no-boundary : (fresh : Bool) → fresh && isBoundary (b ∷ l) ≡ false → fresh && isBoundary (b ∷ (take k l ++ (lf ∷ []))) ≡ false
     no-boundary true f = cut-boundary b k l f
@@ -123,8 +123,8 @@ cut-piece (b ∷ []) k e l =
 cut-piece (b ∷ c ∷ p) zero e l = absurd (omega arith)
 cut-piece (b ∷ c ∷ p) (suc zero) e l = absurd (omega arith)
 cut-piece (b ∷ c ∷ p) (suc (suc k)) e l =
-    let h = behind-first (isBoundary (b ∷ c ∷ p)) b (c ∷ p) (partsFrom (eqb b lf) (c ∷ p)) e in
+    let h = behind-first (isBoundary (b ∷ c ∷ p)) b (c ∷ p) (partsFrom (endsLine b) (c ∷ p)) e in
     record {
-      alone = rw (two-bytes b c (take k p ++ (lf ∷ [])) p ∙ h .0, cut-still (eqb b lf) (suc k) (c ∷ p) (h .1)) refl;
+      alone = rw (two-bytes b c (take k p ++ (lf ∷ [])) p ∙ h .0, cut-still (endsLine b) (suc k) (c ∷ p) (h .1)) refl;
       closed = after-end true (b ∷ c ∷ take k p);
     }
