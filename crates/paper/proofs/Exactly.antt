@@ -13,7 +13,7 @@ use Rattle.paper.specs.Answer.{accepted}
 use Rattle.paper.specs.Found.{Found, found, fault, andThen, placeIn}
 use Rattle.paper.specs.Bytes.{sheetBytes}
 use Rattle.paper.specs.Names.{nameLimit}
-use Rattle.paper.specs.Modes.{Modes, modeTable, readTable}
+use Rattle.paper.specs.Modes.{Modes, ValidTable, modeTable, readTable}
 use Rattle.paper.specs.Tree.{Sheet}
 use Rattle.paper.specs.Grammar.{Derives}
 use Rattle.paper.specs.Limits.{sheetLimit, entryLimit, conceptLimit, listLimit, conceptFits, conceptDepth, withinLimits}
@@ -24,6 +24,7 @@ use Rattle.paper.proofs.Lists.{both, and}
 use Rattle.paper.proofs.Finds.{Reads}
 use Rattle.paper.proofs.Scalars.{sheet-made}
 use Rattle.paper.proofs.Before.{Only, table-only, table-whole, bytes-only}
+use Rattle.paper.proofs.Tables.{table-exactly, table-back}
 use Rattle.paper.proofs.TableSizes.{table-small}
 use Rattle.paper.proofs.Sizes.{entries-size, filled-only}
 use Rattle.paper.proofs.Sheets.{ReadSheet, sheet-reads, sheet-complete}
@@ -85,7 +86,7 @@ sheet-accepts m room s t a =
 pub record Exactly (table s : List ℕ) (lent : ℕ) (es : List Entry) : Type 0 where
   pub modes : Modes
   pub tree : Sheet
-  pub valid : modeTable table ≡ found modes []
+  pub valid : ValidTable table modes
   pub derives : Derives modes s tree
   pub limits : withinLimits s tree ≡ true
   pub are : entries tree ≡ es
@@ -121,7 +122,7 @@ refused-otherwise table s lent = by-table (modeTable table) refl (table-only tab
         inl (record {
           list = entries t;
           is = rw (v, reading, e);
-          exactly = record { modes = m; tree = t; valid = v; derives = a .1 .derives; limits = a .1 .limits; are = refl; fit = a .1 .fit };
+          exactly = record { modes = m; tree = t; valid = table-exactly table m .0 v; derives = a .1 .derives; limits = a .1 .limits; are = refl; fit = a .1 .fit };
         })
     by-sheet m v (fault n left) e a =
         inr (record {
@@ -153,7 +154,7 @@ refused-otherwise table s lent = by-table (modeTable table) refl (table-only tab
 pub not-both : (table s : List ℕ) (lent : ℕ) (es : List Entry) → reading table s lent ≡ accepting s lent es → Refused table s lent → ⊥
 not-both table s lent es e r = let z : 0 ≡ r .number = ap (λ (x : Reading). x .answer .number) (sym e ∙ r .is) in omega (arith, r .least)
 
--- the table reads to modes, a tree derives the sheet under them within the limits, and its entries are these and fit: exactly then
+-- the table is valid with some modes, a tree derives the sheet under them within the limits, and its entries are these and fit: exactly then
 pub accepted-exactly : (table s : List ℕ) (lent : ℕ) (es : List Entry) → (reading table s lent ≡ accepting s lent es) ↔ Exactly table s lent es
 unfolding reading
 accepted-exactly table s lent es = (forth, back)
@@ -171,7 +172,7 @@ accepted-exactly table s lent es = (forth, back)
 
     back : Exactly table s lent es → reading table s lent ≡ accepting s lent es
     back x =
-        rw (x .valid, reading, sheet-accepts (x .modes) (roomOf lent) s (x .tree) (record { derives = x .derives; limits = x .limits; fit = omega (arith, x .fit, ap length (x .are)) }), x .are)
+        rw (table-back table (x .modes) (x .valid), reading, sheet-accepts (x .modes) (roomOf lent) s (x .tree) (record { derives = x .derives; limits = x .limits; fit = omega (arith, x .fit, ap length (x .are)) }), x .are)
 
 -- the numbers of every answer are small
 pub reading-small : (table s : List ℕ) (lent : ℕ) → (reading table s lent .answer .place ≤ sheetLimit) × (reading table s lent .answer .count ≤ entryLimit)

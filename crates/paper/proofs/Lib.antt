@@ -20,6 +20,7 @@ pub mod Fuel
 pub mod Sheets
 pub mod Sizes
 pub mod Before
+pub mod Tables
 pub mod TableSizes
 pub mod Exactly
 pub mod OnlyOne
