@@ -2,7 +2,7 @@
 -- Document 01, "The mode table".
 use Prim.Native.Nat.{ℕ, zero, suc, _≤_}
 use mathlib.Core.Path.{_≡_, refl, sym, ap, subst, _∙_}
-use mathlib.Core.Bool.{Bool, true, false, not, _&&_}
+use mathlib.Core.Bool.{true, false, not, _&&_}
 use mathlib.Core.List.{List, [], _∷_, _++_, flatten, append-nil, append-assoc}
 use mathlib.Core.Logic.{_⊎_, inl, inr, _↔_}
 use native.Mathlib.Omega.{arith}
@@ -10,8 +10,8 @@ use lib.ListN.{length, take, drop, length-append, take-append-drop}
 use lib.Seq.{take-append-seam, drop-append-seam, length-take-le}
 use lib.Dec.{leb}
 use borrow.Author.Tests.{leb-true, le-leb, not-true}
-use Rattle.paper.specs.Answer.{Told, accepted, refused}
-use Rattle.paper.specs.Found.{Found, found, fault, andThen, placeIn}
+use Rattle.paper.specs.Answer.{accepted, refused}
+use Rattle.paper.specs.Found.{Found, found, fault, placeIn}
 use Rattle.paper.specs.Bytes.{isUpper, within, all, same}
 use Rattle.paper.specs.Names.{nameLimit, nameRule, isName, isConceptName, among}
 use Rattle.paper.specs.Modes.{Modes, sectionLimit, sections, namesOnto, sectionsOnto, tableOnto, distinct, sectionRule, tableRule, ValidTable}
@@ -212,16 +212,21 @@ pub valid-answer : (table : List ℕ) (m : Modes) → ValidTable table m → rea
 unfolding readTable flatten
 valid-answer table m v = rw (table-back table m v, readTable, append-nil) (ap (accepted (length table)) (sym (length-append (m .children) (m .content))))
 
-pub table-answers : (table : List ℕ) → AcceptedTable table ⊎ RefusedTable table
+-- a fault says that no modes are the table's, and where
+pub table-invalid : (table : List ℕ) (n : ℕ) (left : List ℕ) → modeTable table ≡ fault n left → (m : Modes) → ValidTable table m → ⊥
+table-invalid table n left e m v =
+    let z : fault n left ≡ found m [] = sym e ∙ table-back table m v in
+    let no : _≡_ {A = ℕ} 0 1 = cc in
+    omega arith
+
+pub fault-answer : (table : List ℕ) (n : ℕ) (left : List ℕ) → modeTable table ≡ fault n left → readTable table ≡ refused 1 (placeIn table left)
 unfolding readTable
-table-answers table = go (modeTable table) refl (table-read table) (table-only table)
+fault-answer table n left e = rw (e, readTable) (ap (λ (k : ℕ). refused k (placeIn table left)) (subst (Only 1 table) e (table-only table) .0))
+
+pub table-answers : (table : List ℕ) → AcceptedTable table ⊎ RefusedTable table
+table-answers table = go (modeTable table) refl (table-read table)
   where
-    go : (x : Found Modes) → modeTable table ≡ x → Finds (λ m left. ValidTable table m) x → Only 1 table x → AcceptedTable table ⊎ RefusedTable table
-    go (found m left) e v o = inl (record { modes = m; valid = v; is = valid-answer table m v })
-    go (fault n left) e v o =
-        inr (record {
-          place = placeIn table left;
-          is = rw (e, readTable) (ap (λ (k : ℕ). refused k (placeIn table left)) (o .0));
-          inside = omega arith;
-          invalid = λ m w. let z : fault n left ≡ found m [] = sym e ∙ table-back table m w in let no : _≡_ {A = ℕ} 0 1 = cc in omega arith;
-        })
+    go : (x : Found Modes) → modeTable table ≡ x → Finds (λ m left. ValidTable table m) x → AcceptedTable table ⊎ RefusedTable table
+    go (found m left) e v = inl (record { modes = m; valid = v; is = valid-answer table m v })
+    go (fault n left) e v =
+        inr (record { place = placeIn table left; is = fault-answer table n left e; inside = omega arith; invalid = table-invalid table n left e })
