@@ -10,7 +10,7 @@ use Rattle.paper.specs.Bytes.{within, startsWith, scalars, encode, byteO
 use Rattle.paper.specs.Names.{nameLimit, isConceptName, among}
 use Rattle.paper.specs.Modes.{sectionLimit, Modes, tableNames, section, wholly, modeTable}
 use Rattle.paper.proofs.Tests.{split}
-use Rattle.paper.proofs.Finds.{Tail, whole, past, tail-then, tail-append, tail-drop}
+use Rattle.paper.proofs.Finds.{Tail, whole, past, tail-then, tail-append, tail-drop, tail-end}
 use Rattle.paper.proofs.Scalars.{byFirst, scalars-broken, scalars-stop, scalars-on, scalar-sound}
 
 -- every fault has this number and is at a place of the list, which is left by what is found too
@@ -26,10 +26,6 @@ only-in : {A : Type 0} (k : ℕ) {s left : List ℕ} (x : Found A) → Tail s le
 only-in k (found a end) t h = tail-then t h
 only-in k (fault n end) t h = (h .0, tail-then t (h .1))
 
-to-end : (s : List ℕ) → Tail s []
-to-end [] = whole
-to-end (b ∷ s) = past (to-end s)
-
 -- ---- the mode table
 
 names-only : (n : ℕ) (before : List (List ℕ)) (s : List ℕ) → Only 1 s (tableNames n before s)
@@ -42,7 +38,7 @@ names-only (suc n) before (size ∷ s) =
     (λ b. split (isConceptName (take size s) && not (among before (take size s)))
     (λ c. rw (a, tableNames, b, c) (only-then 1 (size ∷ s) (tableNames n (before ++ (take size s ∷ [])) (drop size s)) _ (only-in 1 (tableNames n (before ++ (take size s ∷ [])) (drop size s)) (past (tail-drop size s)) (names-only n (before ++ (take size s ∷ [])) (drop size s))) (λ names left t. t)))
     (λ c. rw (a, tableNames, b, c) (refl, past whole)))
-    (λ b. rw (a, tableNames, b) (refl, to-end (size ∷ s))))
+    (λ b. rw (a, tableNames, b) (refl, tail-end (size ∷ s))))
     (λ a. rw (a, tableNames) (refl, whole))
 
 section-only : (before : List (List ℕ)) (s : List ℕ) → Only 1 s (section before s)

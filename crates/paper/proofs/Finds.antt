@@ -1,10 +1,11 @@
 -- What holds of all that a reading finds, and of the faults that it meets. Assumes nothing.
-use Prim.Native.Nat.{ℕ, suc, _≤_}
+use Prim.Native.Nat.{ℕ, suc, _-_, _≤_}
 use mathlib.Core.Path.{_≡_, refl, ap, _∙_}
 use mathlib.Core.List.{List, [], _∷_, _++_}
+use native.Mathlib.Nat.{sub-self}
 use native.Mathlib.Omega.{arith}
 use lib.ListN.{length, drop}
-use Rattle.paper.specs.Found.{Found, found, fault, andThen, Turn, more, over, stop, turnOf}
+use Rattle.paper.specs.Found.{Found, found, fault, andThen, placeIn, Turn, more, over, stop, turnOf}
 
 -- ---- what is left is a tail of the list
 
@@ -36,6 +37,14 @@ tail-of w {s} {left} e = rw e (tail-append w left)
 pub tail-end : (s : List ℕ) → Tail s []
 tail-end [] = whole
 tail-end (b ∷ s) = past (tail-end s)
+
+-- a tail is what is left at its place
+pub tail-place : (s left : List ℕ) → Tail s left → left ≡ drop (placeIn s left) s
+tail-place s left whole = rw (sub-self (length s))
+tail-place (b ∷ s) left (past t) =
+    let l = tail-length t in
+    let e : suc (length s) - length left ≡ suc (length s - length left) = omega arith in
+    rw e (tail-place s left t)
 
 -- ---- what a reading finds, or its fault
 

@@ -24,7 +24,7 @@ use Rattle.paper.proofs.Widths.{append-wide, traits-wide, ending-wide}
 use Rattle.paper.proofs.Concepts.{ReadConcept, concept-reads, Admits, admitted-reads}
 
 -- what a marker leaves is three bytes shorter than its line at least
-marker-shorter : (by : Bounds) (room : ℕ) (rule : List ℕ → Bool) (deeper outer : ℕ) (s named w mid start : List ℕ) (mode : Mode) (o : Opened) (left : List ℕ) → s ≡ byte "<" ∷ named → ReadName rule named w mid → Admits by deeper outer w mid mode start → ReadOpened by room w start o left → length left + 3 ≤ length s
+pub marker-shorter : (by : Bounds) (room : ℕ) (rule : List ℕ → Bool) (deeper outer : ℕ) (s named w mid start : List ℕ) (mode : Mode) (o : Opened) (left : List ℕ) → s ≡ byte "<" ∷ named → ReadName rule named w mid → Admits by deeper outer w mid mode start → ReadOpened by room w start o left → length left + 3 ≤ length s
 marker-shorter by room rule deeper outer s named w mid start mode o left d n a r =
     let k = o .marker in
     omega (arith, ap length d, ap length (n .covers), length-append w mid, n .some, ap length (a .same), ap length (r .covers), traits-wide (k .traits) (k .white ++ endingOnto (o .ends) left), append-wide (k .white) (endingOnto (o .ends) left), ending-wide (o .ends) left)

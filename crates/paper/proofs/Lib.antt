@@ -21,7 +21,9 @@ pub mod Fuel
 pub mod Sheets
 pub mod Sizes
 pub mod Before
+pub mod Tables
 pub mod TableSizes
+pub mod Cuts
 pub mod Exactly
 pub mod OnlyOne
 pub mod Starred

@@ -1,9 +1,11 @@
 -- The starred sheets of document 01, "Sheets to try": one statement over one list, by computation.
--- It is about the reading and the canonical form as the definitions say them, and no code.
-use Prim.Native.Nat.{ℕ, _-_}
+-- Of the reading and the canonical form as the definitions say them (`starred`), and so of the grammar itself (`starred-derived`).
+use Prim.Native.Nat.{ℕ, zero, suc, _-_}
 use Prim.Native.String.{String}
-use mathlib.Core.Path.{_≡_, refl}
+use mathlib.Core.Path.{_≡_, refl, sym, ap, _∙_}
 use mathlib.Core.List.{List, [], _∷_, _++_, map}
+use mathlib.Core.Logic.{⊎-elim}
+use native.Mathlib.Omega.{arith}
 use lib.ListN.{length, replicate}
 use Rattle.paper.specs.Answer.{Told, accepted, refused}
 use Rattle.paper.specs.Found.{found, fault, many}
@@ -16,6 +18,8 @@ use Rattle.paper.specs.Entries
 use Rattle.paper.specs.ReadingValues
 use Rattle.paper.specs.Reading
 use Rattle.paper.specs.Canonical
+use Rattle.paper.proofs.Tables.{table-back}
+use Rattle.paper.proofs.Exactly.{Accepts, Exactly, Accepted, refused-otherwise, accepted-exactly, sheet-accepts}
 
 -- Lab in children mode, Steps in content mode
 unfoldable pub table : List ℕ
@@ -81,5 +85,110 @@ cases =
     ∷ []
 
 pub starred : map seen cases ≡ map due cases
-unfolding table cases formOf seen many Bytes.isUpper Bytes.isLower Bytes.isDigit Bytes.isLetter Bytes.isNameByte Bytes.isHex Bytes.isBlank Bytes.isLineEnd Bytes.isWhite Bytes.all Bytes.startsIn Bytes.elem Bytes.lengthIn Bytes.same Bytes.startsWith Bytes.rowOf Bytes.follower Bytes.scalar Bytes.isScalar Bytes.encode Bytes.encodeAll Bytes.mayStand Bytes.scalars Bytes.sheetBytes Names.fewCapitals Names.nameRule Names.isName Names.among Modes.tableNames Modes.section Modes.wholly Modes.modeTable Modes.readTable Modes.modeOf Values.pieceOnto Values.piecesOnto Values.hexDigit Values.hexValue Values.spellsScalar Values.pieceRule Values.letterMeans Values.pieceMeans Values.piecesMean Values.oneScalar Values.backtickRule Values.collapse Values.isToken Values.hexGroups Values.areDigits Values.isCount Values.unsigned Values.isDecimal Values.isScientific Values.isFraction Values.isIriScalar Values.isIriBody Values.isScheme Values.isIri Values.wordForm Values.isEnder Values.endsWord Values.leafOnto Values.valueOnto Values.leafRule Values.valueRule Values.endsInSlash Values.listDepth Grammar.blanksOnto Grammar.annotationsOnto Grammar.traitsOnto Grammar.linesOnto Grammar.conceptOnto Grammar.sheetOnto Grammar.annotationText Grammar.annotationRule Grammar.traitRule Grammar.markerRule Grammar.slashLast Grammar.opensBlock Grammar.inMode Grammar.conceptRule Grammar.sheetRule Entries.allCells Entries.itemsOf Entries.itemSize Entries.itemEntries Entries.traitsSize Entries.traitEntries Entries.annotationEntries Entries.conceptSize Entries.bodyCount Entries.insideEntries Entries.sheetSize Entries.entries Entries.filled ReadingValues.judged ReadingValues.fourDigits ReadingValues.bracedDigits ReadingValues.escape ReadingValues.insideOf ReadingValues.pieceTurn ReadingValues.closeCharacter ReadingValues.characterOf ReadingValues.backtickTurn ReadingValues.wordLength ReadingValues.wordOf ReadingValues.firstOf ReadingValues.leafOf ReadingValues.value ReadingValues.wholeValue Reading.lineEnd Reading.blankTurn Reading.noSpace Reading.nameOf Reading.due Reading.makes Reading.textOf Reading.annotation Reading.annotationTurn Reading.enters Reading.trait Reading.traitDue Reading.traitTurn Reading.ending Reading.opened Reading.admitted Reading.closing Reading.atLineEnd Reading.closesLine Reading.textLine Reading.otherLine Reading.lineTurn Reading.contentOf Reading.concept Reading.lastBlanks Reading.sheetTree Reading.sheetOf Reading.reading Canonical.lower Canonical.leafSense Canonical.valueSense Canonical.conceptSense Canonical.meaning Canonical.hexOnto Canonical.byteOnto Canonical.bytesOnto Canonical.printValue Canonical.printBeside Canonical.printBelow Canonical.lastInSlash Canonical.printMarker Canonical.printNotes Canonical.printLine Canonical.printLines Canonical.printConcept Canonical.print
+unfolding table cases formOf seen many
+    Bytes.isUpper Bytes.isLower Bytes.isDigit Bytes.isLetter Bytes.isNameByte Bytes.isHex Bytes.isBlank
+    Bytes.isLineEnd Bytes.isWhite Bytes.all Bytes.startsIn Bytes.elem Bytes.lengthIn Bytes.same Bytes.startsWith
+    Bytes.rowOf Bytes.follower Bytes.scalar Bytes.isScalar Bytes.encode Bytes.encodeAll Bytes.mayStand Bytes.scalars
+    Bytes.sheetBytes
+    Names.fewCapitals Names.nameRule Names.isName Names.among
+    Modes.tableNames Modes.section Modes.wholly Modes.modeTable Modes.readTable Modes.modeOf
+    Values.pieceOnto Values.piecesOnto Values.hexDigit Values.hexValue Values.spellsScalar Values.pieceRule
+    Values.letterMeans Values.pieceMeans Values.piecesMean Values.oneScalar Values.backtickRule Values.collapse
+    Values.isToken Values.hexGroups Values.areDigits Values.isCount Values.unsigned Values.isDecimal
+    Values.isScientific Values.isFraction Values.isIriScalar Values.isIriBody Values.isScheme Values.isIri
+    Values.wordForm Values.isEnder Values.endsWord Values.leafOnto Values.valueOnto Values.leafRule Values.valueRule
+    Values.endsInSlash Values.listDepth
+    Grammar.blanksOnto Grammar.annotationsOnto Grammar.traitsOnto Grammar.linesOnto Grammar.conceptOnto
+    Grammar.sheetOnto Grammar.annotationText Grammar.annotationRule Grammar.traitRule Grammar.markerRule
+    Grammar.slashLast Grammar.opensBlock Grammar.inMode Grammar.conceptRule Grammar.sheetRule
+    Entries.allCells Entries.itemsOf Entries.itemSize Entries.itemEntries Entries.traitsSize Entries.traitEntries
+    Entries.annotationEntries Entries.conceptSize Entries.bodyCount Entries.insideEntries Entries.sheetSize
+    Entries.entries Entries.filled
+    ReadingValues.judged ReadingValues.fourDigits ReadingValues.bracedDigits ReadingValues.escape
+    ReadingValues.insideOf ReadingValues.pieceTurn ReadingValues.closeCharacter ReadingValues.characterOf
+    ReadingValues.backtickTurn ReadingValues.wordLength ReadingValues.wordOf ReadingValues.firstOf
+    ReadingValues.leafOf ReadingValues.value ReadingValues.wholeValue
+    Reading.lineEnd Reading.blankTurn Reading.noSpace Reading.nameOf Reading.due Reading.makes Reading.textOf
+    Reading.annotation Reading.annotationTurn Reading.enters Reading.trait Reading.traitDue Reading.traitTurn
+    Reading.ending Reading.opened Reading.admitted Reading.closing Reading.atLineEnd Reading.closesLine
+    Reading.textLine Reading.otherLine Reading.lineTurn Reading.contentOf Reading.concept Reading.lastBlanks
+    Reading.sheetTree Reading.sheetOf Reading.reading
+    Canonical.lower Canonical.leafSense Canonical.valueSense Canonical.conceptSense Canonical.meaning
+    Canonical.hexOnto Canonical.byteOnto Canonical.bytesOnto Canonical.printValue Canonical.printBeside
+    Canonical.printBelow Canonical.lastInSlash Canonical.printMarker Canonical.printNotes Canonical.printLine
+    Canonical.printLines Canonical.printConcept Canonical.print
 starred = refl
+
+-- ---- the same about the grammar itself
+
+-- an accepted case: a tree derives the sheet within the limits and the room; its entries, laid into the lent cells, and its form are those due
+pub record Derived (k : Case) : Type 0 where
+  pub list : List Entries.Entry
+  pub exactly : Exactly table (Bytes.bytes (k .sheet)) (k .lent) list
+  pub count : length list ≡ k .answer .count
+  pub cells : Entries.filled (k .lent) list ≡ due k .cells
+  pub form : Canonical.canonical (exactly .tree) ≡ Bytes.bytes (k .form)
+
+-- a refused case: no tree does
+abbrev pub Underived : Case → Type 0
+Underived k = (es : List Entries.Entry) → Exactly table (Bytes.bytes (k .sheet)) (k .lent) es → ⊥
+
+-- one or the other, by the number due
+abbrev pub Judged : ℕ → Case → Type 0
+Judged zero k = Derived k
+Judged (suc n) k = Underived k
+
+abbrev pub Stands : Case → Type 0
+Stands k = Judged (k .answer .number) k
+
+abbrev pub Each : (Case → Type 0) → List Case → Type 0
+Each P [] = Unit {0}
+Each P (k ∷ ks) = P k × Each P ks
+
+each-of : (f g : Case → Seen) (P : Case → Type 0) → ((k : Case) → f k ≡ g k → P k) → (ks : List Case) → map f ks ≡ map g ks → Each P ks
+each-of f g P h [] e = tt
+each-of f g P h (k ∷ ks) e =
+    let first : f k ≡ g k = cc in
+    let others : map f ks ≡ map g ks = cc in
+    (h k first, each-of f g P h ks others)
+
+-- the form of what is accepted is that of its tree
+form-is : (k : Case) (es : List Entries.Entry) (x : Exactly table (Bytes.bytes (k .sheet)) (k .lent) es) → seen k .form ≡ Canonical.canonical (x .tree)
+unfolding seen formOf
+form-is k es x =
+    let room = Reading.roomOf (k .lent) in
+    let s = Bytes.bytes (k .sheet) in
+    let a : Accepts (x .modes) room s (x .tree) = record { derives = x .derives; limits = x .limits; fit = omega (arith, x .fit, ap length (x .are)) } in
+    rw (table-back table (x .modes) (x .valid), formOf, sheet-accepts (x .modes) room s (x .tree) a)
+
+-- what is seen to be due is so of the grammar
+case-stands : (k : Case) → seen k ≡ due k → Stands k
+unfolding seen
+case-stands k e = go (k .answer .number) refl
+  where
+    s : List ℕ
+    s = Bytes.bytes (k .sheet)
+
+    number : Reading.reading table s (k .lent) .answer .number ≡ k .answer .number
+    number = ap (λ (x : Seen). x .answer .number) e
+
+    derived : Accepted table s (k .lent) → Derived k
+    derived a =
+        record {
+          list = a .list;
+          exactly = a .exactly;
+          count = sym (ap (λ (x : Reading.Reading). x .answer .count) (a .is)) ∙ ap (λ (x : Seen). x .answer .count) e;
+          cells = sym (ap (λ (x : Reading.Reading). x .cells) (a .is)) ∙ ap (λ (x : Seen). x .cells) e;
+          form = sym (form-is k (a .list) (a .exactly)) ∙ ap (λ (x : Seen). x .form) e;
+        }
+
+    go : (n : ℕ) → k .answer .number ≡ n → Judged n k
+    go zero z =
+        ⊎-elim derived
+        (λ r. absurd (omega (arith, number, r .least, ap (λ (x : Reading.Reading). x .answer .number) (r .is))))
+        (refused-otherwise table s (k .lent))
+    go (suc m) z = λ es x. omega (arith, number, ap (λ (x : Reading.Reading). x .answer .number) (accepted-exactly table s (k .lent) es .1 x))
+
+-- for each starred sheet: accepted, it is derived, with these entries and this form; refused, it is not
+pub starred-derived : Each Stands cases
+starred-derived = each-of seen due Stands case-stands cases starred

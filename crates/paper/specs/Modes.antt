@@ -1,15 +1,16 @@
--- The mode table: its two sections of names, read from its bytes, and what it says of a name.
+-- The mode table: the bytes of its two sections and their rule, how it is read, and what it says of a name.
 -- Document 01, "The mode table", and refusal 1.
 use Prim.Native.Nat.{ℕ, zero, suc, _+_}
-use mathlib.Core.Bool.{true, false, not, _&&_}
-use mathlib.Core.List.{List, [], _∷_, _++_}
+use mathlib.Core.Path.{_≡_}
+use mathlib.Core.Bool.{Bool, true, false, not, _&&_}
+use mathlib.Core.List.{List, [], _∷_, _++_, flatten}
 use lib.ListN.{length, take, drop}
 use lib.Dec.{leb}
 use Rattle.paper.specs.declared.Mode.{Mode}
 use Rattle.paper.specs.declared.Mode.the-variants.{Children, Content, Absent}
 use Rattle.paper.specs.Answer.{Told, accepted, refused}
 use Rattle.paper.specs.Found.{Found, found, fault, andThen, placeIn}
-use Rattle.paper.specs.Bytes.{within}
+use Rattle.paper.specs.Bytes.{within, all}
 use Rattle.paper.specs.Names.{nameLimit, isConceptName, among}
 
 abbrev pub sectionLimit : ℕ
@@ -18,6 +19,45 @@ sectionLimit = 64
 pub record Modes : Type 0 where
   pub children : List (List ℕ)
   pub content : List (List ℕ)
+
+-- ---- the bytes of a table, and its rule
+
+-- its sections, in their order
+abbrev pub sections : Modes → List (List (List ℕ))
+sections m = m .children ∷ m .content ∷ []
+
+-- names, each a length byte and its letters, in front of what follows
+unfoldable pub namesOnto : List (List ℕ) → List ℕ → List ℕ
+namesOnto [] next = next
+namesOnto (w ∷ ws) next = length w ∷ (w ++ namesOnto ws next)
+
+-- sections, each a count byte and that many names
+unfoldable pub sectionsOnto : List (List (List ℕ)) → List ℕ
+sectionsOnto [] = []
+sectionsOnto (ws ∷ others) = length ws ∷ namesOnto ws (sectionsOnto others)
+
+unfoldable pub tableOnto : Modes → List ℕ
+tableOnto m = sectionsOnto (sections m)
+
+-- no two of the names are the same
+unfoldable pub distinct : List (List ℕ) → Bool
+distinct [] = true
+distinct (w ∷ ws) = not (among ws w) && distinct ws
+
+-- at most so many names, each of them a Concept's by the name rule, of 1 to 32 bytes
+unfoldable pub sectionRule : List (List ℕ) → Bool
+sectionRule ws = leb (length ws) sectionLimit && all isConceptName ws
+
+-- and no name stands twice, in one section or in two
+unfoldable pub tableRule : Modes → Bool
+tableRule m = all sectionRule (sections m) && distinct (flatten (sections m))
+
+-- a valid table, and its modes
+pub record ValidTable (table : List ℕ) (m : Modes) : Type 0 where
+  pub covers : tableOnto m ≡ table
+  pub rule : tableRule m ≡ true
+
+-- ---- reading a table
 
 -- so many names, each a length byte and its letters; `before` are those that stand earlier in either section
 unfoldable pub tableNames : ℕ → List (List ℕ) → List ℕ → Found (List (List ℕ))
@@ -55,6 +95,8 @@ modeTable s =
 unfoldable pub readTable : List ℕ → Told
 readTable s =
     elim (modeTable s) [ found m left ↦ accepted (length s) (length (m .children) + length (m .content)) | fault n left ↦ refused n (placeIn s left) ]
+
+-- ---- looking a name up
 
 -- the mode of a Concept's name
 unfoldable pub modeOf : Modes → List ℕ → Mode

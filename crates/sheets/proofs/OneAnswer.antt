@@ -29,7 +29,7 @@ one-answer-sheets-view sheet cells n r r′ e e′ = e ∙ sym e′
 pub one-answer-sheets-view-answer : (sheet cells : List ℕ) (n : ℕ) (r r′ : Answer) → told r ≡ viewAnswer sheet cells n → told r′ ≡ viewAnswer sheet cells n → r ≡ r′
 one-answer-sheets-view-answer sheet cells n r r′ e e′ = told-injective r r′ (e ∙ sym e′)
 
--- `read` accepts with these entries exactly when the table reads to modes, a tree derives the sheet within the limits, and its entries are these and fit
+-- `read` accepts with these entries exactly when the table is valid, a tree derives the sheet within the limits, and its entries are these and fit
 pub read-accepts-exactly : (table sheet : List ℕ) (lent : ℕ) (r : Answer) (cells : List ℕ) → Promised table sheet lent r cells → (es : List Entry)
     → ((r ≡ Accepted (length sheet) (length es)) × (cells ≡ filled lent es)) ↔ Exactly table sheet lent es
 read-accepts-exactly table sheet lent r cells e es = (forth, back)

@@ -1,0 +1,524 @@
+-- A 9 is at the end of the input: whatever gives it has run to the end, and no reading runs out of fuel. Assumes nothing.
+-- Document 01, "Refusal numbers", 9.
+use Prim.Native.Nat.{ℕ, zero, suc, _+_, _-_, _<_}
+use mathlib.Core.Path.{_≡_, refl, sym, ap, _∙_}
+use mathlib.Core.Bool.{Bool, true, false}
+use mathlib.Core.List.{List, [], _∷_, map}
+use native.Mathlib.Omega.{arith}
+use lib.ListN.{length, drop, take, getD}
+use lib.Dec.{leb, eqb}
+use borrow.Author.Tests.{eqb-true, eq-eqb}
+use Rattle.paper.specs.declared.Mode.{Mode}
+use Rattle.paper.specs.declared.Mode.the-variants.{Children, Content, Absent}
+use Rattle.paper.specs.Found.{Found, found, fault, andThen, Turn, more, over, stop, turnOf, goOn, many, manyOf}
+use Rattle.paper.specs.Bytes.{byte, bytes, isUpper, isLower, isHex, isBlank, isLineEnd, isWhite, lengthIn, front, behind, elem, same, startsIn}
+use Rattle.paper.specs.Bytes.{startsWith, lf, cr, space, scalar}
+use Rattle.paper.specs.Names.{run, pastRun, isName}
+use Rattle.paper.specs.Modes.{modeOf}
+use Rattle.paper.specs.Values.{is, onward, Piece, four, braces, escaped, Value, More, list, listEnders, comma, pieceRule, wordForm}
+use Rattle.paper.specs.Tree.{Trait, Marker, blank, Ending, block, self, Concept, selfClosed, Body, element, Sheet}
+use Rattle.paper.specs.Grammar.{tabsOnto}
+use Rattle.paper.specs.Entries.{itemEntries, traitSize, traitsSize, conceptSize}
+use Rattle.paper.specs.ReadingValues.{insideOf, itself, judged, fourDigits, bracedDigits, escape, pieceTurn, closeCharacter, characterOf}
+use Rattle.paper.specs.ReadingValues.{backtickTurn, wordLength, wordOf, leafOf, valueOf, moreOf, itemAnd, wholeValue}
+use Rattle.paper.specs.Reading.{Bounds, lineEnd, lineRest, isBlankLine, blankTurn, blankLines, isTab, noSpace, tabsOnly, nameOf, name, due, makes}
+use Rattle.paper.specs.Reading.{textOf, escapeOf, annotation, annotationTurn, annotations}
+use Rattle.paper.specs.Reading.{enters, trait, traitDue, traitTurn, ending, Opened, opened, admitted, closing}
+use Rattle.paper.specs.Reading.{closesLine, textLine, otherLine, lineTurn, contentOf, conceptOf, blockOf, bodyOf, lastBlanks, sheetTree}
+use Rattle.paper.proofs.Tests.{split, true-false}
+use Rattle.paper.proofs.Lists.{byFront, starts-is}
+use Rattle.paper.proofs.Finds.{Tail, tail-length, tail-then, tail-drop, Reads}
+use Rattle.paper.proofs.Runs.{Shorter}
+use Rattle.paper.proofs.Lines.{ReadBlank, rest-reads, ReadName, name-reads, due-reads, blank-shorter}
+use Rattle.paper.proofs.Annotations.{ReadAnnotations, annotations-reads, annotation-shorter}
+use Rattle.paper.proofs.Content.{line-shorter}
+use Rattle.paper.proofs.Pieces.{byInside, turn-closes, turn-escapes, turn-breaks, turn-itself, turn-shorter, tick-shorter}
+use Rattle.paper.proofs.Leaves.{byFirst, character-closes, character-breaks, character-escapes, character-itself, character-broken}
+use Rattle.paper.proofs.Leaves.{leaf-string, leaf-character, leaf-backtick, leaf-word}
+use Rattle.paper.proofs.ReadValues.{ReadValue, value-reads, value-of-deep, value-of-leaf, value-of-empty, value-of-list, more-of-end}
+use Rattle.paper.proofs.ReadValues.{more-of-close, more-of-comma, more-of-other, whole-found, whole-fault}
+use Rattle.paper.proofs.Markers.{trait-shorter, ReadOpened, opened-reads}
+use Rattle.paper.proofs.Concepts.{ReadConcept, concept-reads, Admits, admitted-reads}
+use Rattle.paper.proofs.Fuel.{marker-shorter, behindMarker, concept-of, block-of, body-of-blank, body-of-fault, body-of-closing, body-of-element}
+
+-- ---- a 9 leaves nothing
+
+pub data Ends {A : Type 0} : Found A → Type 0 where
+  finds : {a : A} {left : List ℕ} → Ends (found a left)
+  cut : Ends (fault 9 [])
+  other : {n : ℕ} {left : List ℕ} → eqb n 9 ≡ false → Ends (fault n left)
+
+-- the same of a turn
+data Stops {A : Type 0} : Turn A → Type 0 where
+  goes : {a : A} {left : List ℕ} → Stops (more a left)
+  ends : {left : List ℕ} → Stops (over left)
+  cut : Stops (stop 9 [])
+  other : {n : ℕ} {left : List ℕ} → eqb n 9 ≡ false → Stops (stop n left)
+
+then : {A B : Type 0} (x : Found A) {next : A → List ℕ → Found B} → Ends x → ((a : A) (left : List ℕ) → Ends (next a left)) → Ends (andThen x next)
+then x finds f = f _ _
+then x cut f = cut
+then x (other e) f = other e
+
+-- one reading after another, where the second stands on what the first one found
+then-by : {A B : Type 0} (s : List ℕ) (P : A → List ℕ → Type 0) (x : Found A) {next : A → List ℕ → Found B}
+    → Reads s P x → Ends x → ((a : A) (left : List ℕ) → Tail s left → P a left → Ends (next a left)) → Ends (andThen x next)
+then-by s P x r finds f = f _ _ (r .0) (r .1)
+then-by s P x r cut f = cut
+then-by s P x r (other e) f = other e
+
+turn-of : {A : Type 0} (x : Found A) → Ends x → Stops (turnOf x)
+turn-of x finds = goes
+turn-of x cut = cut
+turn-of x (other e) = other e
+
+-- a run whose turns do, and take a byte each
+module _ {A : Type 0} (size : A → ℕ) (turn : ℕ → List ℕ → Turn A)
+    (shorter : (room : ℕ) (s : List ℕ) → Shorter s (turn room s)) (stops : (room : ℕ) (s : List ℕ) → Stops (turn room s)) where
+  many-ends : (fuel room : ℕ) (s : List ℕ) → length s < fuel → Ends (many size turn fuel room s)
+  unfolding many
+  many-ends zero room s h = absurd (omega arith)
+  many-ends (suc fuel) room s h = go (turn room s) (shorter room s) (stops room s) (λ a left l. many-ends fuel (room - size a) left (omega arith))
+    where
+      go : (x : Turn A) → Shorter s x → Stops x → ((a : A) (left : List ℕ) → length left < length s → Ends (many size turn fuel (room - size a) left))
+          → Ends (goOn (λ a left. many size turn fuel (room - size a) left) x)
+      go (more a left) l goes again = then (many size turn fuel (room - size a) left) (again a left l) (λ things end. finds)
+      go (over left) l ends again = finds
+      go (stop n left) l cut again = cut
+      go (stop n left) l (other e) again = other e
+
+  run-ends : (room : ℕ) (s : List ℕ) → Ends (manyOf size turn room s)
+  run-ends room s = many-ends (suc (length s)) room s (omega arith)
+
+-- ---- lines and names
+
+line-end : (blanks s : List ℕ) → Ends (lineEnd blanks s)
+unfolding lineEnd
+line-end blanks [] = cut
+line-end blanks (b ∷ l) =
+    split (eqb b lf) (λ e. rw (e, lineEnd) finds)
+    (λ e. split (startsWith (cr ∷ lf ∷ []) (b ∷ l)) (λ f. rw (e, lineEnd, f) finds) (λ f. rw (e, lineEnd, f) (other refl)))
+
+line-rest : (s : List ℕ) → Ends (lineRest s)
+line-rest s = line-end (front isBlank s) (behind isBlank s)
+
+blank-lines : (s : List ℕ) → Ends (blankLines s)
+unfolding blankTurn
+blank-lines s = run-ends (λ b. 0) blankTurn blank-shorter turns 0 s
+  where
+    turns : (room : ℕ) (s : List ℕ) → Stops (blankTurn room s)
+    turns room s = split (isBlankLine s) (λ e. rw (e, blankTurn) (turn-of (lineRest s) (line-rest s))) (λ e. rw (e, blankTurn) ends)
+
+tabs-only : (s : List ℕ) → Ends (tabsOnly s)
+unfolding noSpace
+tabs-only s = go (behind isBlank s)
+  where
+    go : (r : List ℕ) → Ends (noSpace s r)
+    go [] = cut
+    go (b ∷ l) = split (startsIn (is space) (behind isTab s)) (λ e. rw (e, noSpace) (other refl)) (λ e. rw (e, noSpace) finds)
+
+name-ends : (rule : List ℕ → Bool) (s : List ℕ) → Ends (name rule s)
+unfolding nameOf
+name-ends rule s = go (pastRun s)
+  where
+    go : (r : List ℕ) → Ends (nameOf rule s r)
+    go [] = cut
+    go (b ∷ l) =
+        split (leb 1 (length (run s)))
+        (λ e. split (rule (run s)) (λ f. rw (e, nameOf, f) finds) (λ f. rw (e, nameOf, f) (other refl)))
+        (λ e. rw (e, nameOf) (other refl))
+
+due-ends : (c : ℕ) (s : List ℕ) → Ends (due c s)
+unfolding due
+due-ends c [] = cut
+due-ends c (b ∷ l) = split (eqb b c) (λ e. rw (e, due) finds) (λ e. rw (e, due) (other refl))
+
+makes-ends : {A : Type 0} (room : ℕ) (at : List ℕ) (a : A) (left : List ℕ) → Ends (makes room at a left)
+unfolding makes
+makes-ends zero at a left = other refl
+makes-ends (suc room) at a left = finds
+
+-- ---- annotations
+
+mutual
+  unfolding textOf
+
+  text-ends : (s : List ℕ) → Ends (textOf s)
+  text-ends [] = cut
+  text-ends (b ∷ l) =
+      split (eqb b (byte "]")) (λ e. rw (e, textOf) finds)
+      (λ e. split (eqb b (byte "\\")) (λ f. rw (e, textOf, f) (escaped-ends (b ∷ l) l))
+      (λ f. split (isLineEnd b) (λ g. rw (e, textOf, f, g) (other refl)) (λ g. rw (e, textOf, f, g) (then (textOf l) (text-ends l) (λ t left. finds)))))
+
+  escaped-ends : (back l : List ℕ) → Ends (escapeOf back l)
+  escaped-ends back [] = cut
+  escaped-ends back (b ∷ l) =
+      split (elem b (bytes "]\\")) (λ e. rw (e, escapeOf) (then (textOf l) (text-ends l) (λ t left. finds))) (λ e. rw (e, escapeOf) (other refl))
+
+annotation-ends : (room tabs : ℕ) (s : List ℕ) → Ends (annotation room tabs s)
+unfolding annotation
+annotation-ends room tabs s =
+    then (textOf s) (text-ends s)
+    (λ t left. then (makes room s t left) (makes-ends room s t left) (λ t left. then (lineRest left) (line-rest left) (λ rest end. finds)))
+
+annotations-end : (room : ℕ) (s : List ℕ) → Ends (annotations room s)
+unfolding annotationTurn
+annotations-end room s = run-ends (λ a. 1) annotationTurn annotation-shorter turns room s
+  where
+    turns : (room : ℕ) (s : List ℕ) → Stops (annotationTurn room s)
+    turns room s =
+        let inner = drop 1 (behind isTab s) in
+        split (startsWith (bytes "[") (behind isTab s))
+        (λ e. rw (e, annotationTurn) (turn-of (annotation room (lengthIn isTab s) inner) (annotation-ends room (lengthIn isTab s) inner)))
+        (λ e. rw (e, annotationTurn) ends)
+
+-- ---- values
+
+module _ (quote : ℕ) (back : List ℕ) where
+  judged-ends : (p : Piece) (left : List ℕ) → Ends (judged quote back p left)
+  unfolding judged
+  judged-ends p left = split (pieceRule quote p) (λ e. rw (e, judged) finds) (λ e. rw (e, judged) (other refl))
+
+  four-ends : (s : List ℕ) → Ends (fourDigits quote back s)
+  unfolding fourDigits
+  four-ends s =
+      split (leb 4 (lengthIn isHex s)) (λ e. rw (e, fourDigits) (judged-ends (four (take 4 s)) (drop 4 s)))
+      (λ e. byFront (behind isHex s) (λ f. rw (e, fourDigits, f) cut) (λ b l f. rw (e, fourDigits, f) (other refl)))
+
+  braced-ends : (s : List ℕ) → Ends (bracedDigits quote back s)
+  unfolding bracedDigits
+  braced-ends s =
+      split (leb 7 (lengthIn isHex s)) (λ e. rw (e, bracedDigits) (other refl))
+      (λ e. byFront (behind isHex s) (λ f. rw (e, bracedDigits, f) cut)
+      (λ b l f. split (eqb b (byte "}"))
+      (λ g. rw (e, bracedDigits, f, g) (judged-ends (braces (front isHex s)) l))
+      (λ g. rw (e, bracedDigits, f, g) (other refl))))
+
+  escape-ends : (l : List ℕ) → Ends (escape quote back l)
+  unfolding escape
+  escape-ends [] = cut
+  escape-ends (b ∷ l) =
+      split (eqb b (byte "u"))
+      (λ e. split (startsWith (bytes "{") l) (λ f. rw (e, escape, f) (braced-ends (drop 1 l))) (λ f. rw (e, escape, f) (four-ends l)))
+      (λ e. rw (e, escape) (judged-ends (escaped b) l))
+
+string-ends : (s : List ℕ) → Ends (manyOf (λ p. 0) pieceTurn 0 s)
+unfolding pieceTurn
+string-ends s = run-ends (λ p. 0) pieceTurn turn-shorter turns 0 s
+  where
+    turns : (room : ℕ) (s : List ℕ) → Stops (pieceTurn room s)
+    turns room [] = cut
+    turns room (b ∷ l) =
+        byInside (byte "\"") b
+        (λ q e. rw (turn-closes room b l e) ends)
+        (λ q e. rw (turn-escapes room b l e) (turn-of (escape (byte "\"") (b ∷ l) l) (escape-ends (byte "\"") (b ∷ l) l)))
+        (λ e. rw (turn-breaks room b l e) (other refl))
+        (λ r e. rw (turn-itself room b l e) goes)
+
+backtick-ends : (s : List ℕ) → Ends (manyOf (λ p. 0) backtickTurn 0 s)
+unfolding backtickTurn
+backtick-ends s = run-ends (λ p. 0) backtickTurn tick-shorter turns 0 s
+  where
+    turns : (room : ℕ) (s : List ℕ) → Stops (backtickTurn room s)
+    turns room [] = cut
+    turns room (b ∷ l) =
+        split (eqb b (byte "`")) (λ e. rw (e, backtickTurn) ends)
+        (λ e. split (startsWith (bytes "\\`") (b ∷ l)) (λ f. rw (e, backtickTurn, f) goes) (λ f. rw (e, backtickTurn, f) goes))
+
+close-ends : (ps : List Piece) (s : List ℕ) → Ends (closeCharacter ps s)
+unfolding closeCharacter
+close-ends ps [] = cut
+close-ends ps (b ∷ l) = split (eqb b (byte "'")) (λ e. rw (e, closeCharacter) finds) (λ e. rw (e, closeCharacter) (other refl))
+
+character-ends : (s : List ℕ) → Ends (characterOf s)
+unfolding characterOf
+character-ends [] = cut
+character-ends (b ∷ l) =
+    byInside (byte "'") b
+    (λ q e. rw (character-closes b l e) (other refl))
+    (λ q e. rw (character-escapes b l e) (then (escape (byte "'") (b ∷ l) l) (escape-ends (byte "'") (b ∷ l) l) (λ p left. close-ends (p ∷ []) left)))
+    (λ e. rw (character-breaks b l e) (other refl))
+    (λ r e. direct e (scalar (b ∷ l)) refl)
+  where
+    direct : insideOf (byte "'") b ≡ itself → (x : Found ℕ) → scalar (b ∷ l) ≡ x → Ends (characterOf (b ∷ l))
+    direct e (found v left) f = rw (character-itself b l v left e f) (close-ends _ left)
+    direct e (fault n left) f = rw (character-broken b l n left e f) (other refl)
+
+leaf-ends : (also s : List ℕ) → Ends (leafOf also s)
+unfolding leafOf wordOf
+leaf-ends also [] = cut
+leaf-ends also (b ∷ l) =
+    byFirst b
+    (λ q. rw (q, leaf-string also l) (then (manyOf (λ p. 0) pieceTurn 0 l) (string-ends l) (λ ps left. finds)))
+    (λ q. rw (q, leaf-character also l) (character-ends l))
+    (λ q. rw (q, leaf-backtick also l) (then (manyOf (λ p. 0) backtickTurn 0 l) (backtick-ends l) (λ ps left. finds)))
+    (λ e. rw (leaf-word also l b e) (word (take (wordLength also (b ∷ l)) (b ∷ l)) (drop (wordLength also (b ∷ l)) (b ∷ l))))
+  where
+    word : (w left : List ℕ) → Ends (wordOf (b ∷ l) w left)
+    word w [] = cut
+    word w (c ∷ m) = split (eqb (wordForm w) 0) (λ e. rw (e, wordOf) (other refl)) (λ e. rw (e, wordOf) finds)
+
+-- lists, where values and what stands behind an item do so below some length
+module _ (n : ℕ) (ones : (lists : ℕ) (s : List ℕ) → length s < n → Ends (valueOf lists listEnders s))
+    (mores : (lists : ℕ) (s : List ℕ) → length s < n → Ends (moreOf lists s)) where
+  item-ends : {A : Type 0} (lists : ℕ) (make : Value → More → A) (s : List ℕ) → length s < n → Ends (itemAnd lists make s)
+  item-ends lists make s h =
+      then-by s (ReadValue lists listEnders s) (valueOf lists listEnders s) (value-reads (suc (length s)) lists listEnders s) (ones lists s h)
+      (λ v left t r. then (moreOf lists left) (mores lists left (omega (arith, r .shorter))) (λ more end. finds))
+
+  list-ends : (lists : ℕ) (also l : List ℕ) → length l < n → Ends (valueOf lists also (byte "[" ∷ l))
+  list-ends zero also l h = rw (value-of-deep also l) (other refl)
+  list-ends (suc lists) also l h =
+      split (startsWith (bytes "]") l)
+      (λ e. rw (starts-is (bytes "]") l e, value-of-empty lists also (drop 1 l)) finds)
+      (λ e. rw (value-of-list lists also l e) (item-ends lists list l h))
+
+  behind-ends : (lists b : ℕ) (l : List ℕ) → length l < n → Ends (moreOf lists (b ∷ l))
+  behind-ends lists b l h =
+      let short = tail-length (tail-drop (lengthIn isWhite l) l) in
+      split (eqb b (byte "]")) (λ e. rw (eqb-true b (byte "]") e, more-of-close lists l) finds)
+      (λ e. split (eqb b (byte ","))
+      (λ f. rw (eqb-true b (byte ",") f, more-of-comma lists l) (item-ends lists (comma (front isWhite l)) (behind isWhite l) (omega arith)))
+      (λ f. rw (more-of-other lists b l e f) (other refl)))
+
+mutual
+  value-ends : (n lists : ℕ) (also s : List ℕ) → length s < n → Ends (valueOf lists also s)
+  value-ends zero lists also s h = absurd (omega arith)
+  value-ends (suc n) lists also s h =
+      split (startsWith (bytes "[") s)
+      (λ e. let q = starts-is (bytes "[") s e in
+      rw q (list-ends n (λ m l k. value-ends n m listEnders l k) (λ m l k. more-ends n m l k) lists also (drop 1 s) (omega (arith, ap length q))))
+      (λ e. rw (value-of-leaf lists also s e) (then (leafOf also s) (leaf-ends also s) (λ v left. finds)))
+
+  more-ends : (n lists : ℕ) (s : List ℕ) → length s < n → Ends (moreOf lists s)
+  more-ends zero lists s h = absurd (omega arith)
+  more-ends (suc n) lists [] h = rw (more-of-end lists) cut
+  more-ends (suc n) lists (b ∷ l) h = behind-ends n (λ m l k. value-ends n m listEnders l k) (λ m l k. more-ends n m l k) lists b l (omega arith)
+
+whole-ends : (lists : ℕ) (s : List ℕ) → Ends (wholeValue lists s)
+whole-ends lists s = go (valueOf lists [] s) refl (value-ends (suc (length s)) lists [] s (omega arith))
+  where
+    go : (x : Found Value) → valueOf lists [] s ≡ x → Ends x → Ends (wholeValue lists s)
+    go (found v left) e finds = rw (whole-found lists s v left e) finds
+    go (fault n left) e cut = rw (whole-fault lists s 9 [] e) cut
+    go (fault n left) e (other f) = rw (whole-fault lists s n left e) (other f)
+
+-- ---- markers
+
+enters-ends : (room : ℕ) (named valued : List ℕ) (t : Trait) (left : List ℕ) → Ends (enters room named valued t left)
+unfolding enters
+enters-ends room named valued t left = split (leb (traitSize t) room) (λ e. rw (e, enters) finds) (λ e. rw (e, enters) (go room))
+  where
+    go : (room : ℕ) → Ends {A = Trait} (elim room [
+      | zero ↦ fault 11 named
+      | suc items ↦ fault 11 (drop (getD (map (λ e. e .start) (itemEntries 0 0 0 (t .value))) items 0) valued)
+    ])
+    go zero = other refl
+    go (suc items) = other refl
+
+trait-ends : (by : Bounds) (room : ℕ) (white s : List ℕ) → Ends (trait by room white s)
+unfolding trait
+trait-ends by room white s =
+    then (name (isName isLower (by .names)) s) (name-ends _ s)
+    (λ w left. then (due (byte "=") left) (due-ends (byte "=") left)
+    (λ b valued. then (wholeValue (by .lists) valued) (whole-ends (by .lists) valued) (λ v left. enters-ends room s valued _ left)))
+
+traits-end : (by : Bounds) (room : ℕ) (s : List ℕ) → Ends (manyOf traitSize (traitTurn by) room s)
+unfolding traitTurn traitDue
+traits-end by room s = run-ends traitSize (traitTurn by) (trait-shorter by) (λ room s. turns room s (behind isWhite s)) room s
+  where
+    turns : (room : ℕ) (s r : List ℕ) → Stops (traitDue by room s (front isWhite s) r)
+    turns room s [] = cut
+    turns room s (b ∷ l) =
+        let white = front isWhite s in
+        split (elem b (bytes ">/")) (λ e. rw (e, traitDue) ends)
+        (λ e. split (leb 1 (length white))
+        (λ f. rw (e, traitDue, f) (turn-of (trait by room white (b ∷ l)) (trait-ends by room white (b ∷ l))))
+        (λ f. rw (e, traitDue, f) (other refl)))
+
+ending-ends : (s : List ℕ) → Ends (ending s)
+unfolding ending
+ending-ends [] = cut
+ending-ends (b ∷ l) =
+    split (eqb b (byte ">")) (λ e. rw (e, ending) finds)
+    (λ e. rw (e, ending) (then (due (byte "/") (b ∷ l)) (due-ends (byte "/") (b ∷ l))
+    (λ c left. then (due (byte ">") left) (due-ends (byte ">") left) (λ d end. finds))))
+
+opened-ends : (by : Bounds) (room : ℕ) (w s : List ℕ) → Ends (opened by room w s)
+unfolding opened
+opened-ends by room w s =
+    then (manyOf traitSize (traitTurn by) room s) (traits-end by room s)
+    (λ ts left. then (ending (behind isWhite left)) (ending-ends (behind isWhite left)) (λ e end. finds))
+
+admitted-ends : (by : Bounds) (deeper room : ℕ) (at s w left : List ℕ) → Ends (admitted by deeper room at s w left)
+unfolding admitted
+admitted-ends by zero room at s w left = other refl
+admitted-ends by (suc deeper) room at s w left = go (modeOf (by .modes) w)
+  where
+    go : (mode : Mode) → Ends {A = Mode} (elim mode [ Children ↦ makes room s Children left | Content ↦ makes room s Content left | Absent ↦ fault 5 s ])
+    go Children = makes-ends room s Children left
+    go Content = makes-ends room s Content left
+    go Absent = other refl
+
+closing-ends : (w s : List ℕ) → Ends (closing w s)
+unfolding closing
+closing-ends w s =
+    then (due (byte "<") s) (due-ends (byte "<") s)
+    (λ b left. then (due (byte "/") left) (due-ends (byte "/") left)
+    (λ c named. then (name (λ v. true) named) (name-ends (λ v. true) named)
+    (λ v left. split (same w v) (λ e. rw e (due-ends (byte ">") left)) (λ e. rw e (other refl)))))
+
+-- ---- Content
+
+text-line : (s : List ℕ) → Ends (textLine s)
+unfolding textLine
+text-line s = then (lineEnd [] (onward isLineEnd s)) (line-end [] (onward isLineEnd s)) (λ b left. finds)
+
+lines-end : (tabs : ℕ) (w s : List ℕ) → Ends (manyOf (λ l. 0) (lineTurn tabs w) 0 s)
+unfolding lineTurn otherLine
+lines-end tabs w s = run-ends (λ l. 0) (lineTurn tabs w) (line-shorter tabs w) turns 0 s
+  where
+    others : (s r : List ℕ) → Stops (otherLine tabs s r)
+    others s [] = cut
+    others s (b ∷ l) =
+        let inner = drop (suc tabs) s in
+        split (startsWith (tabsOnto (suc tabs) []) s)
+        (λ e. rw (e, otherLine) (turn-of (textLine inner) (text-line inner)))
+        (λ e. rw (e, otherLine) (other refl))
+
+    turns : (room : ℕ) (s : List ℕ) → Stops (lineTurn tabs w room s)
+    turns room s =
+        split (closesLine tabs w s) (λ e. rw (e, lineTurn) ends)
+        (λ e. split (isBlankLine s)
+        (λ f. rw (e, lineTurn, f) (turn-of (andThen (lineRest s) (λ b left. found (blank b) left)) (then (lineRest s) (line-rest s) (λ b left. finds))))
+        (λ f. rw (e, lineTurn, f) (others s (behind isBlank s))))
+
+content-ends : (tabs room : ℕ) (k : Marker) (s : List ℕ) → Ends (contentOf tabs room k s)
+unfolding contentOf
+content-ends tabs room k s =
+    then (lineRest s) (line-rest s)
+    (λ rest start. then (makes room start rest start) (makes-ends room start rest start)
+    (λ rest start. then (manyOf (λ l. 0) (lineTurn tabs (k .name)) 0 start) (lines-end tabs (k .name) start) (λ lines left. finds)))
+
+-- ---- Concepts
+
+-- behind an opening marker, where a children block does
+behind-marker : (by : Bounds) (deeper room tabs : ℕ) (named left : List ℕ) (mode : Mode) (o : Opened)
+    → Ends (blockOf by (deeper - 1) (room - 1 - traitsSize (o .marker .traits)) (o .marker) left) → Ends (behindMarker by deeper room tabs named mode o left)
+behind-marker by deeper room tabs named left mode o h = by-ending (o .ends)
+  where
+    inner : Found Concept
+    inner = contentOf tabs (room - 1 - traitsSize (o .marker .traits)) (o .marker) left
+
+    by-mode : (m : Mode) → Ends {A = Concept} (elim m [
+      | Children ↦ blockOf by (deeper - 1) (room - 1 - traitsSize (o .marker .traits)) (o .marker) left
+      | Content ↦ inner
+      | Absent ↦ fault 5 named
+    ])
+    by-mode Children = h
+    by-mode Content = content-ends tabs (room - 1 - traitsSize (o .marker .traits)) (o .marker) left
+    by-mode Absent = other refl
+
+    by-ending : (e : Ending) → Ends {A = Concept} (elim e [
+      | self ↦ found (selfClosed (o .marker)) left
+      | block ↦ elim mode [
+        | Children ↦ blockOf by (deeper - 1) (room - 1 - traitsSize (o .marker .traits)) (o .marker) left
+        | Content ↦ inner
+        | Absent ↦ fault 5 named
+      ]
+    ])
+    by-ending self = finds
+    by-ending block = by-mode mode
+
+-- ---- Concepts, by their length
+
+-- a body that an element begins, which is read so
+abbrev elementAnd : Bounds → ℕ → ℕ → List ℕ → Found Body
+elementAnd by deeper room s =
+    andThen (annotations room s) (λ notes line. andThen (conceptOf by deeper (room - length notes) (lengthIn isTab line) (behind isTab line)) (λ c left.
+    andThen (lineRest left) (λ rest next. andThen (bodyOf by deeper (room - length notes - conceptSize c) next) (λ inner end.
+    found (element notes (lengthIn isTab line) c rest inner) end))))
+
+-- a body that no blank line begins, where one does that an element begins
+marked-ends : (by : Bounds) (deeper room : ℕ) (s : List ℕ) → isBlankLine s ≡ false → Ends (elementAnd by deeper room s) → Ends (bodyOf by deeper room s)
+marked-ends by deeper room s e h = go (tabsOnly s) refl (tabs-only s)
+  where
+    go : (x : Found ℕ) → tabsOnly s ≡ x → Ends x → Ends (bodyOf by deeper room s)
+    go (fault k left) f cut = rw (body-of-fault by deeper room s e 9 [] f) cut
+    go (fault k left) f (other g) = rw (body-of-fault by deeper room s e k left f) (other g)
+    go (found tabs mark) f finds =
+        split (startsWith (bytes "</") mark)
+        (λ c. rw (body-of-closing by deeper room s e tabs mark f c) finds)
+        (λ c. rw (body-of-element by deeper room s e tabs mark f c) h)
+
+mutual
+  concept-ends : (n : ℕ) (by : Bounds) (deeper room tabs : ℕ) (s : List ℕ) → length s < n → Ends (conceptOf by deeper room tabs s)
+  concept-ends zero by deeper room tabs s h = absurd (omega arith)
+  concept-ends (suc n) by deeper room tabs s h =
+      let rule = isName isUpper (by .names) in
+      rw (concept-of by deeper room tabs s)
+      (then-by s (λ b named. s ≡ byte "<" ∷ named) (due (byte "<") s) (due-reads (byte "<") s) (due-ends (byte "<") s)
+      (λ b named t d. then-by named (λ w mid. ReadName rule named w mid) (name rule named) (name-reads rule named) (name-ends rule named)
+      (λ w mid u r. then-by s (λ mode start. Admits by deeper room w mid mode start) (admitted by deeper room s named w mid)
+      (admitted-reads by deeper room s named w mid t (tail-then t u)) (admitted-ends by deeper room s named w mid)
+      (λ mode start v a. then-by start (λ o left. ReadOpened by (room - 1) w start o left) (opened by (room - 1) w start)
+      (opened-reads by (room - 1) w start) (opened-ends by (room - 1) w start)
+      (λ o left x q.
+      let short = marker-shorter by (room - 1) rule deeper room s named w mid start mode o left d r a q in
+      let inner = room - 1 - traitsSize (o .marker .traits) in
+      behind-marker by deeper room tabs named left mode o (block-ends n by (deeper - 1) inner (o .marker) left (omega arith)))))))
+
+  block-ends : (n : ℕ) (by : Bounds) (deeper room : ℕ) (k : Marker) (s : List ℕ) → length s + 2 < n → Ends (blockOf by deeper room k s)
+  block-ends zero by deeper room k s h = absurd (omega arith)
+  block-ends (suc n) by deeper room k s h =
+      rw (block-of by deeper room k s)
+      (then-by s (λ b left. ReadBlank s b left) (lineRest s) (rest-reads s) (line-rest s)
+      (λ rest start t r. then (bodyOf by deeper room start) (body-ends n by deeper room start (omega (arith, r .shorter)))
+      (λ inner left. then (closing (k .name) (behind isTab left)) (closing-ends (k .name) (behind isTab left)) (λ b end. finds))))
+
+  body-ends : (n : ℕ) (by : Bounds) (deeper room : ℕ) (s : List ℕ) → length s + 1 < n → Ends (bodyOf by deeper room s)
+  body-ends zero by deeper room s h = absurd (omega arith)
+  body-ends (suc n) by deeper room s h =
+      split (isBlankLine s)
+      (λ e. rw (body-of-blank by deeper room s e)
+      (then-by s (λ b left. ReadBlank s b left) (lineRest s) (rest-reads s) (line-rest s)
+      (λ b next t r. then (bodyOf by deeper room next) (body-ends n by deeper room next (omega (arith, r .shorter))) (λ inner end. finds))))
+      (λ e. marked-ends by deeper room s e
+      (then-by s (λ notes line. ReadAnnotations room s notes line) (annotations room s) (annotations-reads room s) (annotations-end room s)
+      (λ notes line t a.
+      let short = tail-length (tail-then t (tail-drop (lengthIn isTab line) line)) in
+      let more = room - length notes in
+      let tabs = lengthIn isTab line in
+      let mark = behind isTab line in
+      then-by mark (λ c left. ReadConcept by deeper more tabs mark c left) (conceptOf by deeper more tabs mark)
+      (concept-reads by (length mark + 1) deeper more tabs mark) (concept-ends n by deeper more tabs mark (omega arith))
+      (λ c left u k. then-by left (λ b next. ReadBlank left b next) (lineRest left) (rest-reads left) (line-rest left)
+      (λ rest next v r. then (bodyOf by deeper (more - conceptSize c) next)
+      (body-ends n by deeper (more - conceptSize c) next (omega (arith, r .shorter, tail-length u, short))) (λ inner end. finds))))))
+
+-- ---- a whole sheet
+
+last-ends : (blanks s : List ℕ) → Ends (lastBlanks blanks s)
+unfolding lastBlanks
+last-ends blanks [] = finds
+last-ends blanks (b ∷ l) = other refl
+
+sheet-ends : (by : Bounds) (deeper room : ℕ) (s : List ℕ) → Ends (sheetTree by deeper room s)
+unfolding sheetTree
+sheet-ends by deeper room s =
+    then (blankLines s) (blank-lines s)
+    (λ before first. then (tabsOnly first) (tabs-only first)
+    (λ tabs mark. then (annotations room first) (annotations-end room first)
+    (λ notes line. then (conceptOf by deeper (room - length notes) (lengthIn isTab line) (behind isTab line))
+    (concept-ends (length (behind isTab line) + 1) by deeper (room - length notes) (lengthIn isTab line) (behind isTab line) (omega arith))
+    (λ c left. then (blankLines left) (blank-lines left)
+    (λ after rest. then (lastBlanks (front isBlank rest) (behind isBlank rest)) (last-ends _ (behind isBlank rest)) (λ last end. finds))))))
+
+-- a 9 of a sheet leaves nothing
+pub cut-at-end : (by : Bounds) (deeper room : ℕ) (s left : List ℕ) → sheetTree by deeper room s ≡ fault 9 left → left ≡ []
+cut-at-end by deeper room s left e = go (sheetTree by deeper room s) e (sheet-ends by deeper room s)
+  where
+    go : (x : Found Sheet) → x ≡ fault 9 left → Ends x → left ≡ []
+    go (found t rest) e finds = cc
+    go (fault n rest) e cut = cc
+    go (fault n rest) e (other f) = let q : n ≡ 9 = cc in true-false (sym (eq-eqb n 9 q) ∙ f)
