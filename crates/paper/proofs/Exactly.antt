@@ -27,7 +27,7 @@ use Rattle.paper.proofs.Before.{Only, table-only, table-whole, bytes-on
 use Rattle.paper.proofs.Tables.{table-exactly, table-back, table-invalid, fault-answer}
 use Rattle.paper.proofs.TableSizes.{table-small}
 use Rattle.paper.proofs.Sizes.{entries-size, filled-only}
-use Rattle.paper.proofs.Cuts.{cut-at-end}
+use Rattle.paper.proofs.AtEnd.{cut-at-end}
 use Rattle.paper.proofs.Sheets.{ReadSheet, sheet-reads, sheet-complete}
 
 -- ---- a sheet under a valid table

@@ -23,7 +23,7 @@ pub mod Sizes
 pub mod Before
 pub mod Tables
 pub mod TableSizes
-pub mod Cuts
+pub mod AtEnd
 pub mod Exactly
 pub mod OnlyOne
 pub mod Starred
