@@ -16,25 +16,50 @@
 extern "C" {
 #endif
 
-/* An answer's number: CDX_OK, or why the input is refused. */
+/* The limits. What is past them is refused, so that no program needs more room than they say. */
+#define CDX_MAX_SHEET 16384  /* bytes of a sheet */
+#define CDX_MAX_ENTRIES 1024 /* entries of a sheet */
+#define CDX_MAX_CONCEPTS 32  /* Concepts in one another, the root counting as one */
+#define CDX_MAX_LISTS 8      /* lists in one another, the outermost counting as one */
+#define CDX_MAX_NAME 32      /* bytes of a name */
+#define CDX_MAX_SECTION 64   /* names in each of the two sections of a mode table */
+#define CDX_MAX_ROLL 65536   /* bytes of a roll */
+#define CDX_MAX_SHEETS 256   /* sheets in a roll */
+
+/* The bytes of the longest mode table: a count for each section, and a length for each name. */
+#define CDX_MAX_TABLE (2 * (1 + CDX_MAX_SECTION * (1 + CDX_MAX_NAME)))
+
+/* An answer is so many numbers: what they are is said with each function. */
+#define CDX_ANSWER 3
+
+/* An answer's first number: CDX_OK, or why the input is refused. */
 enum cdx_number {
     CDX_OK = 0,
     CDX_TABLE = 1,          /* the mode table is not in order */
-    CDX_SHEET_TOO_LONG = 2, /* the sheet has more than 16,384 bytes */
+    CDX_SHEET_TOO_LONG = 2, /* the sheet has more than CDX_MAX_SHEET bytes */
     CDX_BYTES = 3,          /* bytes that no sheet may have: not UTF-8, or a control byte */
-    CDX_NAME = 4,           /* a name breaks the name rule or is longer than 32 bytes */
+    CDX_NAME = 4,           /* a name breaks the name rule or is longer than CDX_MAX_NAME bytes */
     CDX_UNLISTED = 5,       /* a Concept's name is not in the mode table */
     CDX_VALUE = 6,          /* a trait's value is of no kind */
     CDX_DUE = 7,            /* something else was due here */
     CDX_CLOSING_NAME = 8,   /* a closing marker has another name than the open Concept */
     CDX_CUT = 9,            /* the input ends before the root is closed */
-    CDX_TOO_DEEP = 10,      /* more than 32 Concepts or 8 lists in one another */
-    CDX_NO_ENTRY_LEFT = 11, /* more entries than 1,024, or than there are cells lent for */
-    CDX_VIEW = 17           /* this entry cannot be viewed */
+    CDX_TOO_DEEP = 10,      /* more than CDX_MAX_CONCEPTS Concepts or CDX_MAX_LISTS lists in one another */
+    CDX_NO_ENTRY_LEFT = 11, /* more entries than CDX_MAX_ENTRIES, or than there are cells lent for */
+    /* 12 to 16 are for canonical forms and rolls, and none of the functions below gives them: */
+    CDX_NO_ROOM = 12,         /* the canonical form, or the roll with it, is too long */
+    CDX_ROLL_TOO_LONG = 13,   /* the roll has more than CDX_MAX_ROLL bytes */
+    CDX_BEFORE_BOUNDARY = 14, /* something stands before a roll's first sheet, or a roll to be added to does not end with a line end */
+    CDX_TOO_MANY_SHEETS = 15, /* more sheets in a roll than CDX_MAX_SHEETS, or than there are records lent for */
+    CDX_ROOT_ANNOTATED = 16,  /* the sheet to be added has an annotation before its root */
+    CDX_VIEW = 17             /* this entry cannot be viewed */
 };
 
 /* An entry is so many cells, and these are its cells by their place in it. */
 #define CDX_CELLS 8
+
+/* Cells for the entries of every sheet. */
+#define CDX_MAX_CELLS (CDX_MAX_ENTRIES * CDX_CELLS)
 
 enum cdx_cell {
     CDX_KIND = 0,       /* an enum cdx_kind; 0 where there is no entry */
@@ -74,7 +99,7 @@ enum cdx_value_form {
 void cdx_table(const uint8_t *table, size_t table_len, uint32_t answer[3]);
 
 /* Reads a sheet under a mode table, and writes its entries into the cells lent.
- * cells_len counts cells, not bytes; there is room for cells_len / CDX_CELLS entries, and no sheet has more than 1,024.
+ * cells_len counts cells, not bytes; there is room for cells_len / CDX_CELLS entries, and no sheet has more than CDX_MAX_ENTRIES.
  * answer: CDX_OK, the sheet's length and how many entries it has; all cells behind them are 0. Or the number of a
  * refusal, its place (in the table for CDX_TABLE, else in the sheet) and 0; then every cell is 0. */
 void cdx_sheet(const uint8_t *table, size_t table_len, const uint8_t *sheet, size_t sheet_len, uint32_t *cells, size_t cells_len, uint32_t answer[3]);

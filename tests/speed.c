@@ -10,21 +10,19 @@
 #include <stdio.h>
 #include <stdlib.h>
 
-enum { ROOM = 32768, CELLS = 8192 };
+static uint8_t table[CDX_MAX_TABLE + 1];
+static uint8_t sheet[CDX_MAX_SHEET + 1];
+static uint32_t cells[CDX_MAX_CELLS];
 
-static uint8_t table[ROOM];
-static uint8_t sheet[ROOM];
-static uint32_t cells[CELLS];
-
-/* Puts a file into the room of an input, and gives its length. */
-static size_t load(const char *path, uint8_t *room)
+/* Puts a file into the room of an input, as far as both go, and gives its length. */
+static size_t load(const char *path, uint8_t *room, size_t size)
 {
     FILE *file = fopen(path, "rb");
     if (file == NULL) {
         perror(path);
         exit(2);
     }
-    size_t length = fread(room, 1, ROOM, file);
+    size_t length = fread(room, 1, size, file);
     fclose(file);
     return length;
 }
@@ -35,15 +33,15 @@ int main(int argc, char **argv)
         fprintf(stderr, "usage: speed TABLE SHEET LENT TIMES\n");
         return 2;
     }
-    size_t table_len = load(argv[1], table);
-    size_t sheet_len = load(argv[2], sheet);
+    size_t table_len = load(argv[1], table, sizeof table);
+    size_t sheet_len = load(argv[2], sheet, sizeof sheet);
     size_t lent = strtoul(argv[3], NULL, 10);
     long times = strtol(argv[4], NULL, 10);
-    if (CELLS < lent) {
-        fprintf(stderr, "speed: at most %d cells can be lent\n", CELLS);
+    if (CDX_MAX_CELLS < lent) {
+        fprintf(stderr, "speed: at most %d cells can be lent\n", CDX_MAX_CELLS);
         return 2;
     }
-    uint32_t answer[3] = {0, 0, 0};
+    uint32_t answer[CDX_ANSWER] = {CDX_OK};
     while (0 < times) {
         cdx_sheet(table, table_len, sheet, sheet_len, cells, lent, answer);
         times -= 1;

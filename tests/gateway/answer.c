@@ -164,7 +164,7 @@ static bool read_cells(char **rest, struct input *cells)
 
 /* ---- Answers */
 
-static void print_answer(const uint32_t answer[3])
+static void print_answer(const uint32_t answer[CDX_ANSWER])
 {
     printf("%u %u %u", (unsigned)answer[0], (unsigned)answer[1], (unsigned)answer[2]);
 }
@@ -172,7 +172,7 @@ static void print_answer(const uint32_t answer[3])
 /* Number, place, count. */
 static void answer_table(struct input table)
 {
-    struct loan lent_table = lend(table.items, table.count), answer = lend_cells(NULL, 3);
+    struct loan lent_table = lend(table.items, table.count), answer = lend_cells(NULL, CDX_ANSWER);
     cdx_table(bytes_of(lent_table), table.count, cells_of(answer));
     if (!all_kept(lent_table))
         printf("broken: cdx_table changed the table or its guards");
@@ -197,7 +197,7 @@ static void print_cells(const uint32_t *cells, size_t count)
 static void answer_sheet(struct input table, struct input sheet, size_t lent)
 {
     struct loan lent_table = lend(table.items, table.count), lent_sheet = lend(sheet.items, sheet.count);
-    struct loan cells = lend_cells(NULL, lent), answer = lend_cells(NULL, 3);
+    struct loan cells = lend_cells(NULL, lent), answer = lend_cells(NULL, CDX_ANSWER);
     cdx_sheet(bytes_of(lent_table), table.count, bytes_of(lent_sheet), sheet.count, cells_of(cells), lent, cells_of(answer));
     if (!all_kept(lent_table))
         printf("broken: cdx_sheet changed the table or its guards");
@@ -218,7 +218,7 @@ static void answer_sheet(struct input table, struct input sheet, size_t lent)
 }
 
 /* Number, 0, the part's length, and the part; a refusal is printed as it came, with no part. */
-static void print_part(const uint32_t answer[3], struct input sheet)
+static void print_part(const uint32_t answer[CDX_ANSWER], struct input sheet)
 {
     uint32_t start = answer[1], end = answer[2];
     if (answer[0] != CDX_OK) {
@@ -236,7 +236,7 @@ static void print_part(const uint32_t answer[3], struct input sheet)
 static void answer_view(struct input sheet, uint64_t entry, struct input cells)
 {
     struct loan lent_sheet = lend(sheet.items, sheet.count), lent_cells = lend_cells(cells.items, cells.count);
-    struct loan answer = lend_cells(NULL, 3);
+    struct loan answer = lend_cells(NULL, CDX_ANSWER);
     cdx_view(bytes_of(lent_sheet), sheet.count, cells_of(lent_cells), cells.count, entry, cells_of(answer));
     if (!all_kept(lent_sheet))
         printf("broken: cdx_view changed the sheet or its guards");

@@ -1,0 +1,183 @@
+/* Holds the numbers of cdx.h to libgateway.a: what is at a limit is accepted and what is one past it refused, each refusal has its
+ * number, and each kind and form of an entry too. Says what is not so, and then ends with status 1. */
+#include "cdx.h"
+
+#include <stdio.h>
+#include <string.h>
+
+static const char lab[] = "\1\3Lab\1\5Steps"; /* Lab in children mode, Steps in content mode */
+
+static char text[2 * CDX_MAX_SHEET]; /* a sheet or a table in the making */
+static size_t length;
+static uint32_t cells[CDX_MAX_CELLS + CDX_CELLS]; /* an entry more than is allowed */
+static const size_t cells_len = sizeof cells / sizeof *cells;
+static int status;
+
+static void add(const char *part, size_t times)
+{
+    for (size_t size = strlen(part); times > 0; times--, length += size)
+        memcpy(text + length, part, size);
+}
+
+static void wrong(const char *what, unsigned due, unsigned got)
+{
+    printf("%s: the header says %u, the library %u\n", what, due, got);
+    status = 1;
+}
+
+/* Reads the sheet in the making, and begins anew. */
+static void sheet_is(enum cdx_number due, const char *what)
+{
+    uint32_t answer[CDX_ANSWER];
+    cdx_sheet((const uint8_t *)lab, sizeof lab - 1, (const uint8_t *)text, length, cells, cells_len, answer);
+    if (answer[0] != due)
+        wrong(what, due, answer[0]);
+    length = 0;
+}
+
+/* Reads the table in the making, and begins anew. */
+static void table_is(enum cdx_number due, const char *what)
+{
+    uint32_t answer[CDX_ANSWER];
+    cdx_table((const uint8_t *)text, length, answer);
+    if (answer[0] != due)
+        wrong(what, due, answer[0]);
+    length = 0;
+}
+
+/* At the limit `past` is 0, and one past it 1. */
+static void add_sheet(size_t past)
+{
+    add("<Steps>\n\t", 1);
+    add("x", CDX_MAX_SHEET + past - strlen("<Steps>\n\t\n</Steps>"));
+    add("\n</Steps>", 1);
+}
+
+static void add_entries(size_t past) /* Concept, trait and items */
+{
+    add("<Lab n=[1", 1);
+    add(",1", CDX_MAX_ENTRIES + past - 3);
+    add("]/>", 1);
+}
+
+static void add_concepts(size_t past)
+{
+    add("<Lab>\n", CDX_MAX_CONCEPTS + past - 1);
+    add("<Lab/>\n", 1);
+    add("</Lab>\n", CDX_MAX_CONCEPTS + past - 1);
+}
+
+static void add_lists(size_t past)
+{
+    add("<Lab n=", 1);
+    add("[", CDX_MAX_LISTS + past);
+    add("]", CDX_MAX_LISTS + past);
+    add("/>", 1);
+}
+
+static void add_name(size_t past)
+{
+    add("<Lab ", 1);
+    add("n", CDX_MAX_NAME + past);
+    add("=1/>", 1);
+}
+
+/* A section of names of the greatest length, which all begin with this letter. */
+static void add_section(char letter, size_t names)
+{
+    text[length++] = (char)names;
+    for (size_t n = 0; n < names; n++) {
+        const char start[] = {CDX_MAX_NAME, letter, (char)('a' + n / 26), (char)('a' + n % 26), 0};
+        add(start, 1);
+        add("x", CDX_MAX_NAME - 3);
+    }
+}
+
+static void try_limits(void)
+{
+    static const struct {
+        void (*add)(size_t past);
+        enum cdx_number past;
+        const char *what;
+    } limits[] = {{add_sheet, CDX_SHEET_TOO_LONG, "CDX_MAX_SHEET"},
+                  {add_entries, CDX_NO_ENTRY_LEFT, "CDX_MAX_ENTRIES"},
+                  {add_concepts, CDX_TOO_DEEP, "CDX_MAX_CONCEPTS"},
+                  {add_lists, CDX_TOO_DEEP, "CDX_MAX_LISTS"},
+                  {add_name, CDX_NAME, "CDX_MAX_NAME"}};
+    for (size_t at = 0; at < sizeof limits / sizeof *limits; at++) {
+        limits[at].add(0);
+        sheet_is(CDX_OK, limits[at].what);
+        limits[at].add(1);
+        sheet_is(limits[at].past, limits[at].what);
+    }
+    add_section('A', CDX_MAX_SECTION);
+    add_section('B', CDX_MAX_SECTION);
+    if (length != CDX_MAX_TABLE)
+        wrong("CDX_MAX_TABLE", CDX_MAX_TABLE, (unsigned)length);
+    table_is(CDX_OK, "CDX_MAX_SECTION");
+    add_section('A', 0);
+    add_section('B', CDX_MAX_SECTION + 1);
+    table_is(CDX_TABLE, "CDX_MAX_SECTION");
+}
+
+static void try_refusals(void)
+{
+    static const struct {
+        enum cdx_number number;
+        const char *sheet;
+    } refused[] = {{CDX_BYTES, "\x7F"},      {CDX_NAME, "<lab/>"},      {CDX_UNLISTED, "<Other/>"},           {CDX_VALUE, "<Lab n=04/>"},
+                   {CDX_DUE, "<Lab/>\nx"},   {CDX_CUT, "<Lab>"},        {CDX_CLOSING_NAME, "<Lab>\n</Steps>"}};
+    for (size_t at = 0; at < sizeof refused / sizeof *refused; at++) {
+        add(refused[at].sheet, 1);
+        sheet_is(refused[at].number, refused[at].sheet);
+    }
+    uint32_t answer[CDX_ANSWER];
+    cdx_view((const uint8_t *)lab, 0, cells, 0, 0, answer);
+    if (answer[0] != CDX_VIEW)
+        wrong("CDX_VIEW", CDX_VIEW, answer[0]);
+}
+
+/* An entry of the sheet that was read last: number, kind, form, parent and count. */
+static void entry_is(size_t number, enum cdx_kind kind, unsigned form, uint32_t parent, unsigned count)
+{
+    const uint32_t *entry = cells + number * CDX_CELLS;
+    if (entry[CDX_KIND] != kind)
+        wrong("a kind", kind, entry[CDX_KIND]);
+    if (entry[CDX_FORM] != form)
+        wrong("a form", form, entry[CDX_FORM]);
+    if (entry[CDX_PARENT] != parent)
+        wrong("a parent", parent, entry[CDX_PARENT]);
+    if (entry[CDX_COUNT] != count)
+        wrong("a count", count, entry[CDX_COUNT]);
+    if (entry[CDX_NAME_START] > entry[CDX_NAME_END] || entry[CDX_SPAN_START] > entry[CDX_SPAN_END])
+        wrong("the ends of an entry's name and span", entry[CDX_NAME_END], entry[CDX_SPAN_END]);
+}
+
+static void try_entries(void)
+{
+    add("[a]\n<Lab a=\"\" b='b' c=true d=4 e=0.5 f=6e6 g=7/7 h=$H i=~i j=00000000-0000-0000-0000-000000000000 k=k: l=[12]>\n", 1);
+    add("<Lab/>\n<Steps>\n</Steps>\n</Lab>", 1);
+    sheet_is(CDX_OK, "a sheet with every kind and form");
+    entry_is(0, CDX_ANNOTATION, 0, CDX_TOP, 0);
+    entry_is(1, CDX_CONCEPT, CDX_CHILDREN, CDX_TOP, 14);
+    static const enum cdx_value_form forms[] = {CDX_STRING, CDX_CHARACTER, CDX_BOOLEAN, CDX_INTEGER, CDX_DECIMAL, CDX_SCIENTIFIC,
+                                                CDX_FRACTION, CDX_PASCAL, CDX_CAMEL, CDX_UUID, CDX_IRI};
+    size_t at = 2;
+    for (; at < 2 + sizeof forms / sizeof *forms; at++)
+        entry_is(at, CDX_TRAIT, forms[at - 2], 1, 0);
+    entry_is(at, CDX_TRAIT, CDX_LIST, 1, 1);
+    entry_is(at + 1, CDX_ITEM, CDX_INTEGER, (uint32_t)at, 0);
+    entry_is(at + 2, CDX_CONCEPT, CDX_SELF_CLOSED, 1, 0);
+    entry_is(at + 3, CDX_CONCEPT, CDX_HAS_CONTENT, 1, 1);
+    entry_is(at + 4, CDX_CONTENT, 0, (uint32_t)at + 3, 0);
+}
+
+int main(void)
+{
+    try_limits();
+    try_refusals();
+    try_entries();
+    if (status == 0)
+        puts("the limits, refusals, kinds and forms of include/cdx.h are the library's");
+    return status;
+}
