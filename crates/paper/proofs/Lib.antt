@@ -39,7 +39,7 @@ pub mod Forms
 pub mod Written
 pub mod Kept
 pub mod Clean
-pub mod Runs8
+pub mod TextRuns
 pub mod Checked
 pub mod ReadsBack
 pub mod Cut
