@@ -30,66 +30,66 @@ use Rattle.paper.proofs.Markers.{trait-parts, name-white, ReadOpened, o
 
 -- ---- what reading finds
 
-pub record ReadConcept (by : Bounds) (deeper room tabs : ℕ) (s : List ℕ) (c : Concept) (left : List ℕ) : Type 0 where
+pub record ReadConcept (m : Modes) (by : Bounds) (deeper room tabs : ℕ) (s : List ℕ) (c : Concept) (left : List ℕ) : Type 0 where
   pub covers : s ≡ conceptOnto tabs c left
-  pub rule : conceptRule (by .modes) c ≡ true
+  pub rule : conceptRule m c ≡ true
   pub within : conceptFits (by .names) (by .lists) c ≡ true
   pub depth : conceptDepth c ≤ deeper
   pub fits : conceptSize c ≤ room
 
-pub record ReadBody (by : Bounds) (deeper room : ℕ) (s : List ℕ) (b : Body) (left : List ℕ) : Type 0 where
+pub record ReadBody (m : Modes) (by : Bounds) (deeper room : ℕ) (s : List ℕ) (b : Body) (left : List ℕ) : Type 0 where
   pub covers : s ≡ bodyOnto b left
-  pub rule : bodyRule (by .modes) b ≡ true
+  pub rule : bodyRule m b ≡ true
   pub within : bodyFits (by .names) (by .lists) b ≡ true
   pub depth : bodyDepth b ≤ deeper
   pub fits : bodySize b ≤ room
 
-pub record ReadChildren (by : Bounds) (deeper room : ℕ) (k : Marker) (s : List ℕ) (c : Concept) (left : List ℕ) : Type 0 where
+pub record ReadChildren (m : Modes) (by : Bounds) (deeper room : ℕ) (k : Marker) (s : List ℕ) (c : Concept) (left : List ℕ) : Type 0 where
   pub rest : Blank
   pub inner : Body
   pub back : ℕ
   pub is-children : c ≡ children k rest inner back
   pub covers : s ≡ blankOnto rest (bodyOnto inner (tabsOnto back (closingOnto (k .name) left)))
   pub rest-rule : blankRule rest ≡ true
-  pub rule : bodyRule (by .modes) inner ≡ true
+  pub rule : bodyRule m inner ≡ true
   pub within : bodyFits (by .names) (by .lists) inner ≡ true
   pub depth : bodyDepth inner ≤ deeper
   pub fits : bodySize inner ≤ room
 
-pub record Admits (by : Bounds) (deeper room : ℕ) (w left : List ℕ) (mode : Mode) (end : List ℕ) : Type 0 where
-  pub is-mode : modeOf (by .modes) w ≡ mode
-  pub listed : inMode Absent (by .modes) w ≡ false
+pub record Admits (m : Modes) (deeper room : ℕ) (w left : List ℕ) (mode : Mode) (end : List ℕ) : Type 0 where
+  pub is-mode : modeOf m w ≡ mode
+  pub listed : inMode Absent m w ≡ false
   pub deep : 0 < deeper
   pub fits : 0 < room
   pub same : end ≡ left
 
-pub admitted-reads : (by : Bounds) (deeper room : ℕ) (at s w left : List ℕ) → Tail at s → Tail at left → Reads at (λ mode end. Admits by deeper room w left mode end) (admitted by deeper room at s w left)
+pub admitted-reads : (m : Modes) (deeper room : ℕ) (at s w left : List ℕ) → Tail at s → Tail at left → Reads at (λ mode end. Admits m deeper room w left mode end) (admitted m deeper room at s w left)
 unfolding admitted inMode
-admitted-reads by zero room at s w left t u = fault-here at 10 (omega arith) (omega arith)
-admitted-reads by (suc deeper) room at s w left t u = go (modeOf (by .modes) w) refl
+admitted-reads m zero room at s w left t u = fault-here at 10 (omega arith) (omega arith)
+admitted-reads m (suc deeper) room at s w left t u = go (modeOf m w) refl
   where
-    admits : (mode : Mode) → modeOf (by .modes) w ≡ mode → inMode Absent (by .modes) w ≡ false → Reads at (λ mode end. Admits by (suc deeper) room w left mode end) (makes room s mode left)
+    admits : (mode : Mode) → modeOf m w ≡ mode → inMode Absent m w ≡ false → Reads at (λ mode end. Admits m (suc deeper) room w left mode end) (makes room s mode left)
     admits mode e f = reads-as at _ _ (makes room s mode left) (makes-reads at room s mode left t u) (λ m end h. record { is-mode = e ∙ sym (h .1); listed = f; deep = omega arith; fits = h .0; same = h .2 })
 
-    go : (mode : Mode) → modeOf (by .modes) w ≡ mode → Reads at (λ mode end. Admits by (suc deeper) room w left mode end) (elim mode [ Children ↦ makes room s Children left | Content ↦ makes room s Content left | Absent ↦ fault 5 s ])
+    go : (mode : Mode) → modeOf m w ≡ mode → Reads at (λ mode end. Admits m (suc deeper) room w left mode end) (elim mode [ Children ↦ makes room s Children left | Content ↦ makes room s Content left | Absent ↦ fault 5 s ])
     go Children e = admits Children e (rw (e, inMode))
     go Content e = admits Content e (rw (e, inMode))
     go Absent e = record { least = omega arith; most = omega arith; tail = t }
 
 -- the facts of an opening marker
-pub record Opens (by : Bounds) (deeper room : ℕ) (s : List ℕ) (mode : Mode) (o : Opened) (left : List ℕ) : Type 0 where
+pub record Opens (m : Modes) (by : Bounds) (deeper room : ℕ) (s : List ℕ) (mode : Mode) (o : Opened) (left : List ℕ) : Type 0 where
   pub covers : s ≡ markerOnto (o .marker) (endingOnto (o .ends) left)
   pub rule : markerRule (o .marker) ≡ true
   pub within : markerFits (by .names) (by .lists) (o .marker) ≡ true
   pub opens : o .ends ≡ block → opensBlock (o .marker) ≡ true
-  pub is-mode : modeOf (by .modes) (o .marker .name) ≡ mode
-  pub listed : inMode Absent (by .modes) (o .marker .name) ≡ false
+  pub is-mode : modeOf m (o .marker .name) ≡ mode
+  pub listed : inMode Absent m (o .marker .name) ≡ false
   pub deep : 0 < deeper
   pub fits : suc (traitsSize (o .marker .traits)) ≤ room
 
-pub opens-made : (by : Bounds) (deeper room : ℕ) (s named w mid start : List ℕ) (mode : Mode) (o : Opened) (left : List ℕ) → s ≡ byte "<" ∷ named → ReadName (isName isUpper (by .names)) named w mid → Admits by deeper room w mid mode start → ReadOpened by (room - 1) w start o left → Opens by deeper room s mode o left
+pub opens-made : (m : Modes) (by : Bounds) (deeper room : ℕ) (s named w mid start : List ℕ) (mode : Mode) (o : Opened) (left : List ℕ) → s ≡ byte "<" ∷ named → ReadName (isName isUpper (by .names)) named w mid → Admits m deeper room w mid mode start → ReadOpened by (room - 1) w start o left → Opens m by deeper room s mode o left
 unfolding markerRule markerFits isName
-opens-made by deeper room s named w mid start mode o left d n a r =
+opens-made m by deeper room s named w mid start mode o left d n a r =
     let k = o .marker in
     let named-rule = both (nameRule isUpper w) (leb (length w) (by .names)) (n .kept) in
     let upper : nameRule isUpper (k .name) ≡ true = rw (r .named) (named-rule .0) in
@@ -106,18 +106,18 @@ opens-made by deeper room s named w mid start mode o left d n a r =
     }
 
 -- the Concept that a marker opens, by its ending and its mode
-module _ (by : Bounds) (deeper room tabs : ℕ) (s : List ℕ) (mode : Mode) (o : Opened) (left : List ℕ) (p : Opens by deeper room s mode o left) where
+module _ (m : Modes) (by : Bounds) (deeper room tabs : ℕ) (s : List ℕ) (mode : Mode) (o : Opened) (left : List ℕ) (p : Opens m by deeper room s mode o left) where
   abbrev Inside : ℕ
   Inside = room - 1 - traitsSize (o .marker .traits)
 
-  self-made : o .ends ≡ self → ReadConcept by deeper room tabs s (selfClosed (o .marker)) left
+  self-made : o .ends ≡ self → ReadConcept m by deeper room tabs s (selfClosed (o .marker)) left
   unfolding conceptOnto conceptRule conceptFits conceptDepth conceptSize
   self-made e = record { covers = p .covers ∙ rw e; rule = and (p .rule) (is-not (p .listed)); within = p .within; depth = p .deep; fits = p .fits }
 
-  children-made : o .ends ≡ block → mode ≡ Children → (c : Concept) (end : List ℕ) → ReadChildren by (deeper - 1) Inside (o .marker) left c end → ReadConcept by deeper room tabs s c end
+  children-made : o .ends ≡ block → mode ≡ Children → (c : Concept) (end : List ℕ) → ReadChildren m by (deeper - 1) Inside (o .marker) left c end → ReadConcept m by deeper room tabs s c end
   unfolding conceptOnto conceptRule conceptFits conceptDepth conceptSize inMode
-  children-made e m c end r =
-      let i : inMode Children (by .modes) (o .marker .name) ≡ true = rw (p .is-mode, inMode, m) in
+  children-made e is c end r =
+      let i : inMode Children m (o .marker .name) ≡ true = rw (p .is-mode, inMode, is) in
       rw (r .is-children) (record {
         covers = p .covers ∙ rw e (ap (λ (l : List ℕ). markerOnto (o .marker) (endingOnto block l)) (r .covers));
         rule = and (and (and (and (p .rule) (p .opens e)) i) (r .rest-rule)) (r .rule);
@@ -126,10 +126,10 @@ module _ (by : Bounds) (deeper room tabs : ℕ) (s : List ℕ) (mode : Mode) (o 
         fits = omega (arith, r .fits, p .fits);
       })
 
-  content-made : o .ends ≡ block → mode ≡ Content → (c : Concept) (end : List ℕ) → ReadContent tabs Inside (o .marker) left c end → ReadConcept by deeper room tabs s c end
+  content-made : o .ends ≡ block → mode ≡ Content → (c : Concept) (end : List ℕ) → ReadContent tabs Inside (o .marker) left c end → ReadConcept m by deeper room tabs s c end
   unfolding conceptOnto conceptRule conceptFits conceptDepth conceptSize inMode
-  content-made e m c end r =
-      let i : inMode Content (by .modes) (o .marker .name) ≡ true = rw (p .is-mode, inMode, m) in
+  content-made e is c end r =
+      let i : inMode Content m (o .marker .name) ≡ true = rw (p .is-mode, inMode, is) in
       rw (r .is-content) (record {
         covers = p .covers ∙ rw e (ap (λ (l : List ℕ). markerOnto (o .marker) (endingOnto block l)) (r .covers));
         rule = and (and (and (and (p .rule) (p .opens e)) i) (r .rest-rule)) (r .lines-rule);
@@ -139,26 +139,26 @@ module _ (by : Bounds) (deeper room tabs : ℕ) (s : List ℕ) (mode : Mode) (o 
       })
 
   concept-made : (named : List ℕ) → Tail s named → Tail s left
-      → (x : Found Concept) → Reads left (λ c end. ReadChildren by (deeper - 1) Inside (o .marker) left c end) x
+      → (x : Found Concept) → Reads left (λ c end. ReadChildren m by (deeper - 1) Inside (o .marker) left c end) x
       → (y : Found Concept) → Reads left (λ c end. ReadContent tabs Inside (o .marker) left c end) y
-      → Reads s (λ c end. ReadConcept by deeper room tabs s c end) (elim (o .ends) [ self ↦ found (selfClosed (o .marker)) left | block ↦ elim mode [ Children ↦ x | Content ↦ y | Absent ↦ fault 5 named ] ])
+      → Reads s (λ c end. ReadConcept m by deeper room tabs s c end) (elim (o .ends) [ self ↦ found (selfClosed (o .marker)) left | block ↦ elim mode [ Children ↦ x | Content ↦ y | Absent ↦ fault 5 named ] ])
   concept-made named t u x h y g = ends (o .ends) refl
     where
-      blocks : o .ends ≡ block → (m : Mode) → mode ≡ m → Reads s (λ c end. ReadConcept by deeper room tabs s c end) (elim m [ Children ↦ x | Content ↦ y | Absent ↦ fault 5 named ])
-      blocks e Children m = reads-as s _ _ x (reads-in u _ x h) (children-made e m)
-      blocks e Content m = reads-as s _ _ y (reads-in u _ y g) (content-made e m)
-      blocks e Absent m = record { least = omega arith; most = omega arith; tail = t }
+      blocks : o .ends ≡ block → (it : Mode) → mode ≡ it → Reads s (λ c end. ReadConcept m by deeper room tabs s c end) (elim it [ Children ↦ x | Content ↦ y | Absent ↦ fault 5 named ])
+      blocks e Children is = reads-as s _ _ x (reads-in u _ x h) (children-made e is)
+      blocks e Content is = reads-as s _ _ y (reads-in u _ y g) (content-made e is)
+      blocks e Absent is = record { least = omega arith; most = omega arith; tail = t }
 
-      ends : (e : Ending) → o .ends ≡ e → Reads s (λ c end. ReadConcept by deeper room tabs s c end) (elim e [ self ↦ found (selfClosed (o .marker)) left | block ↦ elim mode [ Children ↦ x | Content ↦ y | Absent ↦ fault 5 named ] ])
+      ends : (e : Ending) → o .ends ≡ e → Reads s (λ c end. ReadConcept m by deeper room tabs s c end) (elim e [ self ↦ found (selfClosed (o .marker)) left | block ↦ elim mode [ Children ↦ x | Content ↦ y | Absent ↦ fault 5 named ] ])
       ends self e = (u, self-made e)
       ends block e = blocks e mode refl
 
 -- the body that an element begins, and one that a blank line begins
-element-made : (by : Bounds) (deeper room : ℕ) (s : List ℕ) (notes : List Annotation) (line : List ℕ) (c : Concept) (left : List ℕ) (rest : Blank) (next : List ℕ) (inner : Body) (end : List ℕ)
-    → ReadAnnotations room s notes line → ReadConcept by deeper (room - length notes) (lengthIn isTab line) (behind isTab line) c left → ReadBlank left rest next
-    → ReadBody by deeper (room - length notes - conceptSize c) next inner end → ReadBody by deeper room s (element notes (lengthIn isTab line) c rest inner) end
+element-made : (m : Modes) (by : Bounds) (deeper room : ℕ) (s : List ℕ) (notes : List Annotation) (line : List ℕ) (c : Concept) (left : List ℕ) (rest : Blank) (next : List ℕ) (inner : Body) (end : List ℕ)
+    → ReadAnnotations room s notes line → ReadConcept m by deeper (room - length notes) (lengthIn isTab line) (behind isTab line) c left → ReadBlank left rest next
+    → ReadBody m by deeper (room - length notes - conceptSize c) next inner end → ReadBody m by deeper room s (element notes (lengthIn isTab line) c rest inner) end
 unfolding bodyOnto bodyRule bodyFits bodyDepth bodySize
-element-made by deeper room s notes line c left rest next inner end a k r q =
+element-made m by deeper room s notes line c left rest next inner end a k r q =
     let tabs = lengthIn isTab line in
     record {
       covers = a .covers ∙ ap (annotationsOnto notes) (tabs-covers line ∙ ap (tabsOnto tabs) (k .covers ∙ ap (conceptOnto tabs c) (r .covers ∙ ap (blankOnto rest) (q .covers))));
@@ -168,33 +168,33 @@ element-made by deeper room s notes line c left rest next inner end a k r q =
       fits = omega (arith, a .fits, k .fits, q .fits);
     }
 
-blank-made : (by : Bounds) (deeper room : ℕ) (s : List ℕ) (b : Blank) (next : List ℕ) (inner : Body) (end : List ℕ) → ReadBlank s b next → ReadBody by deeper room next inner end → ReadBody by deeper room s (blankLine b inner) end
+blank-made : (m : Modes) (by : Bounds) (deeper room : ℕ) (s : List ℕ) (b : Blank) (next : List ℕ) (inner : Body) (end : List ℕ) → ReadBlank s b next → ReadBody m by deeper room next inner end → ReadBody m by deeper room s (blankLine b inner) end
 unfolding bodyOnto bodyRule bodyFits bodyDepth bodySize
-blank-made by deeper room s b next inner end r q = record { covers = r .covers ∙ ap (blankOnto b) (q .covers); rule = and (r .rule) (q .rule); within = q .within; depth = q .depth; fits = q .fits }
+blank-made m by deeper room s b next inner end r q = record { covers = r .covers ∙ ap (blankOnto b) (q .covers); rule = and (r .rule) (q .rule); within = q .within; depth = q .depth; fits = q .fits }
 
-done-made : (by : Bounds) (deeper room : ℕ) (s : List ℕ) → ReadBody by deeper room s done s
+done-made : (m : Modes) (by : Bounds) (deeper room : ℕ) (s : List ℕ) → ReadBody m by deeper room s done s
 unfolding bodyOnto bodyRule bodyFits bodyDepth bodySize
-done-made by deeper room s = record { covers = refl; rule = refl; within = refl; depth = omega arith; fits = omega arith }
+done-made m by deeper room s = record { covers = refl; rule = refl; within = refl; depth = omega arith; fits = omega arith }
 
 mutual
   unfolding concept
 
-  pub concept-reads : (by : Bounds) (fuel deeper room tabs : ℕ) (s : List ℕ) → Reads s (λ c left. ReadConcept by deeper room tabs s c left) (concept by fuel deeper room tabs s)
-  concept-reads by zero deeper room tabs s = fault-here s 9 (omega arith) (omega arith)
-  concept-reads by (suc fuel) deeper room tabs s =
+  pub concept-reads : (m : Modes) (by : Bounds) (fuel deeper room tabs : ℕ) (s : List ℕ) → Reads s (λ c left. ReadConcept m by deeper room tabs s c left) (concept m by fuel deeper room tabs s)
+  concept-reads m by zero deeper room tabs s = fault-here s 9 (omega arith) (omega arith)
+  concept-reads m by (suc fuel) deeper room tabs s =
       reads-on s (λ b left. s ≡ byte "<" ∷ left) _ _ (due (byte "<") s) (due-reads (byte "<") s)
       (λ b named t d. reads-on s (λ w left. ReadName (isName isUpper (by .names)) named w left) _ _ (name (isName isUpper (by .names)) named) (reads-in t _ (name (isName isUpper (by .names)) named) (name-reads (isName isUpper (by .names)) named))
-      (λ w mid u n. reads-on s (λ mode end. Admits by deeper room w mid mode end) _ _ (admitted by deeper room s named w mid) (admitted-reads by deeper room s named w mid t u)
+      (λ w mid u n. reads-on s (λ mode end. Admits m deeper room w mid mode end) _ _ (admitted m deeper room s named w mid) (admitted-reads m deeper room s named w mid t u)
       (λ mode start u a. reads-on s (λ o left. ReadOpened by (room - 1) w start o left) _ _ (opened by (room - 1) w start) (reads-in u _ (opened by (room - 1) w start) (opened-reads by (room - 1) w start))
-      (λ o left u r. concept-made by deeper room tabs s mode o left (opens-made by deeper room s named w mid start mode o left d n a r) named t u
-      (childrenOf by fuel (deeper - 1) (room - 1 - traitsSize (o .marker .traits)) (o .marker) left) (children-reads by fuel (deeper - 1) (room - 1 - traitsSize (o .marker .traits)) (o .marker) left)
+      (λ o left u r. concept-made m by deeper room tabs s mode o left (opens-made m by deeper room s named w mid start mode o left d n a r) named t u
+      (childrenOf m by fuel (deeper - 1) (room - 1 - traitsSize (o .marker .traits)) (o .marker) left) (children-reads m by fuel (deeper - 1) (room - 1 - traitsSize (o .marker .traits)) (o .marker) left)
       (contentOf tabs (room - 1 - traitsSize (o .marker .traits)) (o .marker) left) (content-reads tabs (room - 1 - traitsSize (o .marker .traits)) (o .marker) left)))))
 
-  pub children-reads : (by : Bounds) (fuel deeper room : ℕ) (k : Marker) (s : List ℕ) → Reads s (λ c left. ReadChildren by deeper room k s c left) (childrenOf by fuel deeper room k s)
-  children-reads by zero deeper room k s = fault-here s 9 (omega arith) (omega arith)
-  children-reads by (suc fuel) deeper room k s =
+  pub children-reads : (m : Modes) (by : Bounds) (fuel deeper room : ℕ) (k : Marker) (s : List ℕ) → Reads s (λ c left. ReadChildren m by deeper room k s c left) (childrenOf m by fuel deeper room k s)
+  children-reads m by zero deeper room k s = fault-here s 9 (omega arith) (omega arith)
+  children-reads m by (suc fuel) deeper room k s =
       reads-on s (λ b left. ReadBlank s b left) _ _ (lineRest s) (rest-reads s)
-      (λ rest start t r. reads-on s (λ b left. ReadBody by deeper room start b left) _ _ (body by fuel deeper room start) (reads-in t _ (body by fuel deeper room start) (body-reads by fuel deeper room start))
+      (λ rest start t r. reads-on s (λ b left. ReadBody m by deeper room start b left) _ _ (body m by fuel deeper room start) (reads-in t _ (body m by fuel deeper room start) (body-reads m by fuel deeper room start))
       (λ inner mid t q. reads-on s (λ b left. behind isTab mid ≡ closingOnto (k .name) left) _ _ (closing (k .name) (behind isTab mid)) (reads-in (tail-then t (tail-drop (lengthIn isTab mid) mid)) _ (closing (k .name) (behind isTab mid)) (closing-reads (k .name) (behind isTab mid)))
       (λ b left t e. (
         t,
@@ -212,23 +212,23 @@ mutual
         },
       ))))
 
-  pub body-reads : (by : Bounds) (fuel deeper room : ℕ) (s : List ℕ) → Reads s (λ b left. ReadBody by deeper room s b left) (body by fuel deeper room s)
-  body-reads by zero deeper room s = fault-here s 9 (omega arith) (omega arith)
-  body-reads by (suc fuel) deeper room s =
+  pub body-reads : (m : Modes) (by : Bounds) (fuel deeper room : ℕ) (s : List ℕ) → Reads s (λ b left. ReadBody m by deeper room s b left) (body m by fuel deeper room s)
+  body-reads m by zero deeper room s = fault-here s 9 (omega arith) (omega arith)
+  body-reads m by (suc fuel) deeper room s =
       split (isBlankLine s)
       (λ e. rw (e, body) (reads-on s (λ b left. ReadBlank s b left) _ _ (lineRest s) (rest-reads s)
-      (λ b next t r. reads-on s (λ inner end. ReadBody by deeper room next inner end) _ _ (body by fuel deeper room next) (reads-in t _ (body by fuel deeper room next) (body-reads by fuel deeper room next))
-      (λ inner end t q. (t, blank-made by deeper room s b next inner end r q)))))
+      (λ b next t r. reads-on s (λ inner end. ReadBody m by deeper room next inner end) _ _ (body m by fuel deeper room next) (reads-in t _ (body m by fuel deeper room next) (body-reads m by fuel deeper room next))
+      (λ inner end t q. (t, blank-made m by deeper room s b next inner end r q)))))
       (λ e. rw (e, body) (reads-on s (λ tabs mark. mark ≡ behind isTab s) _ _ (tabsOnly s) (only-reads s)
       (λ tabs mark t l. split (startsWith (bytes "</") mark)
-      (λ f. rw f (whole, done-made by deeper room s))
+      (λ f. rw f (whole, done-made m by deeper room s))
       (λ f. rw f (reads-on s (λ notes line. ReadAnnotations room s notes line) _ _ (annotations room s) (annotations-reads room s)
-      (λ notes line t a. reads-on s (λ c left. ReadConcept by deeper (room - length notes) (lengthIn isTab line) (behind isTab line) c left) _ _ (concept by fuel deeper (room - length notes) (lengthIn isTab line) (behind isTab line))
-      (reads-in (tail-then t (tail-drop (lengthIn isTab line) line)) _ (concept by fuel deeper (room - length notes) (lengthIn isTab line) (behind isTab line)) (concept-reads by fuel deeper (room - length notes) (lengthIn isTab line) (behind isTab line)))
+      (λ notes line t a. reads-on s (λ c left. ReadConcept m by deeper (room - length notes) (lengthIn isTab line) (behind isTab line) c left) _ _ (concept m by fuel deeper (room - length notes) (lengthIn isTab line) (behind isTab line))
+      (reads-in (tail-then t (tail-drop (lengthIn isTab line) line)) _ (concept m by fuel deeper (room - length notes) (lengthIn isTab line) (behind isTab line)) (concept-reads m by fuel deeper (room - length notes) (lengthIn isTab line) (behind isTab line)))
       (λ c left t k. reads-on s (λ b next. ReadBlank left b next) _ _ (lineRest left) (reads-in t _ (lineRest left) (rest-reads left))
-      (λ rest next t r. reads-on s (λ inner end. ReadBody by deeper (room - length notes - conceptSize c) next inner end) _ _ (body by fuel deeper (room - length notes - conceptSize c) next)
-      (reads-in t _ (body by fuel deeper (room - length notes - conceptSize c) next) (body-reads by fuel deeper (room - length notes - conceptSize c) next))
-      (λ inner end t q. (t, element-made by deeper room s notes line c left rest next inner end a k r q))))))))))
+      (λ rest next t r. reads-on s (λ inner end. ReadBody m by deeper (room - length notes - conceptSize c) next inner end) _ _ (body m by fuel deeper (room - length notes - conceptSize c) next)
+      (reads-in t _ (body m by fuel deeper (room - length notes - conceptSize c) next) (body-reads m by fuel deeper (room - length notes - conceptSize c) next))
+      (λ inner end t q. (t, element-made m by deeper room s notes line c left rest next inner end a k r q))))))))))
 
 -- ---- what stands there is found
 
@@ -263,46 +263,46 @@ module _ (k : Marker) (e : Ending) (next : List ℕ) (r : all traitRule (k .trai
   some-behind : 0 < length Behind
   some-behind = omega (arith, traits-wide (k .traits) (k .white ++ endingOnto e next), append-wide (k .white) (endingOnto e next), ending-wide e next)
 
-admitted-complete : (by : Bounds) (deeper room : ℕ) (at s w left : List ℕ) (mode : Mode) → 0 < deeper → 0 < room → modeOf (by .modes) w ≡ mode → inMode Absent (by .modes) w ≡ false → admitted by deeper room at s w left ≡ found mode left
+admitted-complete : (m : Modes) (deeper room : ℕ) (at s w left : List ℕ) (mode : Mode) → 0 < deeper → 0 < room → modeOf m w ≡ mode → inMode Absent m w ≡ false → admitted m deeper room at s w left ≡ found mode left
 unfolding admitted inMode
-admitted-complete by zero room at s w left mode d r e f = absurd (omega arith)
-admitted-complete by (suc deeper) room at s w left Children d r e f = rw (e, admitted) (makes-complete room s Children left r)
-admitted-complete by (suc deeper) room at s w left Content d r e f = rw (e, admitted) (makes-complete room s Content left r)
-admitted-complete by (suc deeper) room at s w left Absent d r e f = true-false (sym (rw (e, inMode)) ∙ f)
+admitted-complete m zero room at s w left mode d r e f = absurd (omega arith)
+admitted-complete m (suc deeper) room at s w left Children d r e f = rw (e, admitted) (makes-complete room s Children left r)
+admitted-complete m (suc deeper) room at s w left Content d r e f = rw (e, admitted) (makes-complete room s Content left r)
+admitted-complete m (suc deeper) room at s w left Absent d r e f = true-false (sym (rw (e, inMode)) ∙ f)
 
 -- the facts of a marker that stands there
-pub record Stands (by : Bounds) (deeper room : ℕ) (k : Marker) (e : Ending) (mode : Mode) : Type 0 where
+pub record Stands (m : Modes) (by : Bounds) (deeper room : ℕ) (k : Marker) (e : Ending) (mode : Mode) : Type 0 where
   pub rule : markerRule k ≡ true
   pub within : markerFits (by .names) (by .lists) k ≡ true
   pub opens : e ≡ block → opensBlock k ≡ true
-  pub is-mode : modeOf (by .modes) (k .name) ≡ mode
-  pub listed : inMode Absent (by .modes) (k .name) ≡ false
+  pub is-mode : modeOf m (k .name) ≡ mode
+  pub listed : inMode Absent m (k .name) ≡ false
   pub deep : 0 < deeper
   pub fits : suc (traitsSize (k .traits)) ≤ room
 
 -- reading a Concept whose marker stands there goes on behind the marker
-abbrev pub afterMarker : Bounds → ℕ → ℕ → ℕ → ℕ → List ℕ → Marker → Mode → List ℕ → Ending → Found Concept
-afterMarker by fuel deeper room tabs named k mode left self = found (selfClosed k) left
-afterMarker by fuel deeper room tabs named k mode left block =
+abbrev pub afterMarker : Modes → Bounds → ℕ → ℕ → ℕ → ℕ → List ℕ → Marker → Mode → List ℕ → Ending → Found Concept
+afterMarker m by fuel deeper room tabs named k mode left self = found (selfClosed k) left
+afterMarker m by fuel deeper room tabs named k mode left block =
     elim mode [
-      | Children ↦ childrenOf by fuel (deeper - 1) (room - 1 - traitsSize (k .traits)) k left
+      | Children ↦ childrenOf m by fuel (deeper - 1) (room - 1 - traitsSize (k .traits)) k left
       | Content ↦ contentOf tabs (room - 1 - traitsSize (k .traits)) k left
       | Absent ↦ fault 5 named
     ]
 
-pub marker-complete : (by : Bounds) (fuel deeper room tabs : ℕ) (k : Marker) (e : Ending) (mode : Mode) (next : List ℕ) → Stands by deeper room k e mode → concept by (suc fuel) deeper room tabs (markerOnto k (endingOnto e next)) ≡ afterMarker by fuel deeper room tabs (k .name ++ traitsOnto (k .traits) (k .white ++ endingOnto e next)) k mode next e
+pub marker-complete : (m : Modes) (by : Bounds) (fuel deeper room tabs : ℕ) (k : Marker) (e : Ending) (mode : Mode) (next : List ℕ) → Stands m by deeper room k e mode → concept m by (suc fuel) deeper room tabs (markerOnto k (endingOnto e next)) ≡ afterMarker m by fuel deeper room tabs (k .name ++ traitsOnto (k .traits) (k .white ++ endingOnto e next)) k mode next e
 unfolding concept markerRule markerFits isName
-marker-complete by fuel deeper room tabs k e mode next p =
-    let m = both _ (all isWhite (k .white)) (p .rule) in
-    let n = both (nameRule isUpper (k .name)) (all traitRule (k .traits)) (m .0) in
+marker-complete m by fuel deeper room tabs k e mode next p =
+    let v = both _ (all isWhite (k .white)) (p .rule) in
+    let n = both (nameRule isUpper (k .name)) (all traitRule (k .traits)) (v .0) in
     let w = both (leb (length (k .name)) (by .names)) (all (traitFits (by .names) (by .lists)) (k .traits)) (p .within) in
     let q = rule-name isUpper (k .name) (n .0) in
     let behind = traitsOnto (k .traits) (k .white ++ endingOnto e next) in
     let f : traitsSize (k .traits) ≤ room - 1 = omega (arith, p .fits) in
-    rw (due-complete (byte "<") (k .name ++ behind), name-found (isName isUpper (by .names)) (k .name) behind (q .0) (q .1) (and (n .0) (w .0)) (some-behind k e next (n .1) (m .1)) (name-ends k e next (n .1) (m .1)), admitted-complete by deeper room (byte "<" ∷ (k .name ++ behind)) (k .name ++ behind) (k .name) behind mode (p .deep) (omega (arith, p .fits)) (p .is-mode) (p .listed), opened-complete by (room - 1) k e next (n .1) (w .1) (m .1) (p .opens) f)
+    rw (due-complete (byte "<") (k .name ++ behind), name-found (isName isUpper (by .names)) (k .name) behind (q .0) (q .1) (and (n .0) (w .0)) (some-behind k e next (n .1) (v .1)) (name-ends k e next (n .1) (v .1)), admitted-complete m deeper room (byte "<" ∷ (k .name ++ behind)) (k .name ++ behind) (k .name) behind mode (p .deep) (omega (arith, p .fits)) (p .is-mode) (p .listed), opened-complete by (room - 1) k e next (n .1) (w .1) (v .1) (p .opens) f)
     (same-end (k .name ++ behind) e)
   where
-    same-end : (named : List ℕ) (e : Ending) → elim e [ self ↦ found (selfClosed k) next | block ↦ elim mode [ Children ↦ childrenOf by fuel (deeper - 1) (room - 1 - traitsSize (k .traits)) k next | Content ↦ contentOf tabs (room - 1 - traitsSize (k .traits)) k next | Absent ↦ fault 5 named ] ] ≡ afterMarker by fuel deeper room tabs named k mode next e
+    same-end : (named : List ℕ) (e : Ending) → elim e [ self ↦ found (selfClosed k) next | block ↦ elim mode [ Children ↦ childrenOf m by fuel (deeper - 1) (room - 1 - traitsSize (k .traits)) k next | Content ↦ contentOf tabs (room - 1 - traitsSize (k .traits)) k next | Absent ↦ fault 5 named ] ] ≡ afterMarker m by fuel deeper room tabs named k mode next e
     same-end named self = refl
     same-end named block = refl
 
@@ -431,43 +431,42 @@ element-parts a b c d r =
 mutual
   unfolding conceptOnto conceptRule conceptFits conceptDepth conceptSize concept
 
-  pub concept-complete : (by : Bounds) (c : Concept) (fuel deeper room tabs : ℕ) (next : List ℕ) → conceptRule (by .modes) c ≡ true → conceptFits (by .names) (by .lists) c ≡ true → conceptDepth c ≤ deeper → conceptSize c ≤ room → atLineEnd (behind isBlank next) ≡ true → length (conceptOnto tabs c next) < fuel → concept by fuel deeper room tabs (conceptOnto tabs c next) ≡ found c next
-  concept-complete by c zero deeper room tabs next r w d f e l = absurd (omega arith)
-  concept-complete by (selfClosed k) (suc fuel) deeper room tabs next r w d f e l =
-      let p = both (markerRule k) (not (inMode Absent (by .modes) (k .name))) r in
-      marker-complete by fuel deeper room tabs k self (modeOf (by .modes) (k .name)) next
-      (record { rule = p .0; within = w; opens = λ q. no-self q; is-mode = refl; listed = not-true (inMode Absent (by .modes) (k .name)) (p .1); deep = d; fits = f })
-  concept-complete by (content k rest lines) (suc fuel) deeper room tabs next r w d f e l =
-      let p = block-parts (markerRule k) (opensBlock k) (inMode Content (by .modes) (k .name)) (blankRule rest) (all lineRule lines) r in
-      let i = mode-is Content (by .modes) (k .name) (p .2) in
-      marker-complete by fuel deeper room tabs k block Content (blankOnto rest (linesOnto tabs lines (tabsOnto tabs (closingOnto (k .name) next))))
-      (record { rule = p .0; within = w; opens = λ q. p .1; is-mode = i; listed = listed-content (by .modes) (k .name) i; deep = d; fits = omega arith })
+  pub concept-complete : (m : Modes) (by : Bounds) (c : Concept) (fuel deeper room tabs : ℕ) (next : List ℕ) → conceptRule m c ≡ true → conceptFits (by .names) (by .lists) c ≡ true → conceptDepth c ≤ deeper → conceptSize c ≤ room → atLineEnd (behind isBlank next) ≡ true → length (conceptOnto tabs c next) < fuel → concept m by fuel deeper room tabs (conceptOnto tabs c next) ≡ found c next
+  concept-complete m by c zero deeper room tabs next r w d f e l = absurd (omega arith)
+  concept-complete m by (selfClosed k) (suc fuel) deeper room tabs next r w d f e l =
+      let p = both (markerRule k) (not (inMode Absent m (k .name))) r in
+      marker-complete m by fuel deeper room tabs k self (modeOf m (k .name)) next
+      (record { rule = p .0; within = w; opens = λ q. no-self q; is-mode = refl; listed = not-true (inMode Absent m (k .name)) (p .1); deep = d; fits = f })
+  concept-complete m by (content k rest lines) (suc fuel) deeper room tabs next r w d f e l =
+      let p = block-parts (markerRule k) (opensBlock k) (inMode Content m (k .name)) (blankRule rest) (all lineRule lines) r in
+      let i = mode-is Content m (k .name) (p .2) in
+      marker-complete m by fuel deeper room tabs k block Content (blankOnto rest (linesOnto tabs lines (tabsOnto tabs (closingOnto (k .name) next))))
+      (record { rule = p .0; within = w; opens = λ q. p .1; is-mode = i; listed = listed-content m (k .name) i; deep = d; fits = omega arith })
       ∙ content-complete tabs (room - 1 - traitsSize (k .traits)) k rest lines next (p .3) (p .4) (omega arith) e
-  concept-complete by (children k rest inner back) (suc fuel) deeper room tabs next r w d f e l =
-      let p = block-parts (markerRule k) (opensBlock k) (inMode Children (by .modes) (k .name)) (blankRule rest) (bodyRule (by .modes) inner) r in
-      let i = mode-is Children (by .modes) (k .name) (p .2) in
+  concept-complete m by (children k rest inner back) (suc fuel) deeper room tabs next r w d f e l =
+      let p = block-parts (markerRule k) (opensBlock k) (inMode Children m (k .name)) (blankRule rest) (bodyRule m inner) r in
+      let i = mode-is Children m (k .name) (p .2) in
       let q = both (markerFits (by .names) (by .lists) k) (bodyFits (by .names) (by .lists) inner) w in
       let behind = blankOnto rest (bodyOnto inner (tabsOnto back (closingOnto (k .name) next))) in
-      marker-complete by fuel deeper room tabs k block Children behind
-      (record { rule = p .0; within = q .0; opens = λ q. p .1; is-mode = i; listed = listed-children (by .modes) (k .name) i; deep = omega arith; fits = omega arith })
-      ∙ children-complete by k rest inner back fuel (deeper - 1) (room - 1 - traitsSize (k .traits)) next (rule-name isUpper (k .name) (marker-name k (p .0))) (p .3) (p .4) (q .1) (omega arith) (omega arith)
+      marker-complete m by fuel deeper room tabs k block Children behind
+      (record { rule = p .0; within = q .0; opens = λ q. p .1; is-mode = i; listed = listed-children m (k .name) i; deep = omega arith; fits = omega arith })
+      ∙ children-complete m by k rest inner back fuel (deeper - 1) (room - 1 - traitsSize (k .traits)) next (rule-name isUpper (k .name) (marker-name k (p .0))) (p .3) (p .4) (q .1) (omega arith) (omega arith)
       (omega (arith, marker-wide k block behind, rule-name isUpper (k .name) (marker-name k (p .0)) .1))
 
-  pub children-complete : (by : Bounds) (k : Marker) (rest : Blank) (inner : Body) (back fuel deeper room : ℕ) (next : List ℕ) → (all isNameByte (k .name) ≡ true) × (0 < length (k .name)) → blankRule rest ≡ true → bodyRule (by .modes) inner ≡ true → bodyFits (by .names) (by .lists) inner ≡ true → bodyDepth inner ≤ deeper → bodySize inner ≤ room → length (blankOnto rest (bodyOnto inner (tabsOnto back (closingOnto (k .name) next)))) + 2 < fuel → childrenOf by fuel deeper room k (blankOnto rest (bodyOnto inner (tabsOnto back (closingOnto (k .name) next)))) ≡ found (children k rest inner back) next
-  children-complete by k rest inner back zero deeper room next n b r w d f l = absurd (omega arith)
-  children-complete by k rest inner back (suc fuel) deeper room next n b r w d f l =
+  pub children-complete : (m : Modes) (by : Bounds) (k : Marker) (rest : Blank) (inner : Body) (back fuel deeper room : ℕ) (next : List ℕ) → (all isNameByte (k .name) ≡ true) × (0 < length (k .name)) → blankRule rest ≡ true → bodyRule m inner ≡ true → bodyFits (by .names) (by .lists) inner ≡ true → bodyDepth inner ≤ deeper → bodySize inner ≤ room → length (blankOnto rest (bodyOnto inner (tabsOnto back (closingOnto (k .name) next)))) + 2 < fuel → childrenOf m by fuel deeper room k (blankOnto rest (bodyOnto inner (tabsOnto back (closingOnto (k .name) next)))) ≡ found (children k rest inner back) next
+  children-complete m by k rest inner back zero deeper room next n b r w d f l = absurd (omega arith)
+  children-complete m by k rest inner back (suc fuel) deeper room next n b r w d f l =
       let end = tabsOnto back (closingOnto (k .name) next) in
       let mark = closingOnto (k .name) next in
-      rw (rest-complete rest (bodyOnto inner end) b, body-complete by inner fuel deeper room end r w d f (ends-body back (k .name) next) (omega (arith, blank-wide rest (bodyOnto inner end))), tabs-behind back mark (closing-tab (k .name) next), closing-complete (k .name) next (n .0) (n .1), tabs-length back mark (closing-tab (k .name) next))
+      rw (rest-complete rest (bodyOnto inner end) b, body-complete m by inner fuel deeper room end r w d f (ends-body back (k .name) next) (omega (arith, blank-wide rest (bodyOnto inner end))), tabs-behind back mark (closing-tab (k .name) next), closing-complete (k .name) next (n .0) (n .1), tabs-length back mark (closing-tab (k .name) next))
 
-  pub body-complete : (by : Bounds) (b : Body) (fuel deeper room : ℕ) (next : List ℕ) → bodyRule (by .modes) b ≡ true → bodyFits (by .names) (by .lists) b ≡ true → bodyDepth b ≤ deeper → bodySize b ≤ room → EndsBody next → length (bodyOnto b next) + 1 < fuel → body by fuel deeper room (bodyOnto b next) ≡ found b next
-  body-complete by b zero deeper room next r w d f e l = absurd (omega arith)
-  body-complete by done (suc fuel) deeper room next r w d f e l = rw (e .filled, body, e .only) (when-true (startsWith (bytes "</") (e .mark)) _ _ (e .closes))
-  body-complete by (blankLine b inner) (suc fuel) deeper room next r w d f e l =
-      let p = both (blankRule b) (bodyRule (by .modes) inner) r in
-      rw (blank-line b (bodyOnto inner next) (p .0), body, rest-complete b (bodyOnto inner next) (p .0), body-complete by inner fuel deeper room next (p .1) w d f e (omega (arith, blank-wide b (bodyOnto inner next))))
-  body-complete by (element notes tabs c rest inner) (suc fuel) deeper room next r w d f e l =
-      let m = by .modes in
+  pub body-complete : (m : Modes) (by : Bounds) (b : Body) (fuel deeper room : ℕ) (next : List ℕ) → bodyRule m b ≡ true → bodyFits (by .names) (by .lists) b ≡ true → bodyDepth b ≤ deeper → bodySize b ≤ room → EndsBody next → length (bodyOnto b next) + 1 < fuel → body m by fuel deeper room (bodyOnto b next) ≡ found b next
+  body-complete m by b zero deeper room next r w d f e l = absurd (omega arith)
+  body-complete m by done (suc fuel) deeper room next r w d f e l = rw (e .filled, body, e .only) (when-true (startsWith (bytes "</") (e .mark)) _ _ (e .closes))
+  body-complete m by (blankLine b inner) (suc fuel) deeper room next r w d f e l =
+      let p = both (blankRule b) (bodyRule m inner) r in
+      rw (blank-line b (bodyOnto inner next) (p .0), body, rest-complete b (bodyOnto inner next) (p .0), body-complete m by inner fuel deeper room next (p .1) w d f e (omega (arith, blank-wide b (bodyOnto inner next))))
+  body-complete m by (element notes tabs c rest inner) (suc fuel) deeper room next r w d f e l =
       let p = element-parts (all annotationRule notes) (conceptRule m c) (blankRule rest) (bodyRule m inner) r in
       let q = both (conceptFits (by .names) (by .lists) c) (bodyFits (by .names) (by .lists) inner) w in
       let behindIt = blankOnto rest (bodyOnto inner next) in
@@ -475,4 +474,4 @@ mutual
       let g = begins-element m notes tabs c behindIt (p .1) in
       rw (g .filled, body, g .only)
       (when-false (startsWith (bytes "</") (g .mark)) _ _ (g .open-mark)
-      ∙ rw (annotations-complete room notes line (p .0) (omega arith) (no-annotation m tabs c behindIt (p .1)), concept-behind m tabs c behindIt (p .1), concept-tabs m tabs c behindIt (p .1), concept-complete by c fuel deeper (room - length notes) tabs behindIt (p .1) (q .0) (omega arith) (omega arith) (blank-ends rest (bodyOnto inner next) (p .2)) (omega (arith, tabs-wide tabs (conceptOnto tabs c behindIt), annotations-wide notes line)), rest-complete rest (bodyOnto inner next) (p .2), body-complete by inner fuel deeper (room - length notes - conceptSize c) next (p .3) (q .1) (omega arith) (omega arith) e (omega (arith, tabs-wide tabs (conceptOnto tabs c behindIt), annotations-wide notes line, concept-wide c tabs behindIt, blank-wide rest (bodyOnto inner next)))))
+      ∙ rw (annotations-complete room notes line (p .0) (omega arith) (no-annotation m tabs c behindIt (p .1)), concept-behind m tabs c behindIt (p .1), concept-tabs m tabs c behindIt (p .1), concept-complete m by c fuel deeper (room - length notes) tabs behindIt (p .1) (q .0) (omega arith) (omega arith) (blank-ends rest (bodyOnto inner next) (p .2)) (omega (arith, tabs-wide tabs (conceptOnto tabs c behindIt), annotations-wide notes line)), rest-complete rest (bodyOnto inner next) (p .2), body-complete m by inner fuel deeper (room - length notes - conceptSize c) next (p .3) (q .1) (omega arith) (omega arith) e (omega (arith, tabs-wide tabs (conceptOnto tabs c behindIt), annotations-wide notes line, concept-wide c tabs behindIt, blank-wide rest (bodyOnto inner next)))))

@@ -18,7 +18,7 @@ use Rattle.paper.specs.Tree.{Sheet}
 use Rattle.paper.specs.Grammar.{Derives}
 use Rattle.paper.specs.Limits.{sheetLimit, entryLimit, conceptLimit, listLimit, conceptFits, conceptDepth, withinLimits}
 use Rattle.paper.specs.Entries.{Entry, entries, filled}
-use Rattle.paper.specs.Reading.{boundsOf, sheetTree, roomOf, sheetOf, Reading, refusal, reading}
+use Rattle.paper.specs.Reading.{bounds, sheetTree, roomOf, sheetOf, Reading, refusal, reading}
 use Rattle.paper.proofs.Tests.{split}
 use Rattle.paper.proofs.Lists.{both, and}
 use Rattle.paper.proofs.Finds.{Reads}
@@ -54,7 +54,7 @@ sheet-answers m room s =
     (λ e. rw (e, sheetOf) (record { least = omega arith; most = omega arith; place = omega arith; short = omega (arith, length-drop sheetLimit s) }))
     (λ e. rw (e, sheetOf) (bytes (ltb-false sheetLimit (length s) e) (sheetBytes s) refl (bytes-only s)))
   where
-    tree : length s ≤ sheetLimit → (vs : List ℕ) → sheetBytes s ≡ found vs [] → (x : Found Sheet) → Reads s (λ t left. ReadSheet (boundsOf m) conceptLimit room s t left) x → Answers m room s x
+    tree : length s ≤ sheetLimit → (vs : List ℕ) → sheetBytes s ≡ found vs [] → (x : Found Sheet) → Reads s (λ t left. ReadSheet m bounds conceptLimit room s t left) x → Answers m room s x
     tree l vs e (fault n left) h = record { least = omega (arith, h .least); most = h .most; place = omega arith; short = omega arith }
     tree l vs e (found t left) h =
         let r = h .1 in (
@@ -66,9 +66,9 @@ sheet-answers m room s =
           },
         )
 
-    bytes : length s ≤ sheetLimit → (x : Found (List ℕ)) → sheetBytes s ≡ x → Only 3 s x → Answers m room s (andThen x (λ vs left. sheetTree (boundsOf m) conceptLimit room s))
+    bytes : length s ≤ sheetLimit → (x : Found (List ℕ)) → sheetBytes s ≡ x → Only 3 s x → Answers m room s (andThen x (λ vs left. sheetTree m bounds conceptLimit room s))
     bytes l (fault n left) e h = record { least = omega (arith, h .0); most = omega (arith, h .0); place = omega arith; short = omega arith }
-    bytes l (found vs left) e h = tree l vs (e ∙ ap (found vs) (sheet-made s vs left e .empty)) (sheetTree (boundsOf m) conceptLimit room s) (sheet-reads (boundsOf m) conceptLimit room s)
+    bytes l (found vs left) e h = tree l vs (e ∙ ap (found vs) (sheet-made s vs left e .empty)) (sheetTree m bounds conceptLimit room s) (sheet-reads m bounds conceptLimit room s)
 
 pub sheet-accepts : (m : Modes) (room : ℕ) (s : List ℕ) (t : Sheet) → Accepts m room s t → sheetOf m room s ≡ found t []
 unfolding sheetOf withinLimits
@@ -77,8 +77,8 @@ sheet-accepts m room s t a =
     let p = both (leb (length s) sheetLimit && conceptFits nameLimit listLimit (t .root)) (leb (conceptDepth (t .root)) conceptLimit) (a .limits) in
     let q = both (leb (length s) sheetLimit) (conceptFits nameLimit listLimit (t .root)) (p .0) in
     rw (le-ltb sheetLimit (length s) (leb-true (length s) sheetLimit (q .0)), sheetOf, d .bytes)
-    (ap (sheetTree (boundsOf m) conceptLimit room) (sym (d .covers))
-    ∙ sheet-complete (boundsOf m) conceptLimit room t (record { rule = d .rule; within = q .1; depth = leb-true (conceptDepth (t .root)) conceptLimit (p .1); fits = omega (arith, a .fit, entries-size t) }))
+    (ap (sheetTree m bounds conceptLimit room) (sym (d .covers))
+    ∙ sheet-complete m bounds conceptLimit room t (record { rule = d .rule; within = q .1; depth = leb-true (conceptDepth (t .root)) conceptLimit (p .1); fits = omega (arith, a .fit, entries-size t) }))
 
 -- ---- accepted exactly
 

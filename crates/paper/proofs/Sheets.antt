@@ -7,6 +7,7 @@ use native.Mathlib.Omega.{arith}
 use lib.ListN.{length}
 use Rattle.paper.specs.Found.{found}
 use Rattle.paper.specs.Bytes.{isBlank, isLineEnd, all, startsIn, lengthIn, front, behind}
+use Rattle.paper.specs.Modes.{Modes}
 use Rattle.paper.specs.Tree.{Blank, Sheet}
 use Rattle.paper.specs.Grammar.{blanksOnto, tabsOnto, annotationsOnto, conceptOnto, sheetOnto, blankRule, annotationRule, conceptRule, sheetRule}
 use Rattle.paper.specs.Limits.{conceptFits, conceptDepth}
@@ -18,10 +19,10 @@ use Rattle.paper.proofs.Lines.{ReadBlanks, blanks-reads, blanks-complet
 use Rattle.paper.proofs.Annotations.{ReadAnnotations, annotations-reads, annotations-complete}
 use Rattle.paper.proofs.Concepts.{ReadConcept, concept-reads, concept-complete, begins-element, concept-tabs, concept-behind, no-annotation, blank-ends, element-parts}
 
-pub record ReadSheet (by : Bounds) (deeper room : ℕ) (s : List ℕ) (t : Sheet) (left : List ℕ) : Type 0 where
+pub record ReadSheet (m : Modes) (by : Bounds) (deeper room : ℕ) (s : List ℕ) (t : Sheet) (left : List ℕ) : Type 0 where
   pub over : left ≡ []
   pub covers : s ≡ sheetOnto t []
-  pub rule : sheetRule (by .modes) t ≡ true
+  pub rule : sheetRule m t ≡ true
   pub within : conceptFits (by .names) (by .lists) (t .root) ≡ true
   pub depth : conceptDepth (t .root) ≤ deeper
   pub fits : sheetSize t ≤ room
@@ -39,14 +40,14 @@ last-complete : (last : List ℕ) → all isBlank last ≡ true → lastBlanks (
 unfolding lastBlanks startsIn
 last-complete last r = rw (behind-of isBlank last [] r refl, lastBlanks, front-of isBlank last [] r refl)
 
-pub sheet-reads : (by : Bounds) (deeper room : ℕ) (s : List ℕ) → Reads s (λ t left. ReadSheet by deeper room s t left) (sheetTree by deeper room s)
+pub sheet-reads : (m : Modes) (by : Bounds) (deeper room : ℕ) (s : List ℕ) → Reads s (λ t left. ReadSheet m by deeper room s t left) (sheetTree m by deeper room s)
 unfolding sheetTree sheetOnto sheetRule sheetSize
-sheet-reads by deeper room s =
+sheet-reads m by deeper room s =
     reads-on s (λ bs left. ReadBlanks s bs left) _ _ (blankLines s) (blanks-reads s)
     (λ before first t b. reads-on s (λ tabs mark. mark ≡ behind isTab first) _ _ (tabsOnly first) (reads-in t _ (tabsOnly first) (only-reads first))
     (λ tabs mark u l. reads-on s (λ notes line. ReadAnnotations room first notes line) _ _ (annotations room first) (reads-in t _ (annotations room first) (annotations-reads room first))
-    (λ notes line u a. reads-on s (λ c left. ReadConcept by deeper (room - length notes) (lengthIn isTab line) (behind isTab line) c left) _ _ (conceptOf by deeper (room - length notes) (lengthIn isTab line) (behind isTab line))
-    (reads-in (tail-then u (tail-drop (lengthIn isTab line) line)) _ (conceptOf by deeper (room - length notes) (lengthIn isTab line) (behind isTab line)) (concept-reads by (length (behind isTab line) + 1) deeper (room - length notes) (lengthIn isTab line) (behind isTab line)))
+    (λ notes line u a. reads-on s (λ c left. ReadConcept m by deeper (room - length notes) (lengthIn isTab line) (behind isTab line) c left) _ _ (conceptOf m by deeper (room - length notes) (lengthIn isTab line) (behind isTab line))
+    (reads-in (tail-then u (tail-drop (lengthIn isTab line) line)) _ (conceptOf m by deeper (room - length notes) (lengthIn isTab line) (behind isTab line)) (concept-reads m by (length (behind isTab line) + 1) deeper (room - length notes) (lengthIn isTab line) (behind isTab line)))
     (λ c left u k. reads-on s (λ bs end. ReadBlanks left bs end) _ _ (blankLines left) (reads-in u _ (blankLines left) (blanks-reads left))
     (λ after rest u q. reads-on s (λ last end. (end ≡ []) × (rest ≡ last ++ []) × (all isBlank last ≡ true)) _ _ (lastBlanks (front isBlank rest) (behind isBlank rest)) (reads-in u _ (lastBlanks (front isBlank rest) (behind isBlank rest)) (last-reads rest))
     (λ last end u e. (
@@ -67,21 +68,20 @@ unfolding blanksOnto atLineEnd startsIn
 ends-root [] last r e = ap atLineEnd (behind-of isBlank last [] e refl)
 ends-root (b ∷ after) last r e = blank-ends b (blanksOnto after (last ++ [])) (all-head blankRule b after r .0)
 
-pub record Keeps (by : Bounds) (deeper room : ℕ) (t : Sheet) : Type 0 where
-  pub rule : sheetRule (by .modes) t ≡ true
+pub record Keeps (m : Modes) (by : Bounds) (deeper room : ℕ) (t : Sheet) : Type 0 where
+  pub rule : sheetRule m t ≡ true
   pub within : conceptFits (by .names) (by .lists) (t .root) ≡ true
   pub depth : conceptDepth (t .root) ≤ deeper
   pub fits : sheetSize t ≤ room
 
-pub sheet-complete : (by : Bounds) (deeper room : ℕ) (t : Sheet) → Keeps by deeper room t → sheetTree by deeper room (sheetOnto t []) ≡ found t []
+pub sheet-complete : (m : Modes) (by : Bounds) (deeper room : ℕ) (t : Sheet) → Keeps m by deeper room t → sheetTree m by deeper room (sheetOnto t []) ≡ found t []
 unfolding sheetTree sheetOnto sheetRule sheetSize startsIn
-sheet-complete by deeper room t k =
+sheet-complete m by deeper room t k =
     let p = both _ (all isBlank (t .last)) (k .rule) in
-    let q = element-parts (all blankRule (t .before)) (all annotationRule (t .annotations)) (conceptRule (by .modes) (t .root)) (all blankRule (t .after)) (p .0) in
-    let m = by .modes in
+    let q = element-parts (all blankRule (t .before)) (all annotationRule (t .annotations)) (conceptRule m (t .root)) (all blankRule (t .after)) (p .0) in
     let end = t .last ++ [] in
     let left = blanksOnto (t .after) end in
     let line = tabsOnto (t .tabs) (conceptOnto (t .tabs) (t .root) left) in
     let first = annotationsOnto (t .annotations) line in
     let g = begins-element m (t .annotations) (t .tabs) (t .root) left (q .2) in
-    rw (blanks-complete (t .before) first (q .0) (g .filled), g .only, annotations-complete room (t .annotations) line (q .1) (omega (arith, k .fits)) (no-annotation m (t .tabs) (t .root) left (q .2)), concept-behind m (t .tabs) (t .root) left (q .2), concept-tabs m (t .tabs) (t .root) left (q .2), concept-complete by (t .root) (length (conceptOnto (t .tabs) (t .root) left) + 1) deeper (room - length (t .annotations)) (t .tabs) left (q .2) (k .within) (k .depth) (omega (arith, k .fits)) (ends-root (t .after) (t .last) (q .3) (p .1)) (omega arith), blanks-complete (t .after) end (q .3) (ap (startsIn isLineEnd) (behind-of isBlank (t .last) [] (p .1) refl)), last-complete (t .last) (p .1))
+    rw (blanks-complete (t .before) first (q .0) (g .filled), g .only, annotations-complete room (t .annotations) line (q .1) (omega (arith, k .fits)) (no-annotation m (t .tabs) (t .root) left (q .2)), concept-behind m (t .tabs) (t .root) left (q .2), concept-tabs m (t .tabs) (t .root) left (q .2), concept-complete m by (t .root) (length (conceptOnto (t .tabs) (t .root) left) + 1) deeper (room - length (t .annotations)) (t .tabs) left (q .2) (k .within) (k .depth) (omega (arith, k .fits)) (ends-root (t .after) (t .last) (q .3) (p .1)) (omega arith), blanks-complete (t .after) end (q .3) (ap (startsIn isLineEnd) (behind-of isBlank (t .last) [] (p .1) refl)), last-complete (t .last) (p .1))

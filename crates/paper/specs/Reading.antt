@@ -19,15 +19,14 @@ use Rattle.paper.specs.Limits.{sheetLimit, entryLimit, conceptLimit, lis
 use Rattle.paper.specs.Entries.{entryCells, itemEntries, traitSize, traitsSize, conceptSize, entries, filled}
 use Rattle.paper.specs.ReadingValues.{wholeValue}
 
--- what a sheet is read by: the modes of its table, and how long names and how deep lists may be
+-- how long names and how deep lists may be
 pub record Bounds : Type 0 where
-  pub modes : Modes
   pub names : ℕ
   pub lists : ℕ
 
--- the paper's own limits, under a table of these modes
-abbrev pub boundsOf : Modes → Bounds
-boundsOf m = record { modes = m; names = nameLimit; lists = listLimit }
+-- the paper's own limits
+abbrev pub bounds : Bounds
+bounds = record { names = nameLimit; lists = listLimit }
 
 -- ---- lines
 
@@ -155,11 +154,11 @@ opened by room w s =
     found (record { marker = record { name = w; traits = ts; white = front isWhite left }; ends = e }) end))
 
 -- a Concept's name is judged in this order: the rule, the nesting, the table, the room
-unfoldable pub admitted : Bounds → ℕ → ℕ → List ℕ → List ℕ → List ℕ → List ℕ → Found Mode
-admitted by deeper room at s w left =
+unfoldable pub admitted : Modes → ℕ → ℕ → List ℕ → List ℕ → List ℕ → List ℕ → Found Mode
+admitted m deeper room at s w left =
     elim deeper [
       | zero ↦ fault 10 at
-      | suc fewer ↦ elim (modeOf (by .modes) w) [ Children ↦ makes room s Children left | Content ↦ makes room s Content left | Absent ↦ fault 5 s ]
+      | suc fewer ↦ elim (modeOf m w) [ Children ↦ makes room s Children left | Content ↦ makes room s Content left | Absent ↦ fault 5 s ]
     ]
 
 -- a closing marker behind its tabs: a closing name is only compared
@@ -207,53 +206,53 @@ contentOf tabs room k s =
 
 -- ---- Concepts
 
--- a Concept whose "<" is due, on a line of so many tabs, where so many may still be opened; and the body of one.
+-- a Concept whose "<" is due, on a line of so many tabs, where so many may still be opened; and the body of one. Only these ask for modes.
 -- The fuel is above the length
 unfoldable mutual
-  pub concept : Bounds → ℕ → ℕ → ℕ → ℕ → List ℕ → Found Concept
-  concept by zero deeper room tabs s = fault 9 s
-  concept by (suc fuel) deeper room tabs s =
+  pub concept : Modes → Bounds → ℕ → ℕ → ℕ → ℕ → List ℕ → Found Concept
+  concept m by zero deeper room tabs s = fault 9 s
+  concept m by (suc fuel) deeper room tabs s =
       andThen (due (byte "<") s) (λ b named. andThen (name (isName isUpper (by .names)) named) (λ w left.
-      andThen (admitted by deeper room s named w left) (λ mode left. andThen (opened by (room - 1) w left) (λ o left.
+      andThen (admitted m deeper room s named w left) (λ mode left. andThen (opened by (room - 1) w left) (λ o left.
       elim (o .ends) [
         | self ↦ found (selfClosed (o .marker)) left
         | block ↦ elim mode [
-          | Children ↦ childrenOf by fuel (deeper - 1) (room - 1 - traitsSize (o .marker .traits)) (o .marker) left
+          | Children ↦ childrenOf m by fuel (deeper - 1) (room - 1 - traitsSize (o .marker .traits)) (o .marker) left
           | Content ↦ contentOf tabs (room - 1 - traitsSize (o .marker .traits)) (o .marker) left
           | Absent ↦ fault 5 named
         ]
       ]))))
 
-  pub childrenOf : Bounds → ℕ → ℕ → ℕ → Marker → List ℕ → Found Concept
-  childrenOf by zero deeper room k s = fault 9 s
-  childrenOf by (suc fuel) deeper room k s =
-      andThen (lineRest s) (λ rest start. andThen (body by fuel deeper room start) (λ inner left.
+  pub childrenOf : Modes → Bounds → ℕ → ℕ → ℕ → Marker → List ℕ → Found Concept
+  childrenOf m by zero deeper room k s = fault 9 s
+  childrenOf m by (suc fuel) deeper room k s =
+      andThen (lineRest s) (λ rest start. andThen (body m by fuel deeper room start) (λ inner left.
       andThen (closing (k .name) (behind isTab left)) (λ b end. found (children k rest inner (lengthIn isTab left)) end)))
 
-  pub body : Bounds → ℕ → ℕ → ℕ → List ℕ → Found Body
-  body by zero deeper room s = fault 9 s
-  body by (suc fuel) deeper room s =
+  pub body : Modes → Bounds → ℕ → ℕ → ℕ → List ℕ → Found Body
+  body m by zero deeper room s = fault 9 s
+  body m by (suc fuel) deeper room s =
       elim (isBlankLine s) [
-        | true ↦ andThen (lineRest s) (λ b left. andThen (body by fuel deeper room left) (λ inner end. found (blankLine b inner) end))
+        | true ↦ andThen (lineRest s) (λ b left. andThen (body m by fuel deeper room left) (λ inner end. found (blankLine b inner) end))
         | false ↦ andThen (tabsOnly s) (λ tabs mark.
             elim (startsWith (bytes "</") mark) [
               | true ↦ found done s
               | false ↦ andThen (annotations room s) (λ notes line.
-                  andThen (concept by fuel deeper (room - length notes) (lengthIn isTab line) (behind isTab line)) (λ c left.
-                  andThen (lineRest left) (λ rest left. andThen (body by fuel deeper (room - length notes - conceptSize c) left) (λ inner end.
+                  andThen (concept m by fuel deeper (room - length notes) (lengthIn isTab line) (behind isTab line)) (λ c left.
+                  andThen (lineRest left) (λ rest left. andThen (body m by fuel deeper (room - length notes - conceptSize c) left) (λ inner end.
                   found (element notes (lengthIn isTab line) c rest inner) end))))
             ])
       ]
 
 -- the same with fuel that is enough
-abbrev pub conceptOf : Bounds → ℕ → ℕ → ℕ → List ℕ → Found Concept
-conceptOf by deeper room tabs s = concept by (length s + 1) deeper room tabs s
+abbrev pub conceptOf : Modes → Bounds → ℕ → ℕ → ℕ → List ℕ → Found Concept
+conceptOf m by deeper room tabs s = concept m by (length s + 1) deeper room tabs s
 
-abbrev pub blockOf : Bounds → ℕ → ℕ → Marker → List ℕ → Found Concept
-blockOf by deeper room k s = childrenOf by (length s + 3) deeper room k s
+abbrev pub blockOf : Modes → Bounds → ℕ → ℕ → Marker → List ℕ → Found Concept
+blockOf m by deeper room k s = childrenOf m by (length s + 3) deeper room k s
 
-abbrev pub bodyOf : Bounds → ℕ → ℕ → List ℕ → Found Body
-bodyOf by deeper room s = body by (length s + 2) deeper room s
+abbrev pub bodyOf : Modes → Bounds → ℕ → ℕ → List ℕ → Found Body
+bodyOf m by deeper room s = body m by (length s + 2) deeper room s
 
 -- ---- a whole sheet
 
@@ -262,10 +261,10 @@ unfoldable pub lastBlanks : List ℕ → List ℕ → Found (List ℕ)
 lastBlanks blanks [] = found blanks []
 lastBlanks blanks (b ∷ l) = fault 7 (b ∷ l)
 
-unfoldable pub sheetTree : Bounds → ℕ → ℕ → List ℕ → Found Sheet
-sheetTree by deeper room s =
+unfoldable pub sheetTree : Modes → Bounds → ℕ → ℕ → List ℕ → Found Sheet
+sheetTree m by deeper room s =
     andThen (blankLines s) (λ before first. andThen (tabsOnly first) (λ tabs mark. andThen (annotations room first) (λ notes line.
-    andThen (conceptOf by deeper (room - length notes) (lengthIn isTab line) (behind isTab line)) (λ c left.
+    andThen (conceptOf m by deeper (room - length notes) (lengthIn isTab line) (behind isTab line)) (λ c left.
     andThen (blankLines left) (λ after left. andThen (lastBlanks (front isBlank left) (behind isBlank left)) (λ last end.
     found (record { before = before; annotations = notes; tabs = lengthIn isTab line; root = c; after = after; last = last }) end))))))
 
@@ -275,7 +274,7 @@ roomOf lent = min (lent / entryCells) entryLimit
 
 -- the faults of a sheet under a valid table, in the paper's order: 2, 3, then 4 to 11
 unfoldable pub sheetOf : Modes → ℕ → List ℕ → Found Sheet
-sheetOf m room s = elim (ltb sheetLimit (length s)) [ true ↦ fault 2 (drop sheetLimit s) | false ↦ andThen (sheetBytes s) (λ vs left. sheetTree (boundsOf m) conceptLimit room s) ]
+sheetOf m room s = elim (ltb sheetLimit (length s)) [ true ↦ fault 2 (drop sheetLimit s) | false ↦ andThen (sheetBytes s) (λ vs left. sheetTree m bounds conceptLimit room s) ]
 
 -- the answer, and every lent cell at exit: a refusal leaves all of them zero
 pub record Reading : Type 0 where

@@ -12,7 +12,7 @@ use Rattle.paper.specs.Modes.{Modes}
 use Rattle.paper.specs.Tree.{Annotation, Concept}
 use Rattle.paper.specs.Grammar.{tabsOnto, annotationsOnto, conceptOnto}
 use Rattle.paper.specs.Entries.{Entry, annotationEntries, conceptSize}
-use Rattle.paper.specs.Reading.{isTab, annotations, conceptOf, boundsOf}
+use Rattle.paper.specs.Reading.{isTab, annotations, conceptOf, bounds}
 use Rattle.paper.proofs.Finds.{tail-drop, Reads, reads-in, reads-then, reads-map}
 use Rattle.paper.proofs.Lines.{tabs-covers}
 use Rattle.paper.proofs.Annotations.{ReadAnnotations, annotations-reads}
@@ -48,9 +48,9 @@ annotated-reads m deeper room s =
     let tabs = lengthIn isTab line in
     let fewer = room - length notes in
     let mark = behind isTab line in
-    reads-map line (λ c left. ReadConcept (boundsOf m) deeper fewer tabs mark c left) (λ a left. ReadAnnotated room s a left) (λ c. record { notes = notes; tabs = tabs; concept = c })
-    (conceptOf (boundsOf m) deeper fewer tabs mark)
-    (reads-in (tail-drop tabs line) _ (conceptOf (boundsOf m) deeper fewer tabs mark) (concept-reads (boundsOf m) (length mark + 1) deeper fewer tabs mark))
+    reads-map line (λ c left. ReadConcept m bounds deeper fewer tabs mark c left) (λ a left. ReadAnnotated room s a left) (λ c. record { notes = notes; tabs = tabs; concept = c })
+    (conceptOf m bounds deeper fewer tabs mark)
+    (reads-in (tail-drop tabs line) _ (conceptOf m bounds deeper fewer tabs mark) (concept-reads m bounds (length mark + 1) deeper fewer tabs mark))
     (λ c left k.
     let e : s ≡ annotationsOnto notes (tabsOnto tabs (conceptOnto tabs c left)) = n .covers ∙ ap (annotationsOnto notes) (tabs-covers line ∙ ap (tabsOnto tabs) (k .covers)) in
     record {
@@ -64,7 +64,7 @@ annotated-reads m deeper room s =
 -- what is read behind the annotations
 abbrev onward : Modes → ℕ → ℕ → List Annotation → List ℕ → Found Annotated
 onward m deeper room notes line =
-    andThen (conceptOf (boundsOf m) deeper (room - length notes) (lengthIn isTab line) (behind isTab line)) (λ c left.
+    andThen (conceptOf m bounds deeper (room - length notes) (lengthIn isTab line) (behind isTab line)) (λ c left.
     found (record { notes = notes; tabs = lengthIn isTab line; concept = c }) left)
 
 by-notes : (m : Modes) (deeper room : ℕ) (s : List ℕ) → annotatedOf m deeper room s ≡ andThen (annotations room s) (onward m deeper room)
@@ -120,7 +120,7 @@ module _ {table s : List ℕ} {at : ℕ} {cells : List ℕ} {slot : Slot} {mid :
   concept-stands e = stands-on (n .stands) (run .2) (fits-after made (n .stands .fits) e (n .few) lends)
 
   module _ (m : Modes) (deeper : ℕ) {r : Part} {after : List ℕ}
-      (k : Makes conceptSize (λ c. 1) (wholeConcept (next .parent) (next .next) mark (mark - line)) s mid (next .next) (conceptOf (boundsOf m) deeper (next .room - next .next) (mark - line) (drop mark s)) r after) where
+      (k : Makes conceptSize (λ c. 1) (wholeConcept (next .parent) (next .next) mark (mark - line)) s mid (next .next) (conceptOf m bounds deeper (next .room - next .next) (mark - line) (drop mark s)) r after) where
     abbrev noted : List Annotation
     noted = n .it
 
@@ -131,7 +131,7 @@ module _ {table s : List ℕ} {at : ℕ} {cells : List ℕ} {slot : Slot} {mid :
     start = at + length (annotationsOnto noted []) + tabs
 
     abbrev reading : Found Concept
-    reading = conceptOf (boundsOf m) deeper (room - length noted) tabs (drop mark s)
+    reading = conceptOf m bounds deeper (room - length noted) tabs (drop mark s)
 
     abbrev with-notes : Concept → Annotated
     with-notes c = record { notes = noted; tabs = tabs; concept = c }
@@ -145,14 +145,14 @@ module _ {table s : List ℕ} {at : ℕ} {cells : List ℕ} {slot : Slot} {mid :
         go (slot .next + made) (slot .room - (slot .next + made)) mark (mark - line) (omega (arith, n .many)) (omega (arith, n .many)) starts (omega (arith, run .0)) (rw lends at k)
       where
         go : (number left place back : ℕ) → number ≡ slot .next + length noted → left ≡ room - length noted → place ≡ start → back ≡ tabs
-            → Makes conceptSize (λ c. 1) (wholeConcept (slot .parent) number place back) s mid number (conceptOf (boundsOf m) deeper left back (drop mark s)) r after
+            → Makes conceptSize (λ c. 1) (wholeConcept (slot .parent) number place back) s mid number (conceptOf m bounds deeper left back (drop mark s)) r after
             → Makes conceptSize (λ c. 1) (wholeConcept (slot .parent) (slot .next + length noted) start tabs) s mid (slot .next + length noted) reading r after
         go number left place back a b c d made = rw (a, b, c, d) at made
 
     by-concept : annotatedOf m deeper room (drop at s) ≡ andThen reading (λ c left. found (with-notes c) left)
     by-concept =
         by-notes m deeper room (drop at s) ∙ ap (λ (x : Found (List Annotation)). andThen x (onward m deeper room)) (n .finds)
-        ∙ ap (λ (l : List ℕ). andThen (conceptOf (boundsOf m) deeper (room - length noted) tabs l) (λ c left. found (with-notes c) left)) (behind-at isTab s line mark run)
+        ∙ ap (λ (l : List ℕ). andThen (conceptOf m bounds deeper (room - length noted) tabs l) (λ c left. found (with-notes c) left)) (behind-at isTab s line mark run)
 
     pub concept-refused : {why : Refusal} {place : ℕ} → r ≡ Refused why place → Annotates s at cells slot m deeper r after
     concept-refused {why} {place} e =
@@ -160,10 +160,10 @@ module _ {table s : List ℕ} {at : ℕ} {cells : List ℕ} {slot : Slot} {mid :
         conceptSize (λ c. 1) (λ x. andThen x (λ c left. found (with-notes c) left)) (λ j left. refl) reading why place (made-concept .says) e by-concept
 
     module _ {end inside mine : ℕ} (e : r ≡ Read end inside mine) where
-      the-concept : FoundAt conceptSize (λ c. 1) (λ c left. ReadConcept (boundsOf m) deeper (room - length noted) tabs (drop mark s) c left) s mark reading end inside mine
+      the-concept : FoundAt conceptSize (λ c. 1) (λ c left. ReadConcept m bounds deeper (room - length noted) tabs (drop mark s) c left) s mark reading end inside mine
       the-concept =
           found-at conceptSize (λ c. 1) s r _ mark reading end inside mine (made-concept .says)
-          (concept-reads (boundsOf m) (length (drop mark s) + 1) deeper (room - length noted) tabs (drop mark s)) (run .2) e
+          (concept-reads m bounds (length (drop mark s) + 1) deeper (room - length noted) tabs (drop mark s)) (run .2) e
 
       pub all-few : slot .next + made + inside ≤ slot .room
       all-few = omega (arith, n .few, n .many, the-concept .many, the-concept .holds .fits)

@@ -13,7 +13,7 @@ use Rattle.paper.specs.Modes.{Modes}
 use Rattle.paper.specs.Tree.{Blank, Annotation, Concept, Body, done, blankLine, element}
 use Rattle.paper.specs.Grammar.{blankOnto, tabsOnto, annotationsOnto, conceptOnto, bodyOnto}
 use Rattle.paper.specs.Entries.{Entry, annotationEntries, conceptSize, bodySize, bodyCount, conceptWidth, conceptEntry, insideEntries, bodyEntries}
-use Rattle.paper.specs.Reading.{lineRest, isBlankLine, isTab, tabsOnly, annotations, conceptOf, bodyOf, boundsOf}
+use Rattle.paper.specs.Reading.{lineRest, isBlankLine, isTab, tabsOnly, annotations, conceptOf, bodyOf, bounds}
 use Rattle.paper.proofs.Tests.{split, when-true, when-false}
 use Rattle.paper.proofs.Lists.{starts-is}
 use Rattle.paper.proofs.Finds.{Reads, reads-then, reads-on, reads-map, then-then, then-alike}
@@ -79,16 +79,16 @@ joined-entries (element notes tabs c rest body) inner parent next at =
 
 -- what follows a piece
 abbrev pub onward : Modes → ℕ → ℕ → Body → List ℕ → Found Body
-onward m deeper room p left = andThen (bodyOf (boundsOf m) deeper (room - bodySize p) left) (λ inner end. found (joined p inner) end)
+onward m deeper room p left = andThen (bodyOf m bounds deeper (room - bodySize p) left) (λ inner end. found (joined p inner) end)
 
 module _ (m : Modes) (deeper room : ℕ) (s : List ℕ) where
   -- the line of a closing marker ends it
-  pub body-over : startsWith (bytes "</") (behind isTab s) ≡ true → bodyOf (boundsOf m) deeper room s ≡ found done s
+  pub body-over : startsWith (bytes "</") (behind isTab s) ≡ true → bodyOf m bounds deeper room s ≡ found done s
   unfolding isBlank isLineEnd
   body-over e =
       let rest = drop 1 (bytes "</") ++ drop 2 (behind isTab s) in
       let line : s ≡ tabsOnto (lengthIn isTab s) (byte "<" ∷ rest) = tabs-covers s ∙ ap (tabsOnto (lengthIn isTab s)) (starts-is (bytes "</") (behind isTab s) e) in
-      body-of-closing (boundsOf m) deeper room s
+      body-of-closing m bounds deeper room s
       (ap isBlankLine line ∙ marked-line (lengthIn isTab s) (byte "<") rest refl refl)
       (lengthIn isTab s) (byte "<" ∷ rest) (ap tabsOnly line ∙ only-complete (lengthIn isTab s) (byte "<") rest refl)
       (ap (startsWith (bytes "</")) (sym (starts-is (bytes "</") (behind isTab s) e)) ∙ e)
@@ -105,28 +105,28 @@ module _ (m : Modes) (deeper room : ℕ) (s : List ℕ) where
   unfolding pieceOf
   piece-line e = when-false (isBlankLine s) _ _ e
 
-  pub body-on : startsWith (bytes "</") (behind isTab s) ≡ false → bodyOf (boundsOf m) deeper room s ≡ andThen (pieceOf m deeper room s) (onward m deeper room)
+  pub body-on : startsWith (bytes "</") (behind isTab s) ≡ false → bodyOf m bounds deeper room s ≡ andThen (pieceOf m deeper room s) (onward m deeper room)
   unfolding joined conceptSize annotatedOf
   body-on o = split (isBlankLine s) blank (λ e. go e (tabsOnly s) refl (only-reads s))
     where
-      blank : isBlankLine s ≡ true → bodyOf (boundsOf m) deeper room s ≡ andThen (pieceOf m deeper room s) (onward m deeper room)
+      blank : isBlankLine s ≡ true → bodyOf m bounds deeper room s ≡ andThen (pieceOf m deeper room s) (onward m deeper room)
       blank e =
-          body-of-blank (boundsOf m) deeper room s e
-          ∙ then-alike (lineRest s) _ _ (λ b left. ap (λ (k : ℕ). andThen (bodyOf (boundsOf m) deeper k left) (λ inner end. found (blankLine b inner) end)) (sym (sub-zero room)))
+          body-of-blank m bounds deeper room s e
+          ∙ then-alike (lineRest s) _ _ (λ b left. ap (λ (k : ℕ). andThen (bodyOf m bounds deeper k left) (λ inner end. found (blankLine b inner) end)) (sym (sub-zero room)))
           ∙ sym (then-then (lineRest s) (λ b left. found (blankLine b done) left) (onward m deeper room))
           ∙ ap (λ (x : Found Body). andThen x (onward m deeper room)) (sym (piece-blank e))
 
-      go : isBlankLine s ≡ false → (x : Found ℕ) → tabsOnly s ≡ x → Reads s (λ tabs mark. mark ≡ behind isTab s) x → bodyOf (boundsOf m) deeper room s ≡ andThen (pieceOf m deeper room s) (onward m deeper room)
-      go e (fault n left) t h = body-of-fault (boundsOf m) deeper room s e n left t ∙ ap (λ (x : Found Body). andThen x (onward m deeper room)) (sym (piece-line e ∙ ap ofTabs t))
+      go : isBlankLine s ≡ false → (x : Found ℕ) → tabsOnly s ≡ x → Reads s (λ tabs mark. mark ≡ behind isTab s) x → bodyOf m bounds deeper room s ≡ andThen (pieceOf m deeper room s) (onward m deeper room)
+      go e (fault n left) t h = body-of-fault m bounds deeper room s e n left t ∙ ap (λ (x : Found Body). andThen x (onward m deeper room)) (sym (piece-line e ∙ ap ofTabs t))
       go e (found tabs mark) t h =
-          body-of-element (boundsOf m) deeper room s e tabs mark t (ap (startsWith (bytes "</")) (h .1) ∙ o)
+          body-of-element m bounds deeper room s e tabs mark t (ap (startsWith (bytes "</")) (h .1) ∙ o)
           ∙ then-alike (annotations room s) _ _ (λ notes line.
           let n = lengthIn isTab line in
-          let mid = conceptOf (boundsOf m) deeper (room - length notes) n (behind isTab line) in
+          let mid = conceptOf m bounds deeper (room - length notes) n (behind isTab line) in
           then-alike mid _ _ (λ c left.
           then-alike (lineRest left) _ _ (λ rest end.
           let less : room - length notes - conceptSize c ≡ room - bodySize (element notes n c rest done) = omega arith in
-          ap (λ (k : ℕ). andThen (bodyOf (boundsOf m) deeper k end) (λ inner end. found (element notes n c rest inner) end)) less)
+          ap (λ (k : ℕ). andThen (bodyOf m bounds deeper k end) (λ inner end. found (element notes n c rest inner) end)) less)
           ∙ sym (then-then (lineRest left) (λ rest end. found (element notes n c rest done) end) (onward m deeper room)))
           ∙ sym (then-then mid (λ c left. found (record { notes = notes; tabs = n; concept = c }) left) _))
           ∙ sym (then-then (annotations room s) _ _)

@@ -13,7 +13,7 @@ use Rattle.paper.specs.Bytes.{byte}
 use Rattle.paper.specs.Tree.{Trait, Marker, Ending, block, self, Concept, selfClosed, children, content}
 use Rattle.paper.specs.Grammar.{blankOnto, traitsOnto, markerOnto, endingOnto, linesOnto}
 use Rattle.paper.specs.Entries.{Entry, unnamed, traitsSize, traitEntries, conceptSize, conceptCount, markerOf, conceptForm, conceptWidth, markerName, conceptEntry, bodyStart, insideEntries, bodyEntries}
-use Rattle.paper.specs.Reading.{contentOf, conceptOf, blockOf, boundsOf}
+use Rattle.paper.specs.Reading.{contentOf, conceptOf, blockOf, bounds}
 use Rattle.paper.proofs.Finds.{Reads}
 use Rattle.paper.proofs.Widths.{marker-wide}
 use Rattle.paper.proofs.Sizes.{traits-size}
@@ -49,7 +49,7 @@ module _ {table s : List ℕ} {at : ℕ} {cells : List ℕ} {slot : Slot} (h : S
   inside-closed f {r} e = makes-read _ _ _ _ _ _ _ r cells (selfClosed k) at 0 0 e (h .in-sheet .inside) (rw (f, insideOf)) refl refl (sym (lay-none cells (slot .next)))
 
   pub inside-block : form ≡ 2 → {r : Part} {last : List ℕ}
-      → Makes insideSize insideCount (bodyOfConcept (slot .parent) (slot .next) tabs at) s cells (slot .next) (blockOf (boundsOf (modesOf table)) deeper (slot .room - slot .next) k (drop at s)) r last → Inside r last
+      → Makes insideSize insideCount (bodyOfConcept (slot .parent) (slot .next) tabs at) s cells (slot .next) (blockOf (modesOf table) bounds deeper (slot .room - slot .next) k (drop at s)) r last → Inside r last
   unfolding insideOf
   inside-block f b = rw (ne-eqb form 1 (λ e. omega arith), insideOf, eq-eqb form 2 f) b
 
@@ -111,7 +111,7 @@ entry-is parent at tabs c form count to end f n t e = rw (f, n, t, e)
 
 abbrev Whole : List ℕ → List ℕ → ℕ → List ℕ → Slot → ℕ → ℕ → Part → List ℕ → Type 0
 Whole table s at cells slot deeper tabs r last =
-    Makes conceptSize (λ c. 1) (wholeConcept (slot .parent) (slot .next) at tabs) s cells (slot .next) (conceptOf (boundsOf (modesOf table)) deeper (slot .room - slot .next) tabs (drop at s)) r last
+    Makes conceptSize (λ c. 1) (wholeConcept (slot .parent) (slot .next) at tabs) s cells (slot .next) (conceptOf (modesOf table) bounds deeper (slot .room - slot .next) tabs (drop at s)) r last
 
 pub marker-refused : {table s : List ℕ} {at : ℕ} {cells : List ℕ} {slot : Slot} → Stands table s at cells slot
     → {deeper : ℕ} {o : Opening} {mid : List ℕ} → Opens deeper s (at + 1) cells slot (markedOf (modesOf table) deeper (slot .room - slot .next) (drop at s)) o mid
@@ -136,7 +136,7 @@ module _ {table s : List ℕ} {at : ℕ} {cells : List ℕ} {slot : Slot} {deepe
   abbrev marked : Found Marked
   marked = markedOf (modesOf table) deeper room (drop at s)
 
-  marker : FoundAt madeBy traitsIn (λ k left. Leads (boundsOf (modesOf table)) deeper room (drop at s) (k .mode) (k .opened) left) s at marked end made own
+  marker : FoundAt madeBy traitsIn (λ k left. Leads (modesOf table) bounds deeper room (drop at s) (k .mode) (k .opened) left) s at marked end made own
   marker =
       found-at madeBy traitsIn s (partOf (known .answer)) _ at marked end made own (known .opens .makes .says) (marked-reads (modesOf table) deeper room (drop at s)) (known .stands .in-sheet .inside)
       (ap partOf (known .told))
@@ -186,7 +186,7 @@ module _ {table s : List ℕ} {at : ℕ} {cells : List ℕ} {slot : Slot} {deepe
     module _ (tabs : ℕ) {b : Part} {left : List ℕ}
         (body : (k : Marker) → k .name ≡ part s (at + 1) to → Makes insideSize insideCount (bodyOfConcept (next .parent) (next .next) tabs end) s mid (next .next) (insideOf form (modesOf table) (inside .left) (next .room - next .next) tabs k (drop end s)) b left) where
       abbrev reading : Found Concept
-      reading = conceptOf (boundsOf (modesOf table)) deeper room tabs (drop at s)
+      reading = conceptOf (modesOf table) bounds deeper room tabs (drop at s)
 
       abbrev inner : Found Concept
       inner = after (modesOf table) deeper room tabs (marker .it) (drop end s)
@@ -221,9 +221,9 @@ module _ {table s : List ℕ} {at : ℕ} {cells : List ℕ} {slot : Slot} {deepe
         finds : reading ≡ found c (drop far s)
         finds = reading-is ∙ it .finds
 
-        read : ReadConcept (boundsOf (modesOf table)) deeper room tabs (drop at s) c (drop far s)
+        read : ReadConcept (modesOf table) bounds deeper room tabs (drop at s) c (drop far s)
         read =
-            let r : Reads (drop at s) (λ c left. ReadConcept (boundsOf (modesOf table)) deeper room tabs (drop at s) c left) (found c (drop far s)) = rw finds at (concept-reads (boundsOf (modesOf table)) (length (drop at s) + 1) deeper room tabs (drop at s)) in
+            let r : Reads (drop at s) (λ c left. ReadConcept (modesOf table) bounds deeper room tabs (drop at s) c left) (found c (drop far s)) = rw finds at (concept-reads (modesOf table) bounds (length (drop at s) + 1) deeper room tabs (drop at s)) in
             r .1
 
         size : conceptSize c ≡ 1 + made + more

@@ -20,7 +20,7 @@ use Rattle.paper.specs.Names.{isConceptName}
 use Rattle.paper.specs.Modes.{Modes, modeOf}
 use Rattle.paper.specs.Tree.{Trait, Marker, Ending as Ends, block, self}
 use Rattle.paper.specs.Entries.{Entry, traitsSize, traitEntries}
-use Rattle.paper.specs.Reading.{due, name, makes, ending, opened, admitted, boundsOf}
+use Rattle.paper.specs.Reading.{due, name, makes, ending, opened, admitted, bounds}
 use Rattle.paper.proofs.Lines.{makes-complete}
 use Rattle.paper.proofs.Markers.{ReadTraits, traits-reads, ending-reads}
 use Rattle.text.proofs.Stretch.{Stretch, behind-at}
@@ -117,20 +117,20 @@ end-found s mark h a says e end q =
 -- ---- behind a name that is admitted: an entry for the Concept, traits behind it, white space, the ending
 
 -- traits that are read up to an end
-traits-at : (of : List Trait → List Entry) (s cells : List ℕ) (n room to : ℕ) (m : Modes) (t : Part) (after : List ℕ) (end made own : ℕ)
-    → to ≤ length s → Makes traitsSize length of s cells n (traitsOf m room (drop to s)) t after → t ≡ Read end made own
-    → FoundAt traitsSize length (ReadTraits (boundsOf m) room (drop to s)) s to (traitsOf m room (drop to s)) end made own
-traits-at of s cells n room to m t after end made own h k q =
-    found-at traitsSize length s t (ReadTraits (boundsOf m) room (drop to s)) to (traitsOf m room (drop to s)) end made own (k .says) (traits-reads (boundsOf m) room (drop to s)) h q
+traits-at : (of : List Trait → List Entry) (s cells : List ℕ) (n room to : ℕ) (t : Part) (after : List ℕ) (end made own : ℕ)
+    → to ≤ length s → Makes traitsSize length of s cells n (traitsOf room (drop to s)) t after → t ≡ Read end made own
+    → FoundAt traitsSize length (ReadTraits bounds room (drop to s)) s to (traitsOf room (drop to s)) end made own
+traits-at of s cells n room to t after end made own h k q =
+    found-at traitsSize length s t (ReadTraits bounds room (drop to s)) to (traitsOf room (drop to s)) end made own (k .says) (traits-reads bounds room (drop to s)) h q
 
 -- what a marker makes of its ending
 abbrev markedBy : Marker → Mode → Found Ends → Found Marked
 markedBy k mode x = andThen (andThen x (λ e left. found (record { marker = k; ends = e }) left)) (λ o end. found (record { mode = mode; opened = o }) end)
 
 -- a marker that is read up to its ending, which is due at a mark, and its traits are entered
-pub record TraitsAt (s : List ℕ) (start to : ℕ) (cells : List ℕ) (slot : Slot) (m : Modes) (mode : Mode) (after : List ℕ) (mark made own : ℕ) : Type 0 where
+pub record TraitsAt (s : List ℕ) (start to : ℕ) (cells : List ℕ) (slot : Slot) (mode : Mode) (after : List ℕ) (mark made own : ℕ) : Type 0 where
   pub it : Marker
-  pub finds : heldOf m mode (slot .room - slot .next) (drop start s) (part s start to) (drop to s) ≡ markedBy it mode (ending (drop mark s))
+  pub finds : heldOf mode (slot .room - slot .next) (drop start s) (part s start to) (drop to s) ≡ markedBy it mode (ending (drop mark s))
   pub wide : to ≡ start + length (it .name)
   pub many : traitsSize (it .traits) ≡ made
   pub owned : length (it .traits) ≡ own
@@ -138,33 +138,32 @@ pub record TraitsAt (s : List ℕ) (start to : ℕ) (cells : List ℕ) (slot : S
   pub laid : after ≡ lay cells (slot .next + 1) (traitEntries (slot .next) (slot .next + 1) (start + length (it .name)) (it .traits))
 
 -- a name stands from `start` to `to`; the Concept that it is of may stand here, and so many may be opened in it
-abbrev Holds : List ℕ → ℕ → ℕ → List ℕ → Slot → Modes → Mode → Nesting → Opening → List ℕ → Type 0
-Holds s start to cells slot m mode inside r after = Opens (suc (inside .left)) s start cells slot (heldOf m mode (slot .room - slot .next) (drop start s) (part s start to) (drop to s)) r after
+abbrev Holds : List ℕ → ℕ → ℕ → List ℕ → Slot → Mode → Nesting → Opening → List ℕ → Type 0
+Holds s start to cells slot mode inside r after = Opens (suc (inside .left)) s start cells slot (heldOf mode (slot .room - slot .next) (drop start s) (part s start to) (drop to s)) r after
 
 module _ {s : List ℕ} {to : ℕ} (place : In s to) {cells : List ℕ} {slot : Slot} (fits : Fits cells slot) where
   pub traits-inside : (under : Slot) {t : Part} {after : List ℕ}
-      → ((m : Modes) → Makes traitsSize length (traitEntries (under .parent) (under .next) to) s cells (under .next) (traitsOf m (under .room - under .next) (drop to s)) t after)
+      → Makes traitsSize length (traitEntries (under .parent) (under .next) to) s cells (under .next) (traitsOf (under .room - under .next) (drop to s)) t after
       → {end made own : ℕ} → t ≡ Read end made own → end ≤ length s
   traits-inside under {t} {after} k {end} {made} {own} q =
-      let m : Modes = record { children = []; content = [] } in
-      traits-at _ s cells (under .next) (under .room - under .next) to m t after end made own (place .inside) (k m) q .inside
+      traits-at _ s cells (under .next) (under .room - under .next) to t after end made own (place .inside) k q .inside
 
-  module _ {start : ℕ} (ahead : start ≤ to) (m : Modes) (mode : Mode) where
+  module _ {start : ℕ} (ahead : start ≤ to) (mode : Mode) where
     abbrev held : Found Marked
-    held = heldOf m mode (slot .room - slot .next) (drop start s) (part s start to) (drop to s)
+    held = heldOf mode (slot .room - slot .next) (drop start s) (part s start to) (drop to s)
 
     module _ {o : Bool} (asked : o ≡ leb (slot .room) (slot .next)) where
-      pub no-room : o ≡ true → {inside : Nesting} {r : Opening} → r ≡ Refused NoEntryLeft start → Holds s start to cells slot m mode inside r cells
+      pub no-room : o ≡ true → {inside : Nesting} {r : Opening} → r ≡ Refused NoEntryLeft start → Holds s start to cells slot mode inside r cells
       unfolding makes
       no-room t {inside} {r} q =
           let none : slot .room - slot .next ≡ 0 = omega (arith, leb-true (slot .room) (slot .next) (sym asked ∙ t)) in
           opens-fault _ _ _ _ _ held r cells NoEntryLeft start q (omega (arith, place .inside)) (rw none)
 
       module _ (f : o ≡ false) {under : Slot} (b : under ≡ slotUnder slot) {t : Part} {after : List ℕ}
-          (k : Makes traitsSize length (traitEntries (under .parent) (under .next) to) s cells (under .next) (traitsOf m (under .room - under .next) (drop to s)) t after) where
+          (k : Makes traitsSize length (traitEntries (under .parent) (under .next) to) s cells (under .next) (traitsOf (under .room - under .next) (drop to s)) t after) where
         -- the traits, and what the marker makes of them
         abbrev traits : Found (List Trait)
-        traits = traitsOf m (slot .room - slot .next - 1) (drop to s)
+        traits = traitsOf (slot .room - slot .next - 1) (drop to s)
 
         abbrev of-traits : Found (List Trait) → Found Marked
         of-traits y =
@@ -178,12 +177,12 @@ module _ {s : List ℕ} {to : ℕ} (place : In s to) {cells : List ℕ} {slot : 
         made-traits : Makes traitsSize length (traitEntries (slot .next) (slot .next + 1) to) s cells (slot .next + 1) traits t after
         made-traits = let n : slot .room - (slot .next + 1) ≡ slot .room - slot .next - 1 = omega arith in rw (← n) (rw b at k)
 
-        pub traits-refused : {why : Refusal} {at : ℕ} → t ≡ Part.Refused why at → {inside : Nesting} {r : Opening} → r ≡ Refused why at → Holds s start to cells slot m mode inside r after
+        pub traits-refused : {why : Refusal} {at : ℕ} → t ≡ Part.Refused why at → {inside : Nesting} {r : Opening} → r ≡ Refused why at → Holds s start to cells slot mode inside r after
         traits-refused {why} {at} p {inside} {r} q = opens-passed _ _ _ _ _ held r after traitsSize length of-traits (λ n left. refl) traits t why at (made-traits .says) p q by-traits
 
-        pub marker-traits : {end made own : ℕ} → t ≡ Read end made own → {mark : ℕ} → Stretch isWhite s end mark → TraitsAt s start to cells slot m mode after mark made own
+        pub marker-traits : {end made own : ℕ} → t ≡ Read end made own → {mark : ℕ} → Stretch isWhite s end mark → TraitsAt s start to cells slot mode after mark made own
         marker-traits {end} {made} {own} p {mark} white =
-            let f = traits-at _ s cells (slot .next + 1) (slot .room - slot .next - 1) to m t after end made own (place .inside) made-traits p in
+            let f = traits-at _ s cells (slot .next + 1) (slot .room - slot .next - 1) to t after end made own (place .inside) made-traits p in
             let wide : to ≡ start + length (part s start to) = omega (arith, part-length s start to ahead (place .inside)) in
             record {
               it = record { name = part s start to; traits = f .it; white = front isWhite (drop end s) };
@@ -196,13 +195,13 @@ module _ {s : List ℕ} {to : ℕ} (place : In s to) {cells : List ℕ} {slot : 
             }
 
 -- its ending
-module _ {s : List ℕ} {start to : ℕ} {cells : List ℕ} {slot : Slot} {m : Modes} {mode : Mode} {after : List ℕ} {mark made own : ℕ} (known : TraitsAt s start to cells slot m mode after mark made own)
+module _ {s : List ℕ} {start to : ℕ} {cells : List ℕ} {slot : Slot} {mode : Mode} {after : List ℕ} {mark made own : ℕ} (known : TraitsAt s start to cells slot mode after mark made own)
     (a : Ending) (says : ended a ≡ endedOf s (ending (drop mark s))) where
-  pub ending-refused : {why : Refusal} {at : ℕ} → a ≡ Ending.Refused why at → {inside : Nesting} {r : Opening} → r ≡ Refused why at → Holds s start to cells slot m mode inside r after
+  pub ending-refused : {why : Refusal} {at : ℕ} → a ≡ Ending.Refused why at → {inside : Nesting} {r : Opening} → r ≡ Refused why at → Holds s start to cells slot mode inside r after
   ending-refused {why} {at} g {inside} {r} q =
       opens-passed _ _ _ _ _ _ r after (λ e. 0) (λ e. 0) (markedBy (known .it) mode) (λ n left. refl) (ending (drop mark s)) (endPart a) why at (end-passed s a (ending (drop mark s)) says) (ap endPart g) q (known .finds)
 
-  pub marker-read : (e : Ends) {form last : ℕ} → a ≡ endAs e last → form ≡ formIn mode e → {inside : Nesting} {r : Opening} → r ≡ Opened form to last made own inside → Holds s start to cells slot m mode inside r after
+  pub marker-read : (e : Ends) {form last : ℕ} → a ≡ endAs e last → form ≡ formIn mode e → {inside : Nesting} {r : Opening} → r ≡ Opened form to last made own inside → Holds s start to cells slot mode inside r after
   marker-read e {form} {last} g u {inside} {r} q =
       let at = end-found s mark (known .inside) a says e last g in
       opens-read _ _ _ _ _ _ r after (record { mode = mode; opened = record { marker = known .it; ends = e } }) form to last made own inside q (at .1) (known .finds ∙ ap (markedBy (known .it) mode) (at .0))
@@ -226,14 +225,14 @@ module _ {s : List ℕ} {at to : ℕ} (place : In s to) (ahead : at < to) {cells
     unfolding admitted
     unlisted e {r} q = opens-fault deeper s (at + 1) cells slot named r cells Unlisted (at + 1) q (omega (arith, place .inside)) (rw (d, admitted, ← e, drop-drop 1 at s))
 
-    by-mode : (mode : Mode) → 0 < blockForm mode → mode ≡ modeOf m (part s (at + 1) to) → named ≡ heldOf m mode (slot .room - slot .next) (drop (at + 1) s) (part s (at + 1) to) (drop to s)
+    by-mode : (mode : Mode) → 0 < blockForm mode → mode ≡ modeOf m (part s (at + 1) to) → named ≡ heldOf mode (slot .room - slot .next) (drop (at + 1) s) (part s (at + 1) to) (drop to s)
     unfolding admitted
     by-mode Children f e = rw (d, admitted, ← e, drop-drop 1 at s)
     by-mode Content f e = rw (d, admitted, ← e, drop-drop 1 at s)
     by-mode Absent f e = absurd (omega arith)
 
     pub listed : (mode : Mode) → 0 < blockForm mode → mode ≡ modeOf m (part s (at + 1) to) → {r : Opening} {after : List ℕ}
-        → Opens (suc (inside .left)) s (at + 1) cells slot (heldOf m mode (slot .room - slot .next) (drop (at + 1) s) (part s (at + 1) to) (drop to s)) r after → Names r after
+        → Opens (suc (inside .left)) s (at + 1) cells slot (heldOf mode (slot .room - slot .next) (drop (at + 1) s) (part s (at + 1) to) (drop to s)) r after → Names r after
     listed mode f e h = rw (by-mode mode f e, d) h
 
 -- ---- "<" and the name, and the whole marker behind them

@@ -15,7 +15,7 @@ use Rattle.paper.specs.Modes.{Modes}
 use Rattle.paper.specs.Tree.{Blank, Body, done, blankLine, element}
 use Rattle.paper.specs.Grammar.{annotationsOnto, bodyOnto}
 use Rattle.paper.specs.Entries.{Entry, annotationEntries, conceptEntry, insideEntries, conceptSize, bodySize, bodyCount, bodyEntries}
-use Rattle.paper.specs.Reading.{lineRest, isBlankLine, isTab, tabsOnly, bodyOf, boundsOf}
+use Rattle.paper.specs.Reading.{lineRest, isBlankLine, isTab, tabsOnly, bodyOf, bounds}
 use Rattle.paper.proofs.Lines.{only-reads}
 use Rattle.paper.proofs.Sizes.{body-size}
 use Rattle.modes.specs.Table.{modesOf}
@@ -117,10 +117,10 @@ module _ {m : Modes} {deeper : ℕ} {s : List ℕ} {at : ℕ} {cells : List ℕ}
 abbrev Rest : Modes → ℕ → List ℕ → Slot → List ℕ → ℕ → ℕ → ℕ → Part → List ℕ → Type 0
 Rest m deeper s slot cells i made own r after =
     Makes (λ b. made + bodySize b) (λ b. own + bodyCount b) (bodyEntries (slot .parent) (slot .next + made) i) s cells (slot .next + made)
-    (bodyOf (boundsOf m) deeper (slot .room - (slot .next + made)) (drop i s)) r after
+    (bodyOf m bounds deeper (slot .room - (slot .next + made)) (drop i s)) r after
 
 abbrev All : Modes → ℕ → List ℕ → ℕ → List ℕ → Slot → Part → List ℕ → Type 0
-All m deeper s at cells slot r after = Makes bodySize bodyCount (bodyEntries (slot .parent) (slot .next) at) s cells (slot .next) (bodyOf (boundsOf m) deeper (slot .room - slot .next) (drop at s)) r after
+All m deeper s at cells slot r after = Makes bodySize bodyCount (bodyEntries (slot .parent) (slot .next) at) s cells (slot .next) (bodyOf m bounds deeper (slot .room - slot .next) (drop at s)) r after
 
 -- what the turns so far leave
 pub record Pieces (m : Modes) (deeper : ℕ) (s : List ℕ) (at : ℕ) (lent : List ℕ) (slot : Slot) (cells : List ℕ) (i made own : ℕ) : Type 0 where
@@ -139,7 +139,7 @@ pieces-begin m deeper s at cells slot h f = record {
   fewer = omega arith;
   held = refl;
   goes-on = λ r after k.
-      makes-same (λ b. 0 + bodySize b) (λ b. 0 + bodyCount b) bodySize bodyCount (bodyEntries (slot .parent) (slot .next) at) s cells (slot .next) (bodyOf (boundsOf m) deeper (slot .room - slot .next) (drop at s)) r after
+      makes-same (λ b. 0 + bodySize b) (λ b. 0 + bodyCount b) bodySize bodyCount (bodyEntries (slot .parent) (slot .next) at) s cells (slot .next) (bodyOf m bounds deeper (slot .room - slot .next) (drop at s)) r after
       (λ b. zero-add (bodySize b)) (λ b. zero-add (bodyCount b)) (rw (add-zero (slot .next)) at k);
 }
 
@@ -149,7 +149,7 @@ module _ {m : Modes} {deeper : ℕ} {s : List ℕ} {at : ℕ} {lent : List ℕ} 
   left = slot .room - (slot .next + made)
 
   abbrev reading : Found Body
-  reading = bodyOf (boundsOf m) deeper left (drop i s)
+  reading = bodyOf m bounds deeper left (drop i s)
 
   pub pieces-over : not o ≡ false → All m deeper s at lent slot (Read i made own) cells
   unfolding conceptSize bodyCount insideEntries
@@ -208,9 +208,9 @@ module _ {m : Modes} {deeper : ℕ} {s : List ℕ} {at : ℕ} {lent : List ℕ} 
               goes-on = λ other cells′ k.
                   so-far .goes-on other cells′
                   (makes-behind (joined (piece .it)) (λ b. made + bodySize b) (λ b. own + bodyCount b) (bodyEntries (slot .parent) start i) (bodyEntries (slot .parent) (start + length first) end) first s cells after start
-                  (bodyOf (boundsOf m) deeper (left - bodySize (piece .it)) (drop end s)) reading other cells′
+                  (bodyOf m bounds deeper (left - bodySize (piece .it)) (drop end s)) reading other cells′
                   (by-piece ∙ ap (λ (x : Found Body). andThen x (onward m deeper left)) (piece .finds))
                   entered (found-one .laid (piece .it) (drop end s) (piece .finds))
-                  (makes-same (λ b. made + more + bodySize b) (λ b. own + mine + bodyCount b) _ _ (bodyEntries (slot .parent) (start + length first) end) s after (start + length first) (bodyOf (boundsOf m) deeper (left - bodySize (piece .it)) (drop end s)) other cells′
+                  (makes-same (λ b. made + more + bodySize b) (λ b. own + mine + bodyCount b) _ _ (bodyEntries (slot .parent) (start + length first) end) s after (start + length first) (bodyOf m bounds deeper (left - bodySize (piece .it)) (drop end s)) other cells′
                   (λ b. omega (arith, joined-size (piece .it) b, piece .many)) (λ b. omega (arith, joined-count (piece .it) b, piece .owned)) (rw (number, less) at k)));
             }

@@ -18,7 +18,7 @@ use Rattle.paper.specs.Limits.{sheetLimit, conceptLimit}
 use Rattle.paper.specs.Tree.{Blank, Sheet}
 use Rattle.paper.specs.Grammar.{blanksOnto}
 use Rattle.paper.specs.Entries.{noParent, sheetSize, entries, filled, allCells}
-use Rattle.paper.specs.Reading.{blankLines, isTab, tabsOnly, annotations, conceptOf, lastBlanks, sheetTree, roomOf, sheetOf, Reading, reading, boundsOf}
+use Rattle.paper.specs.Reading.{blankLines, isTab, tabsOnly, annotations, conceptOf, lastBlanks, sheetTree, roomOf, sheetOf, Reading, reading, bounds}
 use Rattle.paper.proofs.Told.{number-positive}
 use Rattle.paper.proofs.Tests.{split}
 use Rattle.paper.proofs.Finds.{Finds, Reads as ReadsIn, then-then, then-alike}
@@ -106,7 +106,7 @@ module _ (before : List Blank) (a : Annotated) where
 
 module _ (m : Modes) (s cells : List ℕ) where
   abbrev tree : Found Sheet
-  tree = sheetTree (boundsOf m) conceptLimit (roomOf (length cells)) s
+  tree = sheetTree m bounds conceptLimit (roomOf (length cells)) s
 
   abbrev Grows : Part → List ℕ → Type 0
   Grows r after = Makes sheetSize rootCount entries s cells 0 tree r after
@@ -123,7 +123,7 @@ module _ (m : Modes) (s cells : List ℕ) where
   by-blanks =
       then-alike (blankLines s) _ _ (λ before first. then-alike (tabsOnly first) _ _ (λ tabs mark.
       then-alike (annotations (roomOf (length cells)) first) _ _ (λ notes line.
-      sym (then-then (conceptOf (boundsOf m) conceptLimit (roomOf (length cells) - length notes) (lengthIn isTab line) (behind isTab line)) (λ c left. found (record { notes = notes; tabs = lengthIn isTab line; concept = c }) left) (ended before)))
+      sym (then-then (conceptOf m bounds conceptLimit (roomOf (length cells) - length notes) (lengthIn isTab line) (behind isTab line)) (λ c left. found (record { notes = notes; tabs = lengthIn isTab line; concept = c }) left) (ended before)))
       ∙ sym (then-then (annotations (roomOf (length cells)) first) _ (ended before))))
 
   -- the root is due at a place, behind blank lines
@@ -203,7 +203,7 @@ module _ (m : Modes) (s cells : List ℕ) where
 
     pub tree-read : (last some mine : ℕ) → r ≡ Read last some mine → Grows (Read last made own) after
     tree-read last some mine q =
-        let t = found-at (λ t. 0) (λ t. 0) s r (λ t left. ReadSheet (boundsOf m) conceptLimit (roomOf (length cells)) s t left) 0 tree last some mine rests (sheet-reads (boundsOf m) conceptLimit (roomOf (length cells)) s) (omega arith) q in
+        let t = found-at (λ t. 0) (λ t. 0) s r (λ t left. ReadSheet m bounds conceptLimit (roomOf (length cells)) s t left) 0 tree last some mine rests (sheet-reads m bounds conceptLimit (roomOf (length cells)) s) (omega arith) q in
         let of = ended-rooted (root .before) (root .root) (drop end s) (t .it) (drop last s) (sym (root .same) ∙ t .finds) in
         makes-read sheetSize rootCount entries s cells 0 tree (Read last made own) after (t .it) last made own refl (t .inside) (t .finds) (root .size ∙ sym (of .size)) (root .count ∙ sym (of .count))
         (root .laid ∙ ap (lay cells 0) (sym (of .are)))
@@ -224,12 +224,12 @@ finds-fits : (m : Modes) (room : ℕ) (s : List ℕ) → Finds (λ t left. lengt
 unfolding sheetOf
 finds-fits m room s = split (ltb sheetLimit (length s)) (λ e. rw (e, sheetOf) tt) (λ e. rw (e, sheetOf) (by-bytes (sheetBytes s)))
   where
-    by-tree : (x : Found Sheet) → ReadsIn s (λ t left. ReadSheet (boundsOf m) conceptLimit room s t left) x → Finds (λ t left. length (entries t) ≤ room) x
+    by-tree : (x : Found Sheet) → ReadsIn s (λ t left. ReadSheet m bounds conceptLimit room s t left) x → Finds (λ t left. length (entries t) ≤ room) x
     by-tree (found t left) h = omega (arith, h .1 .fits, entries-size t)
     by-tree (fault n left) h = tt
 
-    by-bytes : (x : Found (List ℕ)) → Finds (λ t left. length (entries t) ≤ room) (andThen x (λ vs left. sheetTree (boundsOf m) conceptLimit room s))
-    by-bytes (found vs left) = by-tree (sheetTree (boundsOf m) conceptLimit room s) (sheet-reads (boundsOf m) conceptLimit room s)
+    by-bytes : (x : Found (List ℕ)) → Finds (λ t left. length (entries t) ≤ room) (andThen x (λ vs left. sheetTree m bounds conceptLimit room s))
+    by-bytes (found vs left) = by-tree (sheetTree m bounds conceptLimit room s) (sheet-reads m bounds conceptLimit room s)
     by-bytes (fault n left) = tt
 
 module _ (m : Modes) (s cells : List ℕ) where
@@ -277,7 +277,7 @@ module _ (m : Modes) (s cells : List ℕ) where
         -- nothing is left behind a sheet: it ends at its length
         pub sheet-read : (end made own : ℕ) → r ≡ Read end made own → Reads s cells sheet (accepted end made) after
         sheet-read end made own q =
-            let t = found-at sheetSize rootCount s r (λ t left. ReadSheet (boundsOf m) conceptLimit (roomOf (length cells)) s t left) 0 (tree m s cells) end made own (g .says) (sheet-reads (boundsOf m) conceptLimit (roomOf (length cells)) s) (omega arith) q in
+            let t = found-at sheetSize rootCount s r (λ t left. ReadSheet m bounds conceptLimit (roomOf (length cells)) s t left) 0 (tree m s cells) end made own (g .says) (sheet-reads m bounds conceptLimit (roomOf (length cells)) s) (omega arith) q in
             let l : end ≡ length s = omega (arith, ap length (t .holds .over), length-drop end s, t .inside) in
             let n : made ≡ length (entries (t .it)) = sym (t .many) ∙ sym (entries-size (t .it)) in
             record { says = ap₂ accepted l n ∙ ap (toldOf s) (sym (t .finds) ∙ sym by-tree); laid = λ a left k. g .laid a left (sym by-tree ∙ k) }

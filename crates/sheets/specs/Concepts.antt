@@ -13,7 +13,7 @@ use Rattle.paper.specs.Limits.{sheetLimit}
 use Rattle.paper.specs.Tree.{Annotation, Marker, Concept, selfClosed, children, content, Body, done, blankLine, element}
 use Rattle.paper.specs.Grammar.{blankOnto, annotationsOnto}
 use Rattle.paper.specs.Entries.{Entry, annotationEntries, conceptSize, conceptEntry, insideEntries, bodySize, bodyCount, bodyEntries}
-use Rattle.paper.specs.Reading.{isBlankLine, isTab, tabsOnly, lineRest, annotations, contentOf, conceptOf, blockOf, boundsOf}
+use Rattle.paper.specs.Reading.{isBlankLine, isTab, tabsOnly, lineRest, annotations, contentOf, conceptOf, blockOf, bounds}
 use Rattle.modes.specs.Table.{Valid}
 use Rattle.entries.specs.Laid.{lay, Fits}
 use Rattle.entries.specs.declared.Slot.{Slot}
@@ -54,7 +54,7 @@ unfoldable pub insideOf : ℕ → Modes → ℕ → ℕ → ℕ → Marker → L
 insideOf form m deeper room tabs k s =
     elim (eqb form 1) [
       | true ↦ found (selfClosed k) s
-      | false ↦ elim (eqb form 2) [ true ↦ blockOf (boundsOf m) deeper room k s | false ↦ contentOf tabs room k s ]
+      | false ↦ elim (eqb form 2) [ true ↦ blockOf m bounds deeper room k s | false ↦ contentOf tabs room k s ]
     ]
 
 -- how many entries follow those of a Concept's traits, and how many of them name it as parent
@@ -84,7 +84,7 @@ pub record Annotated : Type 0 where
 unfoldable pub annotatedOf : Modes → ℕ → ℕ → List ℕ → Found Annotated
 annotatedOf m deeper room s =
     andThen (annotations room s) (λ notes line.
-    andThen (conceptOf (boundsOf m) deeper (room - length notes) (lengthIn isTab line) (behind isTab line)) (λ c left.
+    andThen (conceptOf m bounds deeper (room - length notes) (lengthIn isTab line) (behind isTab line)) (λ c left.
     found (record { notes = notes; tabs = lengthIn isTab line; concept = c }) left))
 
 abbrev pub annotatedSize : Annotated → ℕ

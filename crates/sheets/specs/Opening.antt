@@ -12,7 +12,7 @@ use Rattle.paper.specs.Names.{isConceptName}
 use Rattle.paper.specs.Modes.{Modes}
 use Rattle.paper.specs.Tree.{Ending, block, self}
 use Rattle.paper.specs.Entries.{Entry, traitsSize, traitEntries}
-use Rattle.paper.specs.Reading.{due, name, makes, admitted, Opened as Marker, opened, boundsOf}
+use Rattle.paper.specs.Reading.{due, name, makes, admitted, Opened as Marker, opened, bounds}
 use Rattle.entries.specs.declared.Slot.{Slot}
 use Rattle.values.specs.declared.nesting.Nesting.{Nesting}
 use Rattle.lines.specs.Parts.{Makes}
@@ -30,16 +30,16 @@ abbrev pub headOf : List ℕ → Found (List ℕ)
 headOf s = andThen (due (byte "<") s) (λ b named. name isConceptName named)
 
 -- traits and ending behind a name w that is admitted in this mode
-abbrev pub restOf : Modes → ℕ → List ℕ → Mode → List ℕ → Found Marked
-restOf m room w mode left = andThen (opened (boundsOf m) (room - 1) w left) (λ o end. found (record { mode = mode; opened = o }) end)
+abbrev pub restOf : ℕ → List ℕ → Mode → List ℕ → Found Marked
+restOf room w mode left = andThen (opened bounds (room - 1) w left) (λ o end. found (record { mode = mode; opened = o }) end)
 
 -- the same where the room is still to be judged; `named` is the list from the name on
-abbrev pub heldOf : Modes → Mode → ℕ → List ℕ → List ℕ → List ℕ → Found Marked
-heldOf m mode room named w left = andThen (makes room named mode left) (restOf m room w)
+abbrev pub heldOf : Mode → ℕ → List ℕ → List ℕ → List ℕ → Found Marked
+heldOf mode room named w left = andThen (makes room named mode left) (restOf room w)
 
 -- the same where all of nesting, table and room are; s is the list from the "<" on
 abbrev pub namedOf : Modes → ℕ → ℕ → List ℕ → List ℕ → List ℕ → Found Marked
-namedOf m deeper room s w left = andThen (admitted (boundsOf m) deeper room s (drop 1 s) w left) (restOf m room w)
+namedOf m deeper room s w left = andThen (admitted m deeper room s (drop 1 s) w left) (restOf room w)
 
 -- the whole marker
 abbrev pub markedOf : Modes → ℕ → ℕ → List ℕ → Found Marked

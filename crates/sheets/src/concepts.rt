@@ -27,7 +27,7 @@ ghost use lib.ListN.{length, drop};
 ghost use Rattle.paper.specs.Bytes.{bytes, behind, startsWith};
 ghost use Rattle.paper.specs.Tree.{Marker};
 ghost use Rattle.paper.specs.Entries.{conceptSize, bodySize, bodyCount, bodyEntries};
-ghost use Rattle.paper.specs.Reading.{isTab, conceptOf, blockOf, bodyOf, boundsOf};
+ghost use Rattle.paper.specs.Reading.{isTab, conceptOf, blockOf, bodyOf, bounds};
 ghost use Rattle.modes.specs.Table.{modesOf};
 ghost use Rattle.lines.specs.Parts.{Makes, part};
 ghost use Rattle.sheets.specs.Concepts.{Stands, wholeConcept, insideOf, insideSize, insideCount, bodyOfConcept, annotatedOf, annotatedSize, annotatedCount, annotatedEntries, pieceOf, endedBy, cellsEnded, Ends};
@@ -43,7 +43,7 @@ fn read_concept(
     slot: Slot,
 ) -> Part
     requires { ⌜ Stands (now table) (now s) at (now cells) slot ⌝ }
-    ensures { λ r. ⌜ Makes conceptSize (λ c. 1) (wholeConcept (slot .parent) (slot .next) at tabs) (now (s .entry)) (now (cells .entry)) (slot .next) (conceptOf (boundsOf (modesOf (now (table .entry)))) (nesting .left) (slot .room - slot .next) tabs (drop at (now (s .entry)))) r (now (cells .exit)) ⌝ }
+    ensures { λ r. ⌜ Makes conceptSize (λ c. 1) (wholeConcept (slot .parent) (slot .next) at tabs) (now (s .entry)) (now (cells .entry)) (slot .next) (conceptOf (modesOf (now (table .entry))) bounds (nesting .left) (slot .room - slot .next) tabs (drop at (now (s .entry)))) r (now (cells .exit)) ⌝ }
 {
     match read_opening(table, s, at, nesting, cells, slot) {
         Opening::Refused { refusal, place } => refused(refusal, place),
@@ -141,7 +141,7 @@ fn read_block(
     slot: Slot,
 ) -> Part
     requires { ⌜ Stands (now table) (now s) at (now cells) slot × (from ≤ to) × (to ≤ length (now s)) ⌝ }
-    ensures { λ r. ⌜ ((k : Marker) (tabs : ℕ) → k .name ≡ part (now (s .entry)) from to → Makes insideSize insideCount (bodyOfConcept (slot .parent) (slot .next) tabs at) (now (s .entry)) (now (cells .entry)) (slot .next) (blockOf (boundsOf (modesOf (now (table .entry)))) (nesting .left) (slot .room - slot .next) k (drop at (now (s .entry)))) r (now (cells .exit))) ⌝ }
+    ensures { λ r. ⌜ ((k : Marker) (tabs : ℕ) → k .name ≡ part (now (s .entry)) from to → Makes insideSize insideCount (bodyOfConcept (slot .parent) (slot .next) tabs at) (now (s .entry)) (now (cells .entry)) (slot .next) (blockOf (modesOf (now (table .entry))) bounds (nesting .left) (slot .room - slot .next) k (drop at (now (s .entry)))) r (now (cells .exit))) ⌝ }
 {
     let rest = line_rest(s, at);
     let Part::Read {
@@ -183,7 +183,7 @@ fn read_children(
     slot: Slot,
 ) -> Part
     requires { ⌜ Stands (now table) (now s) at (now cells) slot ⌝ }
-    ensures { λ r. ⌜ Makes bodySize bodyCount (bodyEntries (slot .parent) (slot .next) at) (now (s .entry)) (now (cells .entry)) (slot .next) (bodyOf (boundsOf (modesOf (now (table .entry)))) (nesting .left) (slot .room - slot .next) (drop at (now (s .entry)))) r (now (cells .exit)) ⌝ }
+    ensures { λ r. ⌜ Makes bodySize bodyCount (bodyEntries (slot .parent) (slot .next) at) (now (s .entry)) (now (cells .entry)) (slot .next) (bodyOf (modesOf (now (table .entry))) bounds (nesting .left) (slot .room - slot .next) (drop at (now (s .entry)))) r (now (cells .exit)) ⌝ }
 {
     let mut i = at;
     let mut made = 0;

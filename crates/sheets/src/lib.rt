@@ -26,7 +26,7 @@ ghost use lib.ListN.{length, drop};
 ghost use Rattle.paper.specs.Answer.{told};
 ghost use Rattle.paper.specs.Limits.{sheetLimit, conceptLimit};
 ghost use Rattle.paper.specs.Entries.{sheetSize, entries};
-ghost use Rattle.paper.specs.Reading.{sheetTree, sheetOf, reading, roomOf, boundsOf};
+ghost use Rattle.paper.specs.Reading.{sheetTree, sheetOf, reading, roomOf, bounds};
 ghost use Rattle.paper.specs.View.{viewed, viewAnswer};
 ghost use Rattle.modes.specs.Table.{Valid, modesOf};
 ghost use Rattle.lines.specs.Parts.{seen, passed, Makes};
@@ -77,7 +77,7 @@ pub fn read_under(table: &[u8], sheet: &[u8], cells: &mut [u32]) -> Answer
 // Reads the root with its annotations and the blank lines around them, and enters it from the first cell on.
 fn read_tree(table: &[u8], s: &[u8], cells: &mut [u32]) -> Part
     requires { ⌜ Valid (now table) × (length (now s) ≤ sheetLimit) ⌝ }
-    ensures { λ r. ⌜ Makes sheetSize rootCount entries (now (s .entry)) (now (cells .entry)) 0 (sheetTree (boundsOf (modesOf (now (table .entry)))) conceptLimit (roomOf (length (now (cells .entry)))) (now (s .entry))) r (now (cells .exit)) ⌝ }
+    ensures { λ r. ⌜ Makes sheetSize rootCount entries (now (s .entry)) (now (cells .entry)) 0 (sheetTree (modesOf (now (table .entry))) bounds conceptLimit (roomOf (length (now (cells .entry)))) (now (s .entry))) r (now (cells .exit)) ⌝ }
 {
     let blanks = blank_lines(s, 0);
     let Part::Read {

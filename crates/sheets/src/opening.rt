@@ -19,7 +19,6 @@ ghost use mathlib.Core.Path.{_≡_};
 ghost use Prim.Native.Nat.{suc, _+_, _-_, _≤_, _<_};
 ghost use lib.ListN.{length, drop};
 ghost use Rattle.paper.specs.declared.Mode.{Mode};
-ghost use Rattle.paper.specs.Modes.{Modes};
 ghost use Rattle.modes.specs.Table.{Valid, modesOf};
 ghost use Rattle.entries.specs.Laid.{Fits};
 ghost use Rattle.lines.specs.Parts.{seen, passed, In, part};
@@ -123,7 +122,7 @@ fn read_marker(
     slot: Slot,
 ) -> Opening
     requires { ⌜ In (now s) to × (start ≤ to) × Fits (now cells) slot ⌝ }
-    ensures { λ r. ⌜ ((m : Modes) (mode : Mode) → block ≡ blockForm mode → Opens (suc (inside .left)) (now (s .entry)) start (now (cells .entry)) slot (heldOf m mode (slot .room - slot .next) (drop start (now (s .entry))) (part (now (s .entry)) start to) (drop to (now (s .entry)))) r (now (cells .exit))) ⌝ }
+    ensures { λ r. ⌜ ((mode : Mode) → block ≡ blockForm mode → Opens (suc (inside .left)) (now (s .entry)) start (now (cells .entry)) slot (heldOf mode (slot .room - slot .next) (drop start (now (s .entry))) (part (now (s .entry)) start to) (drop to (now (s .entry)))) r (now (cells .exit))) ⌝ }
 {
     if slot.is_full() {
         return unopened(Refusal::NoEntryLeft, start);

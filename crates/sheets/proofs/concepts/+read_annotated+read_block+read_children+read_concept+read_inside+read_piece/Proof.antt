@@ -4,7 +4,6 @@ use mathlib.Core.Path.{ap, _∙_}
 use native.Mathlib.Omega.{arith}
 use lib.ListN.{length}
 use borrow.Author.Needs.{needs}
-use Rattle.paper.specs.Reading.{boundsOf}
 use Rattle.modes.specs.Table.{modesOf}
 use Rattle.entries.specs.declared.Slot.{Slot}
 use Rattle.entries.proofs.Slots.{fits-after}
@@ -234,7 +233,7 @@ block-rest t c = rest-at _ _ _ _ _ _ (c .before .before .before .before .before 
 block-body : (t : ℕ) (c : read-block-lts.After-body (read-block-calls t) (read-block-at t) read-block.Post)
     → let start = c .before .before .before .before .before .before .before .before .before .before .before .before .before .args in
     let read = c .body .given .0 in
-    block.BodyAt (start .s .now) (start .at) (start .cells .now) (start .slot) (boundsOf (modesOf (start .table .now))) (start .nesting .left) (c .before .before .before .before .read-children .last .1 .1 .1 .1 .0) (read .0) (read .1 .0) (read .1 .1 .0)
+    block.BodyAt (start .s .now) (start .at) (start .cells .now) (start .slot) (modesOf (start .table .now)) (start .nesting .left) (c .before .before .before .before .read-children .last .1 .1 .1 .1 .0) (read .0) (read .1 .0) (read .1 .1 .0)
 block-body t c = block.body-at (c .before .before .before .before .before .before .before .before .before .before .before .before .before .pre .1 .0) _ _ (block-rest t (c .before .before .before .before .before .before .before)) (c .before .before .before .before .read-children .ensures) (c .body .given .1)
 
 read-block-line-rest-requires : (t : ℕ) → read-block-lts.Need-line-rest-requires (read-block-calls t) (read-block-at t) read-block.Post

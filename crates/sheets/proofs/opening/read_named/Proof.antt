@@ -81,7 +81,7 @@ returns-3 c =
     let at-enum-told = c .before .before .before .before in
     let at-inside = at-enum-told .before .before .before .before .before in
     let top = at-inside .before .before .before .before .before .before in
-    listed (top .pre .1) (top .pre .2) (top .pre .3) _ _ (fewer at-inside) Children (omega arith) (sym (at-enum-told .enum-told3 .given .1) ∙ at-enum-told .before .before .mode-of .ensures) (c .before .before .read-marker .ensures _ Children refl)
+    listed (top .pre .1) (top .pre .2) (top .pre .3) _ _ (fewer at-inside) Children (omega arith) (sym (at-enum-told .enum-told3 .given .1) ∙ at-enum-told .before .before .mode-of .ensures) (c .before .before .read-marker .ensures Children refl)
 
 same-length-2 : tie.Need-same-length-2
 same-length-2 c = search needs
@@ -91,7 +91,7 @@ returns-4 c =
     let at-enum-told = c .before .before .before .before in
     let at-inside = at-enum-told .before .before .before .before .before in
     let top = at-inside .before .before .before .before .before .before in
-    listed (top .pre .1) (top .pre .2) (top .pre .3) _ _ (fewer at-inside) Content (omega arith) (sym (at-enum-told .enum-told4 .given .1) ∙ at-enum-told .before .before .mode-of .ensures) (c .before .before .read-marker2 .ensures _ Content refl)
+    listed (top .pre .1) (top .pre .2) (top .pre .3) _ _ (fewer at-inside) Content (omega arith) (sym (at-enum-told .enum-told4 .given .1) ∙ at-enum-told .before .before .mode-of .ensures) (c .before .before .read-marker2 .ensures Content refl)
 
 pub read-named-spec : {M : Type 1} → statement M
 read-named-spec =
