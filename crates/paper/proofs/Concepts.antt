@@ -15,7 +15,7 @@ use Rattle.paper.specs.Names.{nameRule, isName}
 use Rattle.paper.specs.Modes.{Modes, modeOf}
 use Rattle.paper.specs.Values.{valueOnto}
 use Rattle.paper.specs.Tree.{LineEnd, LF, CRLF, Blank, Annotation, Trait, Marker, Ending, block, self, Concept, selfClosed, children, content, Body, done, blankLine, element}
-use Rattle.paper.specs.Grammar.{lineEndOnto, blankOnto, tabsOnto, annotationsOnto, traitsOnto, markerOnto, endingOnto, closingOnto, linesOnto, conceptOnto, bodyOnto, blankRule, annotationRule, traitRule, markerRule, opensBlock, inMode, lineRule, conceptRule, bodyRule}
+use Rattle.paper.specs.Grammar.{lineEndOnto, blankOnto, tabsOnto, annotationsOnto, traitsOnto, markerOnto, endingOnto, closingOnto, linesOnto, conceptOnto, bodyOnto, blankRule, annotationRule, traitRule, markerRule, opensBlock, lineRule, conceptRule, bodyRule, inMode, conceptModes, bodyModes}
 use Rattle.paper.specs.Limits.{traitFits, markerFits, conceptFits, bodyFits, conceptDepth, bodyDepth}
 use Rattle.paper.specs.Entries.{traitsSize, conceptSize, bodySize}
 use Rattle.paper.specs.Reading.{Bounds, lineRest, isBlankLine, isTab, tabsOnly, name, due, makes, annotations, Opened, opened, admitted, closing, atLineEnd, contentOf, concept, childrenOf, body}
@@ -32,14 +32,16 @@ use Rattle.paper.proofs.Markers.{trait-parts, name-white, ReadOpened, o
 
 pub record ReadConcept (m : Modes) (by : Bounds) (deeper room tabs : ℕ) (s : List ℕ) (c : Concept) (left : List ℕ) : Type 0 where
   pub covers : s ≡ conceptOnto tabs c left
-  pub rule : conceptRule m c ≡ true
+  pub rule : conceptRule c ≡ true
+  pub modes : conceptModes m c ≡ true
   pub within : conceptFits (by .names) (by .lists) c ≡ true
   pub depth : conceptDepth c ≤ deeper
   pub fits : conceptSize c ≤ room
 
 pub record ReadBody (m : Modes) (by : Bounds) (deeper room : ℕ) (s : List ℕ) (b : Body) (left : List ℕ) : Type 0 where
   pub covers : s ≡ bodyOnto b left
-  pub rule : bodyRule m b ≡ true
+  pub rule : bodyRule b ≡ true
+  pub modes : bodyModes m b ≡ true
   pub within : bodyFits (by .names) (by .lists) b ≡ true
   pub depth : bodyDepth b ≤ deeper
   pub fits : bodySize b ≤ room
@@ -51,7 +53,8 @@ pub record ReadChildren (m : Modes) (by : Bounds) (deeper room : ℕ) (k : Marke
   pub is-children : c ≡ children k rest inner back
   pub covers : s ≡ blankOnto rest (bodyOnto inner (tabsOnto back (closingOnto (k .name) left)))
   pub rest-rule : blankRule rest ≡ true
-  pub rule : bodyRule m inner ≡ true
+  pub rule : bodyRule inner ≡ true
+  pub modes : bodyModes m inner ≡ true
   pub within : bodyFits (by .names) (by .lists) inner ≡ true
   pub depth : bodyDepth inner ≤ deeper
   pub fits : bodySize inner ≤ room
@@ -111,28 +114,30 @@ module _ (m : Modes) (by : Bounds) (deeper room tabs : ℕ) (s : List ℕ) (mode
   Inside = room - 1 - traitsSize (o .marker .traits)
 
   self-made : o .ends ≡ self → ReadConcept m by deeper room tabs s (selfClosed (o .marker)) left
-  unfolding conceptOnto conceptRule conceptFits conceptDepth conceptSize
-  self-made e = record { covers = p .covers ∙ rw e; rule = and (p .rule) (is-not (p .listed)); within = p .within; depth = p .deep; fits = p .fits }
+  unfolding conceptOnto conceptRule conceptModes conceptFits conceptDepth conceptSize
+  self-made e = record { covers = p .covers ∙ rw e; rule = p .rule; modes = is-not (p .listed); within = p .within; depth = p .deep; fits = p .fits }
 
   children-made : o .ends ≡ block → mode ≡ Children → (c : Concept) (end : List ℕ) → ReadChildren m by (deeper - 1) Inside (o .marker) left c end → ReadConcept m by deeper room tabs s c end
-  unfolding conceptOnto conceptRule conceptFits conceptDepth conceptSize inMode
+  unfolding conceptOnto conceptRule conceptModes conceptFits conceptDepth conceptSize inMode
   children-made e is c end r =
       let i : inMode Children m (o .marker .name) ≡ true = rw (p .is-mode, inMode, is) in
       rw (r .is-children) (record {
         covers = p .covers ∙ rw e (ap (λ (l : List ℕ). markerOnto (o .marker) (endingOnto block l)) (r .covers));
-        rule = and (and (and (and (p .rule) (p .opens e)) i) (r .rest-rule)) (r .rule);
+        rule = and (and (and (p .rule) (p .opens e)) (r .rest-rule)) (r .rule);
+        modes = and i (r .modes);
         within = and (p .within) (r .within);
         depth = omega (arith, r .depth, p .deep);
         fits = omega (arith, r .fits, p .fits);
       })
 
   content-made : o .ends ≡ block → mode ≡ Content → (c : Concept) (end : List ℕ) → ReadContent tabs Inside (o .marker) left c end → ReadConcept m by deeper room tabs s c end
-  unfolding conceptOnto conceptRule conceptFits conceptDepth conceptSize inMode
+  unfolding conceptOnto conceptRule conceptModes conceptFits conceptDepth conceptSize inMode
   content-made e is c end r =
       let i : inMode Content m (o .marker .name) ≡ true = rw (p .is-mode, inMode, is) in
       rw (r .is-content) (record {
         covers = p .covers ∙ rw e (ap (λ (l : List ℕ). markerOnto (o .marker) (endingOnto block l)) (r .covers));
-        rule = and (and (and (and (p .rule) (p .opens e)) i) (r .rest-rule)) (r .lines-rule);
+        rule = and (and (and (p .rule) (p .opens e)) (r .rest-rule)) (r .lines-rule);
+        modes = i;
         within = p .within;
         depth = p .deep;
         fits = omega (arith, r .fits, p .fits);
@@ -157,24 +162,25 @@ module _ (m : Modes) (by : Bounds) (deeper room tabs : ℕ) (s : List ℕ) (mode
 element-made : (m : Modes) (by : Bounds) (deeper room : ℕ) (s : List ℕ) (notes : List Annotation) (line : List ℕ) (c : Concept) (left : List ℕ) (rest : Blank) (next : List ℕ) (inner : Body) (end : List ℕ)
     → ReadAnnotations room s notes line → ReadConcept m by deeper (room - length notes) (lengthIn isTab line) (behind isTab line) c left → ReadBlank left rest next
     → ReadBody m by deeper (room - length notes - conceptSize c) next inner end → ReadBody m by deeper room s (element notes (lengthIn isTab line) c rest inner) end
-unfolding bodyOnto bodyRule bodyFits bodyDepth bodySize
+unfolding bodyOnto bodyRule bodyModes bodyFits bodyDepth bodySize
 element-made m by deeper room s notes line c left rest next inner end a k r q =
     let tabs = lengthIn isTab line in
     record {
       covers = a .covers ∙ ap (annotationsOnto notes) (tabs-covers line ∙ ap (tabsOnto tabs) (k .covers ∙ ap (conceptOnto tabs c) (r .covers ∙ ap (blankOnto rest) (q .covers))));
       rule = and (and (and (a .rule) (k .rule)) (r .rule)) (q .rule);
+      modes = and (k .modes) (q .modes);
       within = and (k .within) (q .within);
       depth = omega (arith, k .depth, q .depth);
       fits = omega (arith, a .fits, k .fits, q .fits);
     }
 
 blank-made : (m : Modes) (by : Bounds) (deeper room : ℕ) (s : List ℕ) (b : Blank) (next : List ℕ) (inner : Body) (end : List ℕ) → ReadBlank s b next → ReadBody m by deeper room next inner end → ReadBody m by deeper room s (blankLine b inner) end
-unfolding bodyOnto bodyRule bodyFits bodyDepth bodySize
-blank-made m by deeper room s b next inner end r q = record { covers = r .covers ∙ ap (blankOnto b) (q .covers); rule = and (r .rule) (q .rule); within = q .within; depth = q .depth; fits = q .fits }
+unfolding bodyOnto bodyRule bodyModes bodyFits bodyDepth bodySize
+blank-made m by deeper room s b next inner end r q = record { covers = r .covers ∙ ap (blankOnto b) (q .covers); rule = and (r .rule) (q .rule); modes = q .modes; within = q .within; depth = q .depth; fits = q .fits }
 
 done-made : (m : Modes) (by : Bounds) (deeper room : ℕ) (s : List ℕ) → ReadBody m by deeper room s done s
-unfolding bodyOnto bodyRule bodyFits bodyDepth bodySize
-done-made m by deeper room s = record { covers = refl; rule = refl; within = refl; depth = omega arith; fits = omega arith }
+unfolding bodyOnto bodyRule bodyModes bodyFits bodyDepth bodySize
+done-made m by deeper room s = record { covers = refl; rule = refl; modes = refl; within = refl; depth = omega arith; fits = omega arith }
 
 mutual
   unfolding concept
@@ -206,6 +212,7 @@ mutual
           covers = r .covers ∙ ap (blankOnto rest) (q .covers ∙ ap (bodyOnto inner) (tabs-covers mid ∙ ap (tabsOnto (lengthIn isTab mid)) e));
           rest-rule = r .rule;
           rule = q .rule;
+          modes = q .modes;
           within = q .within;
           depth = q .depth;
           fits = q .fits;
@@ -360,28 +367,36 @@ name-front k rest r = let n = rule-name isUpper (k .name) (both (nameRule isUppe
     go [] a l = absurd (omega arith)
     go (b ∷ w) a l = rw (apart isNameByte b (byte "/") (all-head isNameByte b w a .0) refl, startsWith)
 
+-- four rules that hold together
+pub element-parts : (a b c d : Bool) → a && b && c && d ≡ true → (a ≡ true) × (b ≡ true) × (c ≡ true) × (d ≡ true)
+element-parts a b c d r =
+    let p = both (a && b && c) d r in
+    let q = both (a && b) c (p .0) in
+    let s = both a b (q .0) in
+    (s .0, s .1, q .1, p .1)
+
 -- a Concept begins with "<" and its name
-concept-front : (m : Modes) (tabs : ℕ) (c : Concept) (next : List ℕ) → conceptRule m c ≡ true → (rest : List ℕ) × (conceptOnto tabs c next ≡ byte "<" ∷ rest) × (startsWith (bytes "/") rest ≡ false)
-unfolding conceptOnto conceptRule markerRule
-concept-front m tabs (selfClosed k) next r = (_, refl, name-front k _ (both _ (not (inMode Absent m (k .name))) r .0))
-concept-front m tabs (children k rest inner back) next r = (_, refl, name-front k _ (both _ (opensBlock k) (both _ (inMode Children m (k .name)) (both _ (blankRule rest) (both _ (bodyRule m inner) r .0) .0) .0) .0))
-concept-front m tabs (content k rest lines) next r = (_, refl, name-front k _ (both _ (opensBlock k) (both _ (inMode Content m (k .name)) (both _ (blankRule rest) (both _ (all lineRule lines) r .0) .0) .0) .0))
+concept-front : (tabs : ℕ) (c : Concept) (next : List ℕ) → conceptRule c ≡ true → (rest : List ℕ) × (conceptOnto tabs c next ≡ byte "<" ∷ rest) × (startsWith (bytes "/") rest ≡ false)
+unfolding conceptOnto conceptRule
+concept-front tabs (selfClosed k) next r = (_, refl, name-front k _ r)
+concept-front tabs (children k rest inner back) next r = (_, refl, name-front k _ (element-parts (markerRule k) (opensBlock k) (blankRule rest) (bodyRule inner) r .0))
+concept-front tabs (content k rest lines) next r = (_, refl, name-front k _ (element-parts (markerRule k) (opensBlock k) (blankRule rest) (all lineRule lines) r .0))
 
 -- the line that an element begins: tabs, and then "[" or "<" and a name
-pub begins-element : (m : Modes) (notes : List Annotation) (tabs : ℕ) (c : Concept) (next : List ℕ) → conceptRule m c ≡ true → Begins (annotationsOnto notes (tabsOnto tabs (conceptOnto tabs c next)))
+pub begins-element : (notes : List Annotation) (tabs : ℕ) (c : Concept) (next : List ℕ) → conceptRule c ≡ true → Begins (annotationsOnto notes (tabsOnto tabs (conceptOnto tabs c next)))
 unfolding annotationsOnto isBlank isLineEnd startsWith
-begins-element m [] tabs c next r =
-    let f = concept-front m tabs c next r in
+begins-element [] tabs c next r =
+    let f = concept-front tabs c next r in
     rw (f .1) (record { tabs = tabs; mark = byte "<" ∷ f .0; filled = marked-line tabs (byte "<") (f .0) refl refl; only = only-complete tabs (byte "<") (f .0) refl; open-mark = f .2 })
-begins-element m (a ∷ notes) tabs c next r =
+begins-element (a ∷ notes) tabs c next r =
     let rest = a .text ++ (byte "]" ∷ blankOnto (a .rest) (annotationsOnto notes (tabsOnto tabs (conceptOnto tabs c next)))) in
     record { tabs = a .tabs; mark = byte "[" ∷ rest; filled = marked-line (a .tabs) (byte "[") rest refl refl; only = only-complete (a .tabs) (byte "[") rest refl; open-mark = refl }
 
 -- the line of a Concept: its tabs, what stands behind them, and that no annotation does
-module _ (m : Modes) (tabs : ℕ) (c : Concept) (next : List ℕ) (r : conceptRule m c ≡ true) where
+module _ (tabs : ℕ) (c : Concept) (next : List ℕ) (r : conceptRule c ≡ true) where
   no-tab : startsIn isTab (conceptOnto tabs c next) ≡ false
   unfolding startsIn
-  no-tab = let f = concept-front m tabs c next r in ap (startsIn isTab) (f .1)
+  no-tab = let f = concept-front tabs c next r in ap (startsIn isTab) (f .1)
 
   pub concept-tabs : lengthIn isTab (tabsOnto tabs (conceptOnto tabs c next)) ≡ tabs
   concept-tabs = tabs-length tabs (conceptOnto tabs c next) no-tab
@@ -391,7 +406,7 @@ module _ (m : Modes) (tabs : ℕ) (c : Concept) (next : List ℕ) (r : conceptRu
 
   pub no-annotation : startsWith (bytes "[") (behind isTab (tabsOnto tabs (conceptOnto tabs c next))) ≡ false
   unfolding startsWith
-  no-annotation = let f = concept-front m tabs c next r in ap (startsWith (bytes "[")) (concept-behind ∙ f .1)
+  no-annotation = let f = concept-front tabs c next r in ap (startsWith (bytes "[")) (concept-behind ∙ f .1)
 
 -- what stands behind an element's Concept is the end of its line
 pub blank-ends : (b : Blank) (next : List ℕ) → blankRule b ≡ true → atLineEnd (behind isBlank (blankOnto b next)) ≡ true
@@ -413,65 +428,51 @@ closing-tab w next = refl
 pub no-self : {X : Type 0} → self ≡ block → X
 no-self e = let z : _≡_ {A = ℕ} 0 1 = cc in absurd (omega arith)
 
-pub block-parts : (a b c d e : Bool) → a && b && c && d && e ≡ true → (a ≡ true) × (b ≡ true) × (c ≡ true) × (d ≡ true) × (e ≡ true)
-block-parts a b c d e r =
-    let p = both (a && b && c && d) e r in
-    let q = both (a && b && c) d (p .0) in
-    let s = both (a && b) c (q .0) in
-    let t = both a b (s .0) in
-    (t .0, t .1, s .1, q .1, p .1)
-
-pub element-parts : (a b c d : Bool) → a && b && c && d ≡ true → (a ≡ true) × (b ≡ true) × (c ≡ true) × (d ≡ true)
-element-parts a b c d r =
-    let p = both (a && b && c) d r in
-    let q = both (a && b) c (p .0) in
-    let s = both a b (q .0) in
-    (s .0, s .1, q .1, p .1)
-
 mutual
-  unfolding conceptOnto conceptRule conceptFits conceptDepth conceptSize concept
+  unfolding conceptOnto conceptRule conceptModes conceptFits conceptDepth conceptSize concept
 
-  pub concept-complete : (m : Modes) (by : Bounds) (c : Concept) (fuel deeper room tabs : ℕ) (next : List ℕ) → conceptRule m c ≡ true → conceptFits (by .names) (by .lists) c ≡ true → conceptDepth c ≤ deeper → conceptSize c ≤ room → atLineEnd (behind isBlank next) ≡ true → length (conceptOnto tabs c next) < fuel → concept m by fuel deeper room tabs (conceptOnto tabs c next) ≡ found c next
-  concept-complete m by c zero deeper room tabs next r w d f e l = absurd (omega arith)
-  concept-complete m by (selfClosed k) (suc fuel) deeper room tabs next r w d f e l =
-      let p = both (markerRule k) (not (inMode Absent m (k .name))) r in
+  pub concept-complete : (m : Modes) (by : Bounds) (c : Concept) (fuel deeper room tabs : ℕ) (next : List ℕ) → conceptRule c ≡ true → conceptModes m c ≡ true → conceptFits (by .names) (by .lists) c ≡ true → conceptDepth c ≤ deeper → conceptSize c ≤ room → atLineEnd (behind isBlank next) ≡ true → length (conceptOnto tabs c next) < fuel → concept m by fuel deeper room tabs (conceptOnto tabs c next) ≡ found c next
+  concept-complete m by c zero deeper room tabs next r o w d f e l = absurd (omega arith)
+  concept-complete m by (selfClosed k) (suc fuel) deeper room tabs next r o w d f e l =
       marker-complete m by fuel deeper room tabs k self (modeOf m (k .name)) next
-      (record { rule = p .0; within = w; opens = λ q. no-self q; is-mode = refl; listed = not-true (inMode Absent m (k .name)) (p .1); deep = d; fits = f })
-  concept-complete m by (content k rest lines) (suc fuel) deeper room tabs next r w d f e l =
-      let p = block-parts (markerRule k) (opensBlock k) (inMode Content m (k .name)) (blankRule rest) (all lineRule lines) r in
-      let i = mode-is Content m (k .name) (p .2) in
+      (record { rule = r; within = w; opens = λ q. no-self q; is-mode = refl; listed = not-true (inMode Absent m (k .name)) o; deep = d; fits = f })
+  concept-complete m by (content k rest lines) (suc fuel) deeper room tabs next r o w d f e l =
+      let p = element-parts (markerRule k) (opensBlock k) (blankRule rest) (all lineRule lines) r in
+      let i = mode-is Content m (k .name) o in
       marker-complete m by fuel deeper room tabs k block Content (blankOnto rest (linesOnto tabs lines (tabsOnto tabs (closingOnto (k .name) next))))
       (record { rule = p .0; within = w; opens = λ q. p .1; is-mode = i; listed = listed-content m (k .name) i; deep = d; fits = omega arith })
-      ∙ content-complete tabs (room - 1 - traitsSize (k .traits)) k rest lines next (p .3) (p .4) (omega arith) e
-  concept-complete m by (children k rest inner back) (suc fuel) deeper room tabs next r w d f e l =
-      let p = block-parts (markerRule k) (opensBlock k) (inMode Children m (k .name)) (blankRule rest) (bodyRule m inner) r in
-      let i = mode-is Children m (k .name) (p .2) in
+      ∙ content-complete tabs (room - 1 - traitsSize (k .traits)) k rest lines next (p .2) (p .3) (omega arith) e
+  concept-complete m by (children k rest inner back) (suc fuel) deeper room tabs next r o w d f e l =
+      let p = element-parts (markerRule k) (opensBlock k) (blankRule rest) (bodyRule inner) r in
+      let v = both (inMode Children m (k .name)) (bodyModes m inner) o in
+      let i = mode-is Children m (k .name) (v .0) in
       let q = both (markerFits (by .names) (by .lists) k) (bodyFits (by .names) (by .lists) inner) w in
       let behind = blankOnto rest (bodyOnto inner (tabsOnto back (closingOnto (k .name) next))) in
       marker-complete m by fuel deeper room tabs k block Children behind
       (record { rule = p .0; within = q .0; opens = λ q. p .1; is-mode = i; listed = listed-children m (k .name) i; deep = omega arith; fits = omega arith })
-      ∙ children-complete m by k rest inner back fuel (deeper - 1) (room - 1 - traitsSize (k .traits)) next (rule-name isUpper (k .name) (marker-name k (p .0))) (p .3) (p .4) (q .1) (omega arith) (omega arith)
+      ∙ children-complete m by k rest inner back fuel (deeper - 1) (room - 1 - traitsSize (k .traits)) next (rule-name isUpper (k .name) (marker-name k (p .0))) (p .2) (p .3) (v .1) (q .1) (omega arith) (omega arith)
       (omega (arith, marker-wide k block behind, rule-name isUpper (k .name) (marker-name k (p .0)) .1))
 
-  pub children-complete : (m : Modes) (by : Bounds) (k : Marker) (rest : Blank) (inner : Body) (back fuel deeper room : ℕ) (next : List ℕ) → (all isNameByte (k .name) ≡ true) × (0 < length (k .name)) → blankRule rest ≡ true → bodyRule m inner ≡ true → bodyFits (by .names) (by .lists) inner ≡ true → bodyDepth inner ≤ deeper → bodySize inner ≤ room → length (blankOnto rest (bodyOnto inner (tabsOnto back (closingOnto (k .name) next)))) + 2 < fuel → childrenOf m by fuel deeper room k (blankOnto rest (bodyOnto inner (tabsOnto back (closingOnto (k .name) next)))) ≡ found (children k rest inner back) next
-  children-complete m by k rest inner back zero deeper room next n b r w d f l = absurd (omega arith)
-  children-complete m by k rest inner back (suc fuel) deeper room next n b r w d f l =
+  pub children-complete : (m : Modes) (by : Bounds) (k : Marker) (rest : Blank) (inner : Body) (back fuel deeper room : ℕ) (next : List ℕ) → (all isNameByte (k .name) ≡ true) × (0 < length (k .name)) → blankRule rest ≡ true → bodyRule inner ≡ true → bodyModes m inner ≡ true → bodyFits (by .names) (by .lists) inner ≡ true → bodyDepth inner ≤ deeper → bodySize inner ≤ room → length (blankOnto rest (bodyOnto inner (tabsOnto back (closingOnto (k .name) next)))) + 2 < fuel → childrenOf m by fuel deeper room k (blankOnto rest (bodyOnto inner (tabsOnto back (closingOnto (k .name) next)))) ≡ found (children k rest inner back) next
+  children-complete m by k rest inner back zero deeper room next n b r o w d f l = absurd (omega arith)
+  children-complete m by k rest inner back (suc fuel) deeper room next n b r o w d f l =
       let end = tabsOnto back (closingOnto (k .name) next) in
       let mark = closingOnto (k .name) next in
-      rw (rest-complete rest (bodyOnto inner end) b, body-complete m by inner fuel deeper room end r w d f (ends-body back (k .name) next) (omega (arith, blank-wide rest (bodyOnto inner end))), tabs-behind back mark (closing-tab (k .name) next), closing-complete (k .name) next (n .0) (n .1), tabs-length back mark (closing-tab (k .name) next))
+      rw (rest-complete rest (bodyOnto inner end) b, body-complete m by inner fuel deeper room end r o w d f (ends-body back (k .name) next) (omega (arith, blank-wide rest (bodyOnto inner end))), tabs-behind back mark (closing-tab (k .name) next), closing-complete (k .name) next (n .0) (n .1), tabs-length back mark (closing-tab (k .name) next))
 
-  pub body-complete : (m : Modes) (by : Bounds) (b : Body) (fuel deeper room : ℕ) (next : List ℕ) → bodyRule m b ≡ true → bodyFits (by .names) (by .lists) b ≡ true → bodyDepth b ≤ deeper → bodySize b ≤ room → EndsBody next → length (bodyOnto b next) + 1 < fuel → body m by fuel deeper room (bodyOnto b next) ≡ found b next
-  body-complete m by b zero deeper room next r w d f e l = absurd (omega arith)
-  body-complete m by done (suc fuel) deeper room next r w d f e l = rw (e .filled, body, e .only) (when-true (startsWith (bytes "</") (e .mark)) _ _ (e .closes))
-  body-complete m by (blankLine b inner) (suc fuel) deeper room next r w d f e l =
-      let p = both (blankRule b) (bodyRule m inner) r in
-      rw (blank-line b (bodyOnto inner next) (p .0), body, rest-complete b (bodyOnto inner next) (p .0), body-complete m by inner fuel deeper room next (p .1) w d f e (omega (arith, blank-wide b (bodyOnto inner next))))
-  body-complete m by (element notes tabs c rest inner) (suc fuel) deeper room next r w d f e l =
-      let p = element-parts (all annotationRule notes) (conceptRule m c) (blankRule rest) (bodyRule m inner) r in
+  pub body-complete : (m : Modes) (by : Bounds) (b : Body) (fuel deeper room : ℕ) (next : List ℕ) → bodyRule b ≡ true → bodyModes m b ≡ true → bodyFits (by .names) (by .lists) b ≡ true → bodyDepth b ≤ deeper → bodySize b ≤ room → EndsBody next → length (bodyOnto b next) + 1 < fuel → body m by fuel deeper room (bodyOnto b next) ≡ found b next
+  body-complete m by b zero deeper room next r o w d f e l = absurd (omega arith)
+  body-complete m by done (suc fuel) deeper room next r o w d f e l = rw (e .filled, body, e .only) (when-true (startsWith (bytes "</") (e .mark)) _ _ (e .closes))
+  body-complete m by (blankLine b inner) (suc fuel) deeper room next r o w d f e l =
+      let p = both (blankRule b) (bodyRule inner) r in
+      rw (blank-line b (bodyOnto inner next) (p .0), body, rest-complete b (bodyOnto inner next) (p .0), body-complete m by inner fuel deeper room next (p .1) o w d f e (omega (arith, blank-wide b (bodyOnto inner next))))
+  body-complete m by (element notes tabs c rest inner) (suc fuel) deeper room next r o w d f e l =
+      let p = element-parts (all annotationRule notes) (conceptRule c) (blankRule rest) (bodyRule inner) r in
+      let v = both (conceptModes m c) (bodyModes m inner) o in
       let q = both (conceptFits (by .names) (by .lists) c) (bodyFits (by .names) (by .lists) inner) w in
       let behindIt = blankOnto rest (bodyOnto inner next) in
       let line = tabsOnto tabs (conceptOnto tabs c behindIt) in
-      let g = begins-element m notes tabs c behindIt (p .1) in
+      let g = begins-element notes tabs c behindIt (p .1) in
       rw (g .filled, body, g .only)
       (when-false (startsWith (bytes "</") (g .mark)) _ _ (g .open-mark)
-      ∙ rw (annotations-complete room notes line (p .0) (omega arith) (no-annotation m tabs c behindIt (p .1)), concept-behind m tabs c behindIt (p .1), concept-tabs m tabs c behindIt (p .1), concept-complete m by c fuel deeper (room - length notes) tabs behindIt (p .1) (q .0) (omega arith) (omega arith) (blank-ends rest (bodyOnto inner next) (p .2)) (omega (arith, tabs-wide tabs (conceptOnto tabs c behindIt), annotations-wide notes line)), rest-complete rest (bodyOnto inner next) (p .2), body-complete m by inner fuel deeper (room - length notes - conceptSize c) next (p .3) (q .1) (omega arith) (omega arith) e (omega (arith, tabs-wide tabs (conceptOnto tabs c behindIt), annotations-wide notes line, concept-wide c tabs behindIt, blank-wide rest (bodyOnto inner next)))))
+      ∙ rw (annotations-complete room notes line (p .0) (omega arith) (no-annotation tabs c behindIt (p .1)), concept-behind tabs c behindIt (p .1), concept-tabs tabs c behindIt (p .1), concept-complete m by c fuel deeper (room - length notes) tabs behindIt (p .1) (v .0) (q .0) (omega arith) (omega arith) (blank-ends rest (bodyOnto inner next) (p .2)) (omega (arith, tabs-wide tabs (conceptOnto tabs c behindIt), annotations-wide notes line)), rest-complete rest (bodyOnto inner next) (p .2), body-complete m by inner fuel deeper (room - length notes - conceptSize c) next (p .3) (v .1) (q .1) (omega arith) (omega arith) e (omega (arith, tabs-wide tabs (conceptOnto tabs c behindIt), annotations-wide notes line, concept-wide c tabs behindIt, blank-wide rest (bodyOnto inner next)))))

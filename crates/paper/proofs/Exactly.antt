@@ -60,7 +60,7 @@ sheet-answers m room s =
         let r = h .1 in (
           r .over,
           record {
-            derives = record { scalars = vs; bytes = e; covers = sym (r .covers); rule = r .rule };
+            derives = record { scalars = vs; bytes = e; covers = sym (r .covers); rule = r .rule; modes = r .modes };
             limits = and (and (le-leb (length s) sheetLimit l) (r .within)) (le-leb _ conceptLimit (r .depth));
             fit = omega (arith, entries-size t, r .fits);
           },
@@ -78,7 +78,7 @@ sheet-accepts m room s t a =
     let q = both (leb (length s) sheetLimit) (conceptFits nameLimit listLimit (t .root)) (p .0) in
     rw (le-ltb sheetLimit (length s) (leb-true (length s) sheetLimit (q .0)), sheetOf, d .bytes)
     (ap (sheetTree m bounds conceptLimit room) (sym (d .covers))
-    ∙ sheet-complete m bounds conceptLimit room t (record { rule = d .rule; within = q .1; depth = leb-true (conceptDepth (t .root)) conceptLimit (p .1); fits = omega (arith, a .fit, entries-size t) }))
+    ∙ sheet-complete m bounds conceptLimit room t (record { rule = d .rule; modes = d .modes; within = q .1; depth = leb-true (conceptDepth (t .root)) conceptLimit (p .1); fits = omega (arith, a .fit, entries-size t) }))
 
 -- ---- accepted exactly
 

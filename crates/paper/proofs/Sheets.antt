@@ -9,7 +9,7 @@ use Rattle.paper.specs.Found.{found}
 use Rattle.paper.specs.Bytes.{isBlank, isLineEnd, all, startsIn, lengthIn, front, behind}
 use Rattle.paper.specs.Modes.{Modes}
 use Rattle.paper.specs.Tree.{Blank, Sheet}
-use Rattle.paper.specs.Grammar.{blanksOnto, tabsOnto, annotationsOnto, conceptOnto, sheetOnto, blankRule, annotationRule, conceptRule, sheetRule}
+use Rattle.paper.specs.Grammar.{blanksOnto, tabsOnto, annotationsOnto, conceptOnto, sheetOnto, blankRule, annotationRule, conceptRule, sheetRule, sheetModes}
 use Rattle.paper.specs.Limits.{conceptFits, conceptDepth}
 use Rattle.paper.specs.Entries.{sheetSize}
 use Rattle.paper.specs.Reading.{Bounds, blankLines, isTab, tabsOnly, annotations, conceptOf, atLineEnd, lastBlanks, sheetTree}
@@ -22,7 +22,8 @@ use Rattle.paper.proofs.Concepts.{ReadConcept, concept-reads, concept-c
 pub record ReadSheet (m : Modes) (by : Bounds) (deeper room : ℕ) (s : List ℕ) (t : Sheet) (left : List ℕ) : Type 0 where
   pub over : left ≡ []
   pub covers : s ≡ sheetOnto t []
-  pub rule : sheetRule m t ≡ true
+  pub rule : sheetRule t ≡ true
+  pub modes : sheetModes m t ≡ true
   pub within : conceptFits (by .names) (by .lists) (t .root) ≡ true
   pub depth : conceptDepth (t .root) ≤ deeper
   pub fits : sheetSize t ≤ room
@@ -56,6 +57,7 @@ sheet-reads m by deeper room s =
         over = e .0;
         covers = b .covers ∙ ap (blanksOnto before) (a .covers ∙ ap (annotationsOnto notes) (tabs-covers line ∙ ap (tabsOnto (lengthIn isTab line)) (k .covers ∙ ap (conceptOnto (lengthIn isTab line) c) (q .covers ∙ ap (blanksOnto after) (e .1)))));
         rule = and (and (and (and (b .rule) (a .rule)) (k .rule)) (q .rule)) (e .2);
+        modes = k .modes;
         within = k .within;
         depth = k .depth;
         fits = omega (arith, a .fits, k .fits);
@@ -69,7 +71,8 @@ ends-root [] last r e = ap atLineEnd (behind-of isBlank last [] e refl)
 ends-root (b ∷ after) last r e = blank-ends b (blanksOnto after (last ++ [])) (all-head blankRule b after r .0)
 
 pub record Keeps (m : Modes) (by : Bounds) (deeper room : ℕ) (t : Sheet) : Type 0 where
-  pub rule : sheetRule m t ≡ true
+  pub rule : sheetRule t ≡ true
+  pub modes : sheetModes m t ≡ true
   pub within : conceptFits (by .names) (by .lists) (t .root) ≡ true
   pub depth : conceptDepth (t .root) ≤ deeper
   pub fits : sheetSize t ≤ room
@@ -78,10 +81,10 @@ pub sheet-complete : (m : Modes) (by : Bounds) (deeper room : ℕ) (t : Sheet) �
 unfolding sheetTree sheetOnto sheetRule sheetSize startsIn
 sheet-complete m by deeper room t k =
     let p = both _ (all isBlank (t .last)) (k .rule) in
-    let q = element-parts (all blankRule (t .before)) (all annotationRule (t .annotations)) (conceptRule m (t .root)) (all blankRule (t .after)) (p .0) in
+    let q = element-parts (all blankRule (t .before)) (all annotationRule (t .annotations)) (conceptRule (t .root)) (all blankRule (t .after)) (p .0) in
     let end = t .last ++ [] in
     let left = blanksOnto (t .after) end in
     let line = tabsOnto (t .tabs) (conceptOnto (t .tabs) (t .root) left) in
     let first = annotationsOnto (t .annotations) line in
-    let g = begins-element m (t .annotations) (t .tabs) (t .root) left (q .2) in
-    rw (blanks-complete (t .before) first (q .0) (g .filled), g .only, annotations-complete room (t .annotations) line (q .1) (omega (arith, k .fits)) (no-annotation m (t .tabs) (t .root) left (q .2)), concept-behind m (t .tabs) (t .root) left (q .2), concept-tabs m (t .tabs) (t .root) left (q .2), concept-complete m by (t .root) (length (conceptOnto (t .tabs) (t .root) left) + 1) deeper (room - length (t .annotations)) (t .tabs) left (q .2) (k .within) (k .depth) (omega (arith, k .fits)) (ends-root (t .after) (t .last) (q .3) (p .1)) (omega arith), blanks-complete (t .after) end (q .3) (ap (startsIn isLineEnd) (behind-of isBlank (t .last) [] (p .1) refl)), last-complete (t .last) (p .1))
+    let g = begins-element (t .annotations) (t .tabs) (t .root) left (q .2) in
+    rw (blanks-complete (t .before) first (q .0) (g .filled), g .only, annotations-complete room (t .annotations) line (q .1) (omega (arith, k .fits)) (no-annotation (t .tabs) (t .root) left (q .2)), concept-behind (t .tabs) (t .root) left (q .2), concept-tabs (t .tabs) (t .root) left (q .2), concept-complete m by (t .root) (length (conceptOnto (t .tabs) (t .root) left) + 1) deeper (room - length (t .annotations)) (t .tabs) left (q .2) (k .modes) (k .within) (k .depth) (omega (arith, k .fits)) (ends-root (t .after) (t .last) (q .3) (p .1)) (omega arith), blanks-complete (t .after) end (q .3) (ap (startsIn isLineEnd) (behind-of isBlank (t .last) [] (p .1) refl)), last-complete (t .last) (p .1))
