@@ -17,6 +17,7 @@ pub mod Markers
 pub mod Widths
 pub mod Concepts
 pub mod Fuel
+pub mod Room
 pub mod Sheets
 pub mod Sizes
 pub mod Before
