@@ -1,6 +1,6 @@
 -- A 9 is at the end of the input: whatever gives it has run to the end, and no reading runs out of fuel. Assumes nothing.
 -- Document 01, "Refusal numbers", 9.
-use Prim.Native.Nat.{ℕ, zero, suc, _+_, _-_, _<_}
+use Prim.Native.Nat.{ℕ, zero, suc, _+_, _-_, _<_, _≤_}
 use mathlib.Core.Path.{_≡_, refl, sym, ap, _∙_}
 use mathlib.Core.Bool.{Bool, true, false}
 use mathlib.Core.List.{List, [], _∷_, map}
@@ -8,23 +8,23 @@ use native.Mathlib.Omega.{arith}
 use lib.ListN.{length, drop, take, getD}
 use lib.Dec.{leb, eqb}
 use borrow.Author.Tests.{eqb-true, eq-eqb}
-use Rattle.paper.specs.declared.Mode.{Mode}
-use Rattle.paper.specs.declared.Mode.the-variants.{Children, Content, Absent}
+use Rattle.paper.specs.declared.Mode.the-variants.{Children, Absent}
 use Rattle.paper.specs.Found.{Found, found, fault, andThen, Turn, more, over, stop, turnOf, goOn, many, manyOf}
 use Rattle.paper.specs.Bytes.{byte, bytes, isUpper, isLower, isHex, isBlank, isLineEnd, isWhite, lengthIn, front, behind, elem, same, startsIn}
 use Rattle.paper.specs.Bytes.{startsWith, lf, cr, space, scalar}
 use Rattle.paper.specs.Names.{run, pastRun, isName}
-use Rattle.paper.specs.Modes.{modeOf}
+use Rattle.paper.specs.Modes.{Modes}
 use Rattle.paper.specs.Values.{is, onward, Piece, four, braces, escaped, Value, More, list, listEnders, comma, pieceRule, wordForm}
-use Rattle.paper.specs.Tree.{Trait, Marker, blank, Ending, block, self, Concept, selfClosed, Body, element, Sheet}
-use Rattle.paper.specs.Grammar.{tabsOnto}
-use Rattle.paper.specs.Entries.{itemEntries, traitSize, traitsSize, conceptSize}
+use Rattle.paper.specs.Tree.{Trait, Marker, blank, Ending, block, self, Concept, selfClosed, done, before, Sheet}
+use Rattle.paper.specs.Grammar.{tabsOnto, inMode}
+use Rattle.paper.specs.Entries.{itemEntries, traitSize, bodySize}
 use Rattle.paper.specs.ReadingValues.{insideOf, itself, judged, fourDigits, bracedDigits, escape, pieceTurn, closeCharacter, characterOf}
 use Rattle.paper.specs.ReadingValues.{backtickTurn, wordLength, wordOf, leafOf, valueOf, moreOf, itemAnd, wholeValue}
 use Rattle.paper.specs.Reading.{Bounds, lineEnd, lineRest, isBlankLine, blankTurn, blankLines, isTab, noSpace, tabsOnly, nameOf, name, due, makes}
 use Rattle.paper.specs.Reading.{textOf, escapeOf, annotation, annotationTurn, annotations}
-use Rattle.paper.specs.Reading.{enters, trait, traitDue, traitTurn, ending, Opened, opened, admitted, closing}
-use Rattle.paper.specs.Reading.{closesLine, textLine, otherLine, lineTurn, contentOf, conceptOf, blockOf, bodyOf, lastBlanks, sheetTree}
+use Rattle.paper.specs.Reading.{enters, trait, traitDue, traitTurn, ending, Opened, opened, admitted, head, opening, closing}
+use Rattle.paper.specs.Reading.{closesLine, textLine, otherLine, lineTurn, contentOf, lastBlanks, sheetTree}
+use Rattle.paper.specs.Reading.{roomIn, insideBy, annotatedBy, pieceBy, isClosing, conceptOf, blockOf, bodyOf, annotatedOf, pieceOf}
 use Rattle.paper.proofs.Tests.{split, true-false}
 use Rattle.paper.proofs.Lists.{byFront, starts-is}
 use Rattle.paper.proofs.Finds.{Tail, tail-length, tail-then, tail-drop, Reads}
@@ -37,9 +37,9 @@ use Rattle.paper.proofs.Leaves.{byFirst, character-closes, character-br
 use Rattle.paper.proofs.Leaves.{leaf-string, leaf-character, leaf-backtick, leaf-word}
 use Rattle.paper.proofs.ReadValues.{ReadValue, value-reads, value-of-deep, value-of-leaf, value-of-empty, value-of-list, more-of-end}
 use Rattle.paper.proofs.ReadValues.{more-of-close, more-of-comma, more-of-other, whole-found, whole-fault}
-use Rattle.paper.proofs.Markers.{trait-shorter, ReadOpened, opened-reads}
-use Rattle.paper.proofs.Concepts.{ReadConcept, concept-reads, Admits, admitted-reads}
-use Rattle.paper.proofs.Fuel.{marker-shorter, behindMarker, concept-of, block-of, body-of-blank, body-of-fault, body-of-closing, body-of-element}
+use Rattle.paper.proofs.Markers.{trait-shorter}
+use Rattle.paper.proofs.Concepts.{Opens, opening-reads, ReadPiece, piece-reads}
+use Rattle.paper.proofs.Fuel.{marker-shorter, concept-of, block-of, body-of}
 
 -- ---- a 9 leaves nothing
 
@@ -350,15 +350,17 @@ opened-ends by room w s =
     then (manyOf traitSize (traitTurn by) room s) (traits-end by room s)
     (λ ts left. then (ending (behind isWhite left)) (ending-ends (behind isWhite left)) (λ e end. finds))
 
-admitted-ends : (by : Bounds) (deeper room : ℕ) (at s w left : List ℕ) → Ends (admitted by deeper room at s w left)
+admitted-ends : (m : Modes) (deeper room : ℕ) (s w left : List ℕ) → Ends (admitted m deeper room s w left)
 unfolding admitted
-admitted-ends by zero room at s w left = other refl
-admitted-ends by (suc deeper) room at s w left = go (modeOf (by .modes) w)
-  where
-    go : (mode : Mode) → Ends {A = Mode} (elim mode [ Children ↦ makes room s Children left | Content ↦ makes room s Content left | Absent ↦ fault 5 s ])
-    go Children = makes-ends room s Children left
-    go Content = makes-ends room s Content left
-    go Absent = other refl
+admitted-ends m zero room s w left = other refl
+admitted-ends m (suc deeper) room s w left =
+    split (inMode Absent m w) (λ e. rw (e, admitted) (other refl)) (λ e. rw (e, admitted) (makes-ends room (drop 1 s) w left))
+
+opening-ends : (m : Modes) (by : Bounds) (deeper room : ℕ) (s : List ℕ) → Ends (opening m by deeper room s)
+opening-ends m by deeper room s =
+    let rule = isName isUpper (by .names) in
+    then (head by s) (then (due (byte "<") s) (due-ends (byte "<") s) (λ b named. name-ends rule named))
+    (λ w left. then (admitted m deeper room s w left) (admitted-ends m deeper room s w left) (λ v start. opened-ends by (room - 1) v start))
 
 closing-ends : (w s : List ℕ) → Ends (closing w s)
 unfolding closing
@@ -402,99 +404,70 @@ content-ends tabs room k s =
 
 -- ---- Concepts
 
--- behind an opening marker, where a children block does
-behind-marker : (by : Bounds) (deeper room tabs : ℕ) (named left : List ℕ) (mode : Mode) (o : Opened)
-    → Ends (blockOf by (deeper - 1) (room - 1 - traitsSize (o .marker .traits)) (o .marker) left) → Ends (behindMarker by deeper room tabs named mode o left)
-behind-marker by deeper room tabs named left mode o h = by-ending (o .ends)
+-- what follows an opening marker, where a children block does
+inside-ends : (m : Modes) (inner : ℕ → ℕ → Marker → List ℕ → Found Concept) (deeper room tabs : ℕ) (o : Opened) (left : List ℕ)
+    → Ends (inner (deeper - 1) (roomIn room o) (o .marker) left) → Ends (insideBy m inner deeper room tabs o left)
+inside-ends m inner deeper room tabs o left h = by-ending (o .ends)
   where
-    inner : Found Concept
-    inner = contentOf tabs (room - 1 - traitsSize (o .marker .traits)) (o .marker) left
-
-    by-mode : (m : Mode) → Ends {A = Concept} (elim m [
-      | Children ↦ blockOf by (deeper - 1) (room - 1 - traitsSize (o .marker .traits)) (o .marker) left
-      | Content ↦ inner
-      | Absent ↦ fault 5 named
-    ])
-    by-mode Children = h
-    by-mode Content = content-ends tabs (room - 1 - traitsSize (o .marker .traits)) (o .marker) left
-    by-mode Absent = other refl
-
     by-ending : (e : Ending) → Ends {A = Concept} (elim e [
       | self ↦ found (selfClosed (o .marker)) left
-      | block ↦ elim mode [
-        | Children ↦ blockOf by (deeper - 1) (room - 1 - traitsSize (o .marker .traits)) (o .marker) left
-        | Content ↦ inner
-        | Absent ↦ fault 5 named
+      | block ↦ elim (inMode Children m (o .marker .name)) [
+        | true ↦ inner (deeper - 1) (roomIn room o) (o .marker) left
+        | false ↦ contentOf tabs (roomIn room o) (o .marker) left
       ]
     ])
     by-ending self = finds
-    by-ending block = by-mode mode
+    by-ending block =
+        split (inMode Children m (o .marker .name)) (λ e. rw e h) (λ e. rw e (content-ends tabs (roomIn room o) (o .marker) left))
+
+-- annotations and their Concept, and a piece of a body, where the Concept does
+annotated-ends : (read : ℕ → ℕ → List ℕ → Found Concept) (room : ℕ) (s : List ℕ)
+    → ((room tabs : ℕ) (l : List ℕ) → length l ≤ length s → Ends (read room tabs l)) → Ends (annotatedBy read room s)
+annotated-ends read room s h =
+    then-by s (λ notes line. ReadAnnotations room s notes line) (annotations room s) (annotations-reads room s) (annotations-end room s)
+    (λ notes line t a.
+    let tabs = lengthIn isTab line in
+    let mark = behind isTab line in
+    then (read (room - length notes) tabs mark) (h (room - length notes) tabs mark (tail-length (tail-then t (tail-drop tabs line)))) (λ c left. finds))
+
+piece-ends : (read : ℕ → ℕ → List ℕ → Found Concept) (room : ℕ) (s : List ℕ)
+    → ((room tabs : ℕ) (l : List ℕ) → length l ≤ length s → Ends (read room tabs l)) → Ends (pieceBy read room s)
+piece-ends read room s h =
+    split (isBlankLine s)
+    (λ e. rw (e, pieceBy) (then (lineRest s) (line-rest s) (λ b left. finds)))
+    (λ e. rw (e, pieceBy) (then (tabsOnly s) (tabs-only s)
+    (λ tabs mark. then (annotatedBy read room s) (annotated-ends read room s h) (λ a left. then (lineRest left) (line-rest left) (λ rest end. finds)))))
 
 -- ---- Concepts, by their length
 
--- a body that an element begins, which is read so
-abbrev elementAnd : Bounds → ℕ → ℕ → List ℕ → Found Body
-elementAnd by deeper room s =
-    andThen (annotations room s) (λ notes line. andThen (conceptOf by deeper (room - length notes) (lengthIn isTab line) (behind isTab line)) (λ c left.
-    andThen (lineRest left) (λ rest next. andThen (bodyOf by deeper (room - length notes - conceptSize c) next) (λ inner end.
-    found (element notes (lengthIn isTab line) c rest inner) end))))
-
--- a body that no blank line begins, where one does that an element begins
-marked-ends : (by : Bounds) (deeper room : ℕ) (s : List ℕ) → isBlankLine s ≡ false → Ends (elementAnd by deeper room s) → Ends (bodyOf by deeper room s)
-marked-ends by deeper room s e h = go (tabsOnly s) refl (tabs-only s)
-  where
-    go : (x : Found ℕ) → tabsOnly s ≡ x → Ends x → Ends (bodyOf by deeper room s)
-    go (fault k left) f cut = rw (body-of-fault by deeper room s e 9 [] f) cut
-    go (fault k left) f (other g) = rw (body-of-fault by deeper room s e k left f) (other g)
-    go (found tabs mark) f finds =
-        split (startsWith (bytes "</") mark)
-        (λ c. rw (body-of-closing by deeper room s e tabs mark f c) finds)
-        (λ c. rw (body-of-element by deeper room s e tabs mark f c) h)
-
 mutual
-  concept-ends : (n : ℕ) (by : Bounds) (deeper room tabs : ℕ) (s : List ℕ) → length s < n → Ends (conceptOf by deeper room tabs s)
-  concept-ends zero by deeper room tabs s h = absurd (omega arith)
-  concept-ends (suc n) by deeper room tabs s h =
-      let rule = isName isUpper (by .names) in
-      rw (concept-of by deeper room tabs s)
-      (then-by s (λ b named. s ≡ byte "<" ∷ named) (due (byte "<") s) (due-reads (byte "<") s) (due-ends (byte "<") s)
-      (λ b named t d. then-by named (λ w mid. ReadName rule named w mid) (name rule named) (name-reads rule named) (name-ends rule named)
-      (λ w mid u r. then-by s (λ mode start. Admits by deeper room w mid mode start) (admitted by deeper room s named w mid)
-      (admitted-reads by deeper room s named w mid t (tail-then t u)) (admitted-ends by deeper room s named w mid)
-      (λ mode start v a. then-by start (λ o left. ReadOpened by (room - 1) w start o left) (opened by (room - 1) w start)
-      (opened-reads by (room - 1) w start) (opened-ends by (room - 1) w start)
-      (λ o left x q.
-      let short = marker-shorter by (room - 1) rule deeper room s named w mid start mode o left d r a q in
-      let inner = room - 1 - traitsSize (o .marker .traits) in
-      behind-marker by deeper room tabs named left mode o (block-ends n by (deeper - 1) inner (o .marker) left (omega arith)))))))
+  concept-ends : (n : ℕ) (m : Modes) (by : Bounds) (deeper room tabs : ℕ) (s : List ℕ) → length s < n → Ends (conceptOf m by deeper room tabs s)
+  concept-ends zero m by deeper room tabs s h = absurd (omega arith)
+  concept-ends (suc n) m by deeper room tabs s h =
+      rw (concept-of m by deeper room tabs s)
+      (then-by s (λ o left. Opens m by deeper room s o left) (opening m by deeper room s) (opening-reads m by deeper room s) (opening-ends m by deeper room s)
+      (λ o left t p.
+      let short = marker-shorter m by deeper room s o left p in
+      inside-ends m (blockOf m by) deeper room tabs o left (block-ends n m by (deeper - 1) (roomIn room o) (o .marker) left (omega arith))))
 
-  block-ends : (n : ℕ) (by : Bounds) (deeper room : ℕ) (k : Marker) (s : List ℕ) → length s + 2 < n → Ends (blockOf by deeper room k s)
-  block-ends zero by deeper room k s h = absurd (omega arith)
-  block-ends (suc n) by deeper room k s h =
-      rw (block-of by deeper room k s)
+  block-ends : (n : ℕ) (m : Modes) (by : Bounds) (deeper room : ℕ) (k : Marker) (s : List ℕ) → length s + 2 < n → Ends (blockOf m by deeper room k s)
+  block-ends zero m by deeper room k s h = absurd (omega arith)
+  block-ends (suc n) m by deeper room k s h =
+      rw (block-of m by deeper room k s)
       (then-by s (λ b left. ReadBlank s b left) (lineRest s) (rest-reads s) (line-rest s)
-      (λ rest start t r. then (bodyOf by deeper room start) (body-ends n by deeper room start (omega (arith, r .shorter)))
+      (λ rest start t r. then (bodyOf m by deeper room start) (body-ends n m by deeper room start (omega (arith, r .shorter)))
       (λ inner left. then (closing (k .name) (behind isTab left)) (closing-ends (k .name) (behind isTab left)) (λ b end. finds))))
 
-  body-ends : (n : ℕ) (by : Bounds) (deeper room : ℕ) (s : List ℕ) → length s + 1 < n → Ends (bodyOf by deeper room s)
-  body-ends zero by deeper room s h = absurd (omega arith)
-  body-ends (suc n) by deeper room s h =
-      split (isBlankLine s)
-      (λ e. rw (body-of-blank by deeper room s e)
-      (then-by s (λ b left. ReadBlank s b left) (lineRest s) (rest-reads s) (line-rest s)
-      (λ b next t r. then (bodyOf by deeper room next) (body-ends n by deeper room next (omega (arith, r .shorter))) (λ inner end. finds))))
-      (λ e. marked-ends by deeper room s e
-      (then-by s (λ notes line. ReadAnnotations room s notes line) (annotations room s) (annotations-reads room s) (annotations-end room s)
-      (λ notes line t a.
-      let short = tail-length (tail-then t (tail-drop (lengthIn isTab line) line)) in
-      let more = room - length notes in
-      let tabs = lengthIn isTab line in
-      let mark = behind isTab line in
-      then-by mark (λ c left. ReadConcept by deeper more tabs mark c left) (conceptOf by deeper more tabs mark)
-      (concept-reads by (length mark + 1) deeper more tabs mark) (concept-ends n by deeper more tabs mark (omega arith))
-      (λ c left u k. then-by left (λ b next. ReadBlank left b next) (lineRest left) (rest-reads left) (line-rest left)
-      (λ rest next v r. then (bodyOf by deeper (more - conceptSize c) next)
-      (body-ends n by deeper (more - conceptSize c) next (omega (arith, r .shorter, tail-length u, short))) (λ inner end. finds))))))
+  body-ends : (n : ℕ) (m : Modes) (by : Bounds) (deeper room : ℕ) (s : List ℕ) → length s + 1 < n → Ends (bodyOf m by deeper room s)
+  body-ends zero m by deeper room s h = absurd (omega arith)
+  body-ends (suc n) m by deeper room s h =
+      rw (body-of m by deeper room s)
+      (split (isClosing s) (λ e. rw e finds)
+      (λ e. rw e (then-by s (λ p left. ReadPiece m by deeper room s p left) (pieceOf m by deeper room s) (piece-reads m by deeper room s)
+      (piece-ends (conceptOf m by deeper) room s (λ room tabs l k. concept-ends n m by deeper room tabs l (omega arith)))
+      (λ p next t r.
+      let fewer = room - bodySize (before p done) in
+      then (bodyOf m by deeper fewer next) (body-ends n m by deeper fewer next (omega (arith, r .shorter))) (λ inner end. finds)))))
 
 -- ---- a whole sheet
 
@@ -503,20 +476,19 @@ unfolding lastBlanks
 last-ends blanks [] = finds
 last-ends blanks (b ∷ l) = other refl
 
-sheet-ends : (by : Bounds) (deeper room : ℕ) (s : List ℕ) → Ends (sheetTree by deeper room s)
+sheet-ends : (m : Modes) (by : Bounds) (deeper room : ℕ) (s : List ℕ) → Ends (sheetTree m by deeper room s)
 unfolding sheetTree
-sheet-ends by deeper room s =
+sheet-ends m by deeper room s =
     then (blankLines s) (blank-lines s)
     (λ before first. then (tabsOnly first) (tabs-only first)
-    (λ tabs mark. then (annotations room first) (annotations-end room first)
-    (λ notes line. then (conceptOf by deeper (room - length notes) (lengthIn isTab line) (behind isTab line))
-    (concept-ends (length (behind isTab line) + 1) by deeper (room - length notes) (lengthIn isTab line) (behind isTab line) (omega arith))
-    (λ c left. then (blankLines left) (blank-lines left)
-    (λ after rest. then (lastBlanks (front isBlank rest) (behind isBlank rest)) (last-ends _ (behind isBlank rest)) (λ last end. finds))))))
+    (λ tabs mark. then (annotatedOf m by deeper room first)
+    (annotated-ends (conceptOf m by deeper) room first (λ room tabs l k. concept-ends (length l + 1) m by deeper room tabs l (omega arith)))
+    (λ a left. then (blankLines left) (blank-lines left)
+    (λ after rest. then (lastBlanks (front isBlank rest) (behind isBlank rest)) (last-ends _ (behind isBlank rest)) (λ last end. finds)))))
 
 -- a 9 of a sheet leaves nothing
-pub cut-at-end : (by : Bounds) (deeper room : ℕ) (s left : List ℕ) → sheetTree by deeper room s ≡ fault 9 left → left ≡ []
-cut-at-end by deeper room s left e = go (sheetTree by deeper room s) e (sheet-ends by deeper room s)
+pub cut-at-end : (m : Modes) (by : Bounds) (deeper room : ℕ) (s left : List ℕ) → sheetTree m by deeper room s ≡ fault 9 left → left ≡ []
+cut-at-end m by deeper room s left e = go (sheetTree m by deeper room s) e (sheet-ends m by deeper room s)
   where
     go : (x : Found Sheet) → x ≡ fault 9 left → Ends x → left ≡ []
     go (found t rest) e finds = cc

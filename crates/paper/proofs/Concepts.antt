@@ -4,24 +4,24 @@ use mathlib.Core.Path.{_≡_, refl, sym, ap, _∙_}
 use mathlib.Core.Bool.{Bool, true, false, not, _&&_}
 use mathlib.Core.List.{List, [], _∷_, _++_}
 use native.Mathlib.Omega.{arith}
-use lib.ListN.{length}
+use lib.ListN.{length, drop}
 use lib.Dec.{leb}
 use borrow.Author.Tests.{not-true}
 use Rattle.paper.specs.declared.Mode.{Mode}
 use Rattle.paper.specs.declared.Mode.the-variants.{Children, Content, Absent}
-use Rattle.paper.specs.Found.{Found, found, fault}
+use Rattle.paper.specs.Found.{Found, found, andThen}
 use Rattle.paper.specs.Bytes.{byte, bytes, isUpper, isLower, isDigit, isLetter, isNameByte, isBlank, isLineEnd, isWhite, all, startsIn, lengthIn, behind, startsWith}
 use Rattle.paper.specs.Names.{nameRule, isName}
 use Rattle.paper.specs.Modes.{Modes, modeOf}
 use Rattle.paper.specs.Values.{valueOnto}
-use Rattle.paper.specs.Tree.{LineEnd, LF, CRLF, Blank, Annotation, Trait, Marker, Ending, block, self, Concept, selfClosed, children, content, Body, done, blankLine, element}
-use Rattle.paper.specs.Grammar.{lineEndOnto, blankOnto, tabsOnto, annotationsOnto, traitsOnto, markerOnto, endingOnto, closingOnto, linesOnto, conceptOnto, bodyOnto, blankRule, annotationRule, traitRule, markerRule, opensBlock, inMode, lineRule, conceptRule, bodyRule}
+use Rattle.paper.specs.Tree.{LineEnd, LF, CRLF, Blank, Annotation, Trait, Marker, Ending, block, self, Concept, selfClosed, children, content, Body, done, blankLine, element, Annotated, BodyPiece, blankPiece, elementPiece, before}
+use Rattle.paper.specs.Grammar.{lineEndOnto, blankOnto, tabsOnto, annotationsOnto, traitsOnto, markerOnto, endingOnto, closingOnto, linesOnto, conceptOnto, bodyOnto, blankRule, annotationRule, traitRule, markerRule, opensBlock, lineRule, conceptRule, bodyRule, inMode, conceptModes, bodyModes}
 use Rattle.paper.specs.Limits.{traitFits, markerFits, conceptFits, bodyFits, conceptDepth, bodyDepth}
 use Rattle.paper.specs.Entries.{traitsSize, conceptSize, bodySize}
-use Rattle.paper.specs.Reading.{Bounds, lineRest, isBlankLine, isTab, tabsOnly, name, due, makes, annotations, Opened, opened, admitted, closing, atLineEnd, contentOf, concept, childrenOf, body}
+use Rattle.paper.specs.Reading.{Bounds, lineRest, isBlankLine, isTab, tabsOnly, name, due, makes, annotations, Opened, opened, admitted, head, opening, closing, atLineEnd, contentOf, roomIn, insideBy, annotatedBy, pieceBy, isClosing, concept, childrenOf, body, conceptOf, annotatedOf, pieceOf}
 use Rattle.paper.proofs.Tests.{split, true-false, apart, when-true, when-false}
-use Rattle.paper.proofs.Lists.{both, and, is-not, all-head, behind-of}
-use Rattle.paper.proofs.Finds.{Tail, whole, tail-then, tail-drop, Reads, reads-as, reads-on, reads-in}
+use Rattle.paper.proofs.Lists.{both, and, is-not, all-head, behind-of, starts-is}
+use Rattle.paper.proofs.Finds.{Tail, whole, tail-then, tail-drop, Reads, reads-as, reads-on, reads-in, reads-then, reads-map}
 use Rattle.paper.proofs.Lines.{fault-here, ReadBlank, rest-reads, rest-complete, ends-blank, blank-line, tabs-covers, tabs-length, tabs-behind, marked-line, only-reads, only-complete, rule-name, ReadName, name-reads, name-found, due-reads, due-complete, makes-reads, makes-complete}
 use Rattle.paper.proofs.Widths.{append-wide, tabs-wide, blank-wide, annotations-wide, traits-wide, ending-wide, marker-wide, concept-wide}
 use Rattle.paper.proofs.Annotations.{ReadAnnotations, annotations-reads, annotations-complete}
@@ -30,171 +30,309 @@ use Rattle.paper.proofs.Markers.{trait-parts, name-white, ReadOpened, o
 
 -- ---- what reading finds
 
-pub record ReadConcept (by : Bounds) (deeper room tabs : ℕ) (s : List ℕ) (c : Concept) (left : List ℕ) : Type 0 where
+pub record ReadConcept (m : Modes) (by : Bounds) (deeper room tabs : ℕ) (s : List ℕ) (c : Concept) (left : List ℕ) : Type 0 where
   pub covers : s ≡ conceptOnto tabs c left
-  pub rule : conceptRule (by .modes) c ≡ true
+  pub rule : conceptRule c ≡ true
+  pub modes : conceptModes m c ≡ true
   pub within : conceptFits (by .names) (by .lists) c ≡ true
   pub depth : conceptDepth c ≤ deeper
   pub fits : conceptSize c ≤ room
 
-pub record ReadBody (by : Bounds) (deeper room : ℕ) (s : List ℕ) (b : Body) (left : List ℕ) : Type 0 where
+pub record ReadBody (m : Modes) (by : Bounds) (deeper room : ℕ) (s : List ℕ) (b : Body) (left : List ℕ) : Type 0 where
   pub covers : s ≡ bodyOnto b left
-  pub rule : bodyRule (by .modes) b ≡ true
+  pub rule : bodyRule b ≡ true
+  pub modes : bodyModes m b ≡ true
   pub within : bodyFits (by .names) (by .lists) b ≡ true
   pub depth : bodyDepth b ≤ deeper
   pub fits : bodySize b ≤ room
 
-pub record ReadChildren (by : Bounds) (deeper room : ℕ) (k : Marker) (s : List ℕ) (c : Concept) (left : List ℕ) : Type 0 where
+pub record ReadChildren (m : Modes) (by : Bounds) (deeper room : ℕ) (k : Marker) (s : List ℕ) (c : Concept) (left : List ℕ) : Type 0 where
   pub rest : Blank
   pub inner : Body
   pub back : ℕ
   pub is-children : c ≡ children k rest inner back
   pub covers : s ≡ blankOnto rest (bodyOnto inner (tabsOnto back (closingOnto (k .name) left)))
   pub rest-rule : blankRule rest ≡ true
-  pub rule : bodyRule (by .modes) inner ≡ true
+  pub rule : bodyRule inner ≡ true
+  pub modes : bodyModes m inner ≡ true
   pub within : bodyFits (by .names) (by .lists) inner ≡ true
   pub depth : bodyDepth inner ≤ deeper
   pub fits : bodySize inner ≤ room
 
-pub record Admits (by : Bounds) (deeper room : ℕ) (w left : List ℕ) (mode : Mode) (end : List ℕ) : Type 0 where
-  pub is-mode : modeOf (by .modes) w ≡ mode
-  pub listed : inMode Absent (by .modes) w ≡ false
+pub record Admits (m : Modes) (deeper room : ℕ) (w left v end : List ℕ) : Type 0 where
+  pub named : v ≡ w
+  pub listed : inMode Absent m w ≡ false
   pub deep : 0 < deeper
   pub fits : 0 < room
   pub same : end ≡ left
 
-pub admitted-reads : (by : Bounds) (deeper room : ℕ) (at s w left : List ℕ) → Tail at s → Tail at left → Reads at (λ mode end. Admits by deeper room w left mode end) (admitted by deeper room at s w left)
-unfolding admitted inMode
-admitted-reads by zero room at s w left t u = fault-here at 10 (omega arith) (omega arith)
-admitted-reads by (suc deeper) room at s w left t u = go (modeOf (by .modes) w) refl
-  where
-    admits : (mode : Mode) → modeOf (by .modes) w ≡ mode → inMode Absent (by .modes) w ≡ false → Reads at (λ mode end. Admits by (suc deeper) room w left mode end) (makes room s mode left)
-    admits mode e f = reads-as at _ _ (makes room s mode left) (makes-reads at room s mode left t u) (λ m end h. record { is-mode = e ∙ sym (h .1); listed = f; deep = omega arith; fits = h .0; same = h .2 })
+admitted-reads : (m : Modes) (deeper room : ℕ) (s w left : List ℕ) → Tail s left
+    → Reads s (λ v end. Admits m deeper room w left v end) (admitted m deeper room s w left)
+unfolding admitted
+admitted-reads m zero room s w left t = fault-here s 10 (omega arith) (omega arith)
+admitted-reads m (suc deeper) room s w left t =
+    split (inMode Absent m w) (λ e. rw (e, admitted) (record { least = omega arith; most = omega arith; tail = tail-drop 1 s }))
+    (λ e. rw (e, admitted) (reads-as s _ _ (makes room (drop 1 s) w left) (makes-reads s room (drop 1 s) w left (tail-drop 1 s) t)
+    (λ v end h. record { named = h .1; listed = e; deep = omega arith; fits = h .0; same = h .2 })))
 
-    go : (mode : Mode) → modeOf (by .modes) w ≡ mode → Reads at (λ mode end. Admits by (suc deeper) room w left mode end) (elim mode [ Children ↦ makes room s Children left | Content ↦ makes room s Content left | Absent ↦ fault 5 s ])
-    go Children e = admits Children e (rw (e, inMode))
-    go Content e = admits Content e (rw (e, inMode))
-    go Absent e = record { least = omega arith; most = omega arith; tail = t }
+-- "<" and the name
+pub record ReadHead (by : Bounds) (s w left : List ℕ) : Type 0 where
+  pub marked : s ≡ byte "<" ∷ drop 1 s
+  pub named : ReadName (isName isUpper (by .names)) (drop 1 s) w left
+
+pub head-reads : (by : Bounds) (s : List ℕ) → Reads s (λ w left. ReadHead by s w left) (head by s)
+head-reads by s =
+    let rule = isName isUpper (by .names) in
+    reads-on s (λ b left. s ≡ byte "<" ∷ left) _ _ (due (byte "<") s) (due-reads (byte "<") s)
+    (λ b named t d.
+    let e : drop 1 s ≡ named = ap (drop 1) d in
+    reads-as s _ _ (name rule named) (reads-in t _ (name rule named) (name-reads rule named))
+    (λ w left n. record { marked = d ∙ ap (λ (l : List ℕ). byte "<" ∷ l) (sym e); named = rw e n }))
 
 -- the facts of an opening marker
-pub record Opens (by : Bounds) (deeper room : ℕ) (s : List ℕ) (mode : Mode) (o : Opened) (left : List ℕ) : Type 0 where
+pub record Opens (m : Modes) (by : Bounds) (deeper room : ℕ) (s : List ℕ) (o : Opened) (left : List ℕ) : Type 0 where
   pub covers : s ≡ markerOnto (o .marker) (endingOnto (o .ends) left)
   pub rule : markerRule (o .marker) ≡ true
   pub within : markerFits (by .names) (by .lists) (o .marker) ≡ true
   pub opens : o .ends ≡ block → opensBlock (o .marker) ≡ true
-  pub is-mode : modeOf (by .modes) (o .marker .name) ≡ mode
-  pub listed : inMode Absent (by .modes) (o .marker .name) ≡ false
+  pub listed : inMode Absent m (o .marker .name) ≡ false
   pub deep : 0 < deeper
   pub fits : suc (traitsSize (o .marker .traits)) ≤ room
 
-pub opens-made : (by : Bounds) (deeper room : ℕ) (s named w mid start : List ℕ) (mode : Mode) (o : Opened) (left : List ℕ) → s ≡ byte "<" ∷ named → ReadName (isName isUpper (by .names)) named w mid → Admits by deeper room w mid mode start → ReadOpened by (room - 1) w start o left → Opens by deeper room s mode o left
+opens-made : (m : Modes) (by : Bounds) (deeper room : ℕ) (s w mid v start : List ℕ) (o : Opened) (left : List ℕ)
+    → ReadHead by s w mid → Admits m deeper room w mid v start → ReadOpened by (room - 1) v start o left → Opens m by deeper room s o left
 unfolding markerRule markerFits isName
-opens-made by deeper room s named w mid start mode o left d n a r =
+opens-made m by deeper room s w mid v start o left h a r =
     let k = o .marker in
-    let named-rule = both (nameRule isUpper w) (leb (length w) (by .names)) (n .kept) in
-    let upper : nameRule isUpper (k .name) ≡ true = rw (r .named) (named-rule .0) in
-    let short : leb (length (k .name)) (by .names) ≡ true = rw (r .named) (named-rule .1) in
+    let is : k .name ≡ w = r .named ∙ a .named in
+    let named-rule = both (nameRule isUpper w) (leb (length w) (by .names)) (h .named .kept) in
+    let upper : nameRule isUpper (k .name) ≡ true = rw is (named-rule .0) in
+    let short : leb (length (k .name)) (by .names) ≡ true = rw is (named-rule .1) in
     record {
-      covers = d ∙ ap (λ (l : List ℕ). byte "<" ∷ l) (n .covers ∙ rw (r .named) (ap (λ (l : List ℕ). w ++ l) (sym (a .same) ∙ r .covers)));
+      covers = h .marked ∙ ap (λ (l : List ℕ). byte "<" ∷ l) (h .named .covers ∙ rw is (ap (λ (l : List ℕ). w ++ l) (sym (a .same) ∙ r .covers)));
       rule = and (and upper (r .rule)) (r .blank);
       within = and short (r .within);
       opens = r .opens;
-      is-mode = rw (r .named) (a .is-mode);
-      listed = rw (r .named) (a .listed);
+      listed = rw is (a .listed);
       deep = a .deep;
       fits = omega (arith, r .fits, a .fits);
     }
 
+pub opening-reads : (m : Modes) (by : Bounds) (deeper room : ℕ) (s : List ℕ) → Reads s (λ o left. Opens m by deeper room s o left) (opening m by deeper room s)
+opening-reads m by deeper room s =
+    reads-on s (λ w left. ReadHead by s w left) _ _ (head by s) (head-reads by s)
+    (λ w mid u h. reads-on s (λ v start. Admits m deeper room w mid v start) _ _ (admitted m deeper room s w mid) (admitted-reads m deeper room s w mid u)
+    (λ v start u a. reads-as s _ _ (opened by (room - 1) v start) (reads-in u _ (opened by (room - 1) v start) (opened-reads by (room - 1) v start))
+    (λ o left r. opens-made m by deeper room s w mid v start o left h a r)))
+
+-- a name that the table lists, and not in children mode, is in content mode
+content-else : (m : Modes) (w : List ℕ) → inMode Absent m w ≡ false → inMode Children m w ≡ false → inMode Content m w ≡ true
+unfolding inMode
+content-else m w a c = go (modeOf m w) refl
+  where
+    go : (mode : Mode) → modeOf m w ≡ mode → inMode Content m w ≡ true
+    go Children e = true-false (sym (rw (e, inMode)) ∙ c)
+    go Content e = rw (e, inMode)
+    go Absent e = true-false (sym (rw (e, inMode)) ∙ a)
+
 -- the Concept that a marker opens, by its ending and its mode
-module _ (by : Bounds) (deeper room tabs : ℕ) (s : List ℕ) (mode : Mode) (o : Opened) (left : List ℕ) (p : Opens by deeper room s mode o left) where
-  abbrev Inside : ℕ
-  Inside = room - 1 - traitsSize (o .marker .traits)
+module _ (m : Modes) (by : Bounds) (deeper room tabs : ℕ) (s : List ℕ) (o : Opened) (left : List ℕ) (p : Opens m by deeper room s o left) where
+  self-made : o .ends ≡ self → ReadConcept m by deeper room tabs s (selfClosed (o .marker)) left
+  unfolding conceptOnto conceptRule conceptModes conceptFits conceptDepth conceptSize
+  self-made e = record { covers = p .covers ∙ rw e; rule = p .rule; modes = is-not (p .listed); within = p .within; depth = p .deep; fits = p .fits }
 
-  self-made : o .ends ≡ self → ReadConcept by deeper room tabs s (selfClosed (o .marker)) left
-  unfolding conceptOnto conceptRule conceptFits conceptDepth conceptSize
-  self-made e = record { covers = p .covers ∙ rw e; rule = and (p .rule) (is-not (p .listed)); within = p .within; depth = p .deep; fits = p .fits }
-
-  children-made : o .ends ≡ block → mode ≡ Children → (c : Concept) (end : List ℕ) → ReadChildren by (deeper - 1) Inside (o .marker) left c end → ReadConcept by deeper room tabs s c end
-  unfolding conceptOnto conceptRule conceptFits conceptDepth conceptSize inMode
-  children-made e m c end r =
-      let i : inMode Children (by .modes) (o .marker .name) ≡ true = rw (p .is-mode, inMode, m) in
+  children-made : o .ends ≡ block → inMode Children m (o .marker .name) ≡ true → (c : Concept) (end : List ℕ)
+      → ReadChildren m by (deeper - 1) (roomIn room o) (o .marker) left c end → ReadConcept m by deeper room tabs s c end
+  unfolding conceptOnto conceptRule conceptModes conceptFits conceptDepth conceptSize
+  children-made e i c end r =
       rw (r .is-children) (record {
         covers = p .covers ∙ rw e (ap (λ (l : List ℕ). markerOnto (o .marker) (endingOnto block l)) (r .covers));
-        rule = and (and (and (and (p .rule) (p .opens e)) i) (r .rest-rule)) (r .rule);
+        rule = and (and (and (p .rule) (p .opens e)) (r .rest-rule)) (r .rule);
+        modes = and i (r .modes);
         within = and (p .within) (r .within);
         depth = omega (arith, r .depth, p .deep);
         fits = omega (arith, r .fits, p .fits);
       })
 
-  content-made : o .ends ≡ block → mode ≡ Content → (c : Concept) (end : List ℕ) → ReadContent tabs Inside (o .marker) left c end → ReadConcept by deeper room tabs s c end
-  unfolding conceptOnto conceptRule conceptFits conceptDepth conceptSize inMode
-  content-made e m c end r =
-      let i : inMode Content (by .modes) (o .marker .name) ≡ true = rw (p .is-mode, inMode, m) in
+  content-made : o .ends ≡ block → inMode Children m (o .marker .name) ≡ false → (c : Concept) (end : List ℕ)
+      → ReadContent tabs (roomIn room o) (o .marker) left c end → ReadConcept m by deeper room tabs s c end
+  unfolding conceptOnto conceptRule conceptModes conceptFits conceptDepth conceptSize
+  content-made e i c end r =
       rw (r .is-content) (record {
         covers = p .covers ∙ rw e (ap (λ (l : List ℕ). markerOnto (o .marker) (endingOnto block l)) (r .covers));
-        rule = and (and (and (and (p .rule) (p .opens e)) i) (r .rest-rule)) (r .lines-rule);
+        rule = and (and (and (p .rule) (p .opens e)) (r .rest-rule)) (r .lines-rule);
+        modes = content-else m (o .marker .name) (p .listed) i;
         within = p .within;
         depth = p .deep;
         fits = omega (arith, r .fits, p .fits);
       })
 
-  concept-made : (named : List ℕ) → Tail s named → Tail s left
-      → (x : Found Concept) → Reads left (λ c end. ReadChildren by (deeper - 1) Inside (o .marker) left c end) x
-      → (y : Found Concept) → Reads left (λ c end. ReadContent tabs Inside (o .marker) left c end) y
-      → Reads s (λ c end. ReadConcept by deeper room tabs s c end) (elim (o .ends) [ self ↦ found (selfClosed (o .marker)) left | block ↦ elim mode [ Children ↦ x | Content ↦ y | Absent ↦ fault 5 named ] ])
-  concept-made named t u x h y g = ends (o .ends) refl
+  concept-made : Tail s left → (inner : ℕ → ℕ → Marker → List ℕ → Found Concept)
+      → ((deeper room : ℕ) (k : Marker) (s : List ℕ) → Reads s (λ c end. ReadChildren m by deeper room k s c end) (inner deeper room k s))
+      → Reads s (λ c end. ReadConcept m by deeper room tabs s c end) (insideBy m inner deeper room tabs o left)
+  concept-made u inner h = ends (o .ends) refl
     where
-      blocks : o .ends ≡ block → (m : Mode) → mode ≡ m → Reads s (λ c end. ReadConcept by deeper room tabs s c end) (elim m [ Children ↦ x | Content ↦ y | Absent ↦ fault 5 named ])
-      blocks e Children m = reads-as s _ _ x (reads-in u _ x h) (children-made e m)
-      blocks e Content m = reads-as s _ _ y (reads-in u _ y g) (content-made e m)
-      blocks e Absent m = record { least = omega arith; most = omega arith; tail = t }
+      x : Found Concept
+      x = inner (deeper - 1) (roomIn room o) (o .marker) left
 
-      ends : (e : Ending) → o .ends ≡ e → Reads s (λ c end. ReadConcept by deeper room tabs s c end) (elim e [ self ↦ found (selfClosed (o .marker)) left | block ↦ elim mode [ Children ↦ x | Content ↦ y | Absent ↦ fault 5 named ] ])
+      y : Found Concept
+      y = contentOf tabs (roomIn room o) (o .marker) left
+
+      ends : (e : Ending) → o .ends ≡ e
+          → Reads s (λ c end. ReadConcept m by deeper room tabs s c end)
+          (elim e [ self ↦ found (selfClosed (o .marker)) left | block ↦ elim (inMode Children m (o .marker .name)) [ true ↦ x | false ↦ y ] ])
       ends self e = (u, self-made e)
-      ends block e = blocks e mode refl
+      ends block e =
+          split (inMode Children m (o .marker .name))
+          (λ i. rw i (reads-as s _ _ x (reads-in u _ x (h (deeper - 1) (roomIn room o) (o .marker) left)) (children-made e i)))
+          (λ i. rw i (reads-as s _ _ y (reads-in u _ y (content-reads tabs (roomIn room o) (o .marker) left)) (content-made e i)))
 
--- the body that an element begins, and one that a blank line begins
-element-made : (by : Bounds) (deeper room : ℕ) (s : List ℕ) (notes : List Annotation) (line : List ℕ) (c : Concept) (left : List ℕ) (rest : Blank) (next : List ℕ) (inner : Body) (end : List ℕ)
-    → ReadAnnotations room s notes line → ReadConcept by deeper (room - length notes) (lengthIn isTab line) (behind isTab line) c left → ReadBlank left rest next
-    → ReadBody by deeper (room - length notes - conceptSize c) next inner end → ReadBody by deeper room s (element notes (lengthIn isTab line) c rest inner) end
-unfolding bodyOnto bodyRule bodyFits bodyDepth bodySize
-element-made by deeper room s notes line c left rest next inner end a k r q =
-    let tabs = lengthIn isTab line in
+-- four rules that hold together
+pub element-parts : (a b c d : Bool) → a && b && c && d ≡ true → (a ≡ true) × (b ≡ true) × (c ≡ true) × (d ≡ true)
+element-parts a b c d r =
+    let p = both (a && b && c) d r in
+    let q = both (a && b) c (p .0) in
+    let s = both a b (q .0) in
+    (s .0, s .1, q .1, p .1)
+
+-- ---- a Concept with its annotations, and one piece of a body, by how a Concept is read
+
+pub record ReadAnnotated (m : Modes) (by : Bounds) (deeper room : ℕ) (s : List ℕ) (a : Annotated) (left : List ℕ) : Type 0 where
+  pub covers : s ≡ annotationsOnto (a .notes) (tabsOnto (a .tabs) (conceptOnto (a .tabs) (a .concept) left))
+  pub notes-rule : all annotationRule (a .notes) ≡ true
+  pub rule : conceptRule (a .concept) ≡ true
+  pub modes : conceptModes m (a .concept) ≡ true
+  pub within : conceptFits (by .names) (by .lists) (a .concept) ≡ true
+  pub depth : conceptDepth (a .concept) ≤ deeper
+  pub fits : length (a .notes) + conceptSize (a .concept) ≤ room
+  pub shorter : length left < length s
+
+pub record ReadPiece (m : Modes) (by : Bounds) (deeper room : ℕ) (s : List ℕ) (p : BodyPiece) (left : List ℕ) : Type 0 where
+  pub it : ReadBody m by deeper room s (before p done) left
+  pub shorter : length left < length s
+
+module _ (m : Modes) (by : Bounds) (deeper : ℕ) (read : ℕ → ℕ → List ℕ → Found Concept)
+    (h : (room tabs : ℕ) (s : List ℕ) → Reads s (λ c left. ReadConcept m by deeper room tabs s c left) (read room tabs s)) (room : ℕ) (s : List ℕ) where
+  pub annotated-by : Reads s (λ a left. ReadAnnotated m by deeper room s a left) (annotatedBy read room s)
+  annotated-by =
+      reads-then s (λ notes line. ReadAnnotations room s notes line) (λ a left. ReadAnnotated m by deeper room s a left) _ (annotations room s)
+      (annotations-reads room s)
+      (λ notes line n.
+      let tabs = lengthIn isTab line in
+      let fewer = room - length notes in
+      let mark = behind isTab line in
+      reads-map line (λ c left. ReadConcept m by deeper fewer tabs mark c left) (λ a left. ReadAnnotated m by deeper room s a left)
+      (λ c. record { notes = notes; tabs = tabs; concept = c })
+      (read fewer tabs mark) (reads-in (tail-drop tabs line) _ (read fewer tabs mark) (h fewer tabs mark))
+      (λ c left k.
+      let e : s ≡ annotationsOnto notes (tabsOnto tabs (conceptOnto tabs c left)) = n .covers
+      ∙ ap (annotationsOnto notes) (tabs-covers line ∙ ap (tabsOnto tabs) (k .covers)) in
+      record {
+        covers = e;
+        notes-rule = n .rule;
+        rule = k .rule;
+        modes = k .modes;
+        within = k .within;
+        depth = k .depth;
+        fits = omega (arith, n .fits, k .fits);
+        shorter = omega (
+          arith,
+          ap length e,
+          annotations-wide notes (tabsOnto tabs (conceptOnto tabs c left)),
+          tabs-wide tabs
+              (conceptOnto tabs c left),
+          concept-wide c tabs left,
+        );
+      }))
+
+  blank-made : (b : Blank) (left : List ℕ) → ReadBlank s b left → ReadPiece m by deeper room s (blankPiece b) left
+  unfolding bodyOnto bodyRule bodyModes bodyFits bodyDepth bodySize
+  blank-made b left r = record {
+    it = record {
+      covers = r .covers;
+      rule = and
+          (r .rule) refl;
+      modes = refl;
+      within = refl;
+      depth = omega arith;
+      fits = omega arith;
+    };
+    shorter = r .shorter;
+  }
+
+  element-made : (a : Annotated) (left : List ℕ) (rest : Blank) (next : List ℕ) → ReadAnnotated m by deeper room s a left → ReadBlank left rest next
+      → ReadPiece m by deeper room s (elementPiece a rest) next
+  unfolding bodyOnto bodyRule bodyModes bodyFits bodyDepth bodySize
+  element-made a left rest next k r =
+      record {
+        it = record {
+          covers = k .covers ∙ ap (λ (l : List ℕ). annotationsOnto (a .notes) (tabsOnto (a .tabs) (conceptOnto (a .tabs) (a .concept) l))) (r .covers);
+          rule = and (and (and (k .notes-rule) (k .rule)) (r .rule)) refl;
+          modes = and (k .modes) refl;
+          within = and (k .within) refl;
+          depth = omega (arith, k .depth);
+          fits = omega (arith, k .fits);
+        };
+        shorter = omega (arith, k .shorter, r .shorter);
+      }
+
+  pub piece-by : Reads s (λ p left. ReadPiece m by deeper room s p left) (pieceBy read room s)
+  piece-by =
+      split (isBlankLine s)
+      (λ e. rw (e, Reads) (reads-map s (λ b left. ReadBlank s b left) _ blankPiece (lineRest s) (rest-reads s) blank-made))
+      (λ e. rw (e, Reads) (reads-on s (λ tabs mark. mark ≡ behind isTab s) _ _ (tabsOnly s) (only-reads s)
+      (λ tabs mark t l. reads-on s (λ a left. ReadAnnotated m by deeper room s a left) _ _ (annotatedBy read room s) annotated-by
+      (λ a left t k. reads-map s (λ b next. ReadBlank left b next) _ (elementPiece a) (lineRest left) (reads-in t _ (lineRest left) (rest-reads left))
+      (λ rest next r. element-made a left rest next k r)))))
+
+-- a piece, and the body behind it
+body-made : (m : Modes) (by : Bounds) (deeper room : ℕ) (s : List ℕ) (p : BodyPiece) (next : List ℕ) (inner : Body) (end : List ℕ)
+    → ReadBody m by deeper room s (before p done) next
+    → ReadBody m by deeper (room - bodySize (before p done)) next inner end → ReadBody m by deeper room s (before p inner) end
+unfolding bodyOnto bodyRule bodyModes bodyFits bodyDepth bodySize
+body-made m by deeper room s (blankPiece b) next inner end r q =
     record {
-      covers = a .covers ∙ ap (annotationsOnto notes) (tabs-covers line ∙ ap (tabsOnto tabs) (k .covers ∙ ap (conceptOnto tabs c) (r .covers ∙ ap (blankOnto rest) (q .covers))));
-      rule = and (and (and (a .rule) (k .rule)) (r .rule)) (q .rule);
-      within = and (k .within) (q .within);
-      depth = omega (arith, k .depth, q .depth);
-      fits = omega (arith, a .fits, k .fits, q .fits);
+      covers = r .covers ∙ ap (blankOnto b) (q .covers);
+      rule = and (both (blankRule b) true (r .rule) .0)
+          (q .rule);
+      modes = q .modes;
+      within = q .within;
+      depth = q .depth;
+      fits = omega (arith, q .fits);
+    }
+body-made m by deeper room s (elementPiece a rest) next inner end r q =
+    let p = element-parts (all annotationRule (a .notes)) (conceptRule (a .concept)) (blankRule rest) true (r .rule) in
+    record {
+      covers = r .covers ∙ ap (λ (l : List ℕ). annotationsOnto (a .notes) (tabsOnto (a .tabs) (conceptOnto (a .tabs) (a .concept) (blankOnto rest l))))
+          (q .covers);
+      rule = and (and (and (p .0) (p .1)) (p .2)) (q .rule);
+      modes = and (both (conceptModes m (a .concept)) true (r .modes) .0) (q .modes);
+      within = and (both (conceptFits (by .names) (by .lists) (a .concept)) true (r .within) .0) (q .within);
+      depth = omega (arith, r .depth, q .depth);
+      fits = omega (arith, r .fits, q .fits);
     }
 
-blank-made : (by : Bounds) (deeper room : ℕ) (s : List ℕ) (b : Blank) (next : List ℕ) (inner : Body) (end : List ℕ) → ReadBlank s b next → ReadBody by deeper room next inner end → ReadBody by deeper room s (blankLine b inner) end
-unfolding bodyOnto bodyRule bodyFits bodyDepth bodySize
-blank-made by deeper room s b next inner end r q = record { covers = r .covers ∙ ap (blankOnto b) (q .covers); rule = and (r .rule) (q .rule); within = q .within; depth = q .depth; fits = q .fits }
-
-done-made : (by : Bounds) (deeper room : ℕ) (s : List ℕ) → ReadBody by deeper room s done s
-unfolding bodyOnto bodyRule bodyFits bodyDepth bodySize
-done-made by deeper room s = record { covers = refl; rule = refl; within = refl; depth = omega arith; fits = omega arith }
+done-made : (m : Modes) (by : Bounds) (deeper room : ℕ) (s : List ℕ) → ReadBody m by deeper room s done s
+unfolding bodyOnto bodyRule bodyModes bodyFits bodyDepth bodySize
+done-made m by deeper room s = record { covers = refl; rule = refl; modes = refl; within = refl; depth = omega arith; fits = omega arith }
 
 mutual
   unfolding concept
 
-  pub concept-reads : (by : Bounds) (fuel deeper room tabs : ℕ) (s : List ℕ) → Reads s (λ c left. ReadConcept by deeper room tabs s c left) (concept by fuel deeper room tabs s)
-  concept-reads by zero deeper room tabs s = fault-here s 9 (omega arith) (omega arith)
-  concept-reads by (suc fuel) deeper room tabs s =
-      reads-on s (λ b left. s ≡ byte "<" ∷ left) _ _ (due (byte "<") s) (due-reads (byte "<") s)
-      (λ b named t d. reads-on s (λ w left. ReadName (isName isUpper (by .names)) named w left) _ _ (name (isName isUpper (by .names)) named) (reads-in t _ (name (isName isUpper (by .names)) named) (name-reads (isName isUpper (by .names)) named))
-      (λ w mid u n. reads-on s (λ mode end. Admits by deeper room w mid mode end) _ _ (admitted by deeper room s named w mid) (admitted-reads by deeper room s named w mid t u)
-      (λ mode start u a. reads-on s (λ o left. ReadOpened by (room - 1) w start o left) _ _ (opened by (room - 1) w start) (reads-in u _ (opened by (room - 1) w start) (opened-reads by (room - 1) w start))
-      (λ o left u r. concept-made by deeper room tabs s mode o left (opens-made by deeper room s named w mid start mode o left d n a r) named t u
-      (childrenOf by fuel (deeper - 1) (room - 1 - traitsSize (o .marker .traits)) (o .marker) left) (children-reads by fuel (deeper - 1) (room - 1 - traitsSize (o .marker .traits)) (o .marker) left)
-      (contentOf tabs (room - 1 - traitsSize (o .marker .traits)) (o .marker) left) (content-reads tabs (room - 1 - traitsSize (o .marker .traits)) (o .marker) left)))))
+  pub concept-reads : (m : Modes) (by : Bounds) (fuel deeper room tabs : ℕ) (s : List ℕ)
+      → Reads s (λ c left. ReadConcept m by deeper room tabs s c left) (concept m by fuel deeper room tabs s)
+  concept-reads m by zero deeper room tabs s = fault-here s 9 (omega arith) (omega arith)
+  concept-reads m by (suc fuel) deeper room tabs s =
+      reads-on s (λ o left. Opens m by deeper room s o left) _ _ (opening m by deeper room s) (opening-reads m by deeper room s)
+      (λ o left u p. concept-made m by deeper room tabs s o left p u (childrenOf m by fuel) (λ deeper room k l. children-reads m by fuel deeper room k l))
 
-  pub children-reads : (by : Bounds) (fuel deeper room : ℕ) (k : Marker) (s : List ℕ) → Reads s (λ c left. ReadChildren by deeper room k s c left) (childrenOf by fuel deeper room k s)
-  children-reads by zero deeper room k s = fault-here s 9 (omega arith) (omega arith)
-  children-reads by (suc fuel) deeper room k s =
+  pub children-reads : (m : Modes) (by : Bounds) (fuel deeper room : ℕ) (k : Marker) (s : List ℕ)
+      → Reads s (λ c left. ReadChildren m by deeper room k s c left) (childrenOf m by fuel deeper room k s)
+  children-reads m by zero deeper room k s = fault-here s 9 (omega arith) (omega arith)
+  children-reads m by (suc fuel) deeper room k s =
       reads-on s (λ b left. ReadBlank s b left) _ _ (lineRest s) (rest-reads s)
-      (λ rest start t r. reads-on s (λ b left. ReadBody by deeper room start b left) _ _ (body by fuel deeper room start) (reads-in t _ (body by fuel deeper room start) (body-reads by fuel deeper room start))
+      (λ rest start t r. reads-on s (λ b left. ReadBody m by deeper room start b left) _ _ (body m by fuel deeper room start)
+      (reads-in t _ (body m by fuel deeper room start) (body-reads m by fuel deeper room start))
       (λ inner mid t q. reads-on s (λ b left. behind isTab mid ≡ closingOnto (k .name) left) _ _ (closing (k .name) (behind isTab mid)) (reads-in (tail-then t (tail-drop (lengthIn isTab mid) mid)) _ (closing (k .name) (behind isTab mid)) (closing-reads (k .name) (behind isTab mid)))
       (λ b left t e. (
         t,
@@ -206,29 +344,35 @@ mutual
           covers = r .covers ∙ ap (blankOnto rest) (q .covers ∙ ap (bodyOnto inner) (tabs-covers mid ∙ ap (tabsOnto (lengthIn isTab mid)) e));
           rest-rule = r .rule;
           rule = q .rule;
+          modes = q .modes;
           within = q .within;
           depth = q .depth;
           fits = q .fits;
         },
       ))))
 
-  pub body-reads : (by : Bounds) (fuel deeper room : ℕ) (s : List ℕ) → Reads s (λ b left. ReadBody by deeper room s b left) (body by fuel deeper room s)
-  body-reads by zero deeper room s = fault-here s 9 (omega arith) (omega arith)
-  body-reads by (suc fuel) deeper room s =
-      split (isBlankLine s)
-      (λ e. rw (e, body) (reads-on s (λ b left. ReadBlank s b left) _ _ (lineRest s) (rest-reads s)
-      (λ b next t r. reads-on s (λ inner end. ReadBody by deeper room next inner end) _ _ (body by fuel deeper room next) (reads-in t _ (body by fuel deeper room next) (body-reads by fuel deeper room next))
-      (λ inner end t q. (t, blank-made by deeper room s b next inner end r q)))))
-      (λ e. rw (e, body) (reads-on s (λ tabs mark. mark ≡ behind isTab s) _ _ (tabsOnly s) (only-reads s)
-      (λ tabs mark t l. split (startsWith (bytes "</") mark)
-      (λ f. rw f (whole, done-made by deeper room s))
-      (λ f. rw f (reads-on s (λ notes line. ReadAnnotations room s notes line) _ _ (annotations room s) (annotations-reads room s)
-      (λ notes line t a. reads-on s (λ c left. ReadConcept by deeper (room - length notes) (lengthIn isTab line) (behind isTab line) c left) _ _ (concept by fuel deeper (room - length notes) (lengthIn isTab line) (behind isTab line))
-      (reads-in (tail-then t (tail-drop (lengthIn isTab line) line)) _ (concept by fuel deeper (room - length notes) (lengthIn isTab line) (behind isTab line)) (concept-reads by fuel deeper (room - length notes) (lengthIn isTab line) (behind isTab line)))
-      (λ c left t k. reads-on s (λ b next. ReadBlank left b next) _ _ (lineRest left) (reads-in t _ (lineRest left) (rest-reads left))
-      (λ rest next t r. reads-on s (λ inner end. ReadBody by deeper (room - length notes - conceptSize c) next inner end) _ _ (body by fuel deeper (room - length notes - conceptSize c) next)
-      (reads-in t _ (body by fuel deeper (room - length notes - conceptSize c) next) (body-reads by fuel deeper (room - length notes - conceptSize c) next))
-      (λ inner end t q. (t, element-made by deeper room s notes line c left rest next inner end a k r q))))))))))
+  pub body-reads : (m : Modes) (by : Bounds) (fuel deeper room : ℕ) (s : List ℕ)
+      → Reads s (λ b left. ReadBody m by deeper room s b left) (body m by fuel deeper room s)
+  body-reads m by zero deeper room s = fault-here s 9 (omega arith) (omega arith)
+  body-reads m by (suc fuel) deeper room s =
+      split (isClosing s) (λ e. rw (e, body) (whole, done-made m by deeper room s))
+      (λ e. rw (e, body) (reads-on s (λ p next. ReadPiece m by deeper room s p next) _ _ (pieceBy (concept m by fuel deeper) room s)
+      (piece-by m by deeper (concept m by fuel deeper) (λ room tabs l. concept-reads m by fuel deeper room tabs l) room s)
+      (λ p next t r.
+      let fewer = room - bodySize (before p done) in
+      reads-on s (λ inner end. ReadBody m by deeper fewer next inner end) _ _ (body m by fuel deeper fewer next)
+      (reads-in t _ (body m by fuel deeper fewer next) (body-reads m by fuel deeper fewer next))
+      (λ inner end t q. (t, body-made m by deeper room s p next inner end (r .it) q)))))
+
+-- the same where the fuel is enough
+pub annotated-reads : (m : Modes) (by : Bounds) (deeper room : ℕ) (s : List ℕ)
+    → Reads s (λ a left. ReadAnnotated m by deeper room s a left) (annotatedOf m by deeper room s)
+annotated-reads m by deeper room s = annotated-by m by deeper (conceptOf m by deeper)
+    (λ room tabs l. concept-reads m by (length l + 1) deeper room tabs l) room s
+
+pub piece-reads : (m : Modes) (by : Bounds) (deeper room : ℕ) (s : List ℕ)
+    → Reads s (λ p left. ReadPiece m by deeper room s p left) (pieceOf m by deeper room s)
+piece-reads m by deeper room s = piece-by m by deeper (conceptOf m by deeper) (λ room tabs l. concept-reads m by (length l + 1) deeper room tabs l) room s
 
 -- ---- what stands there is found
 
@@ -263,48 +407,47 @@ module _ (k : Marker) (e : Ending) (next : List ℕ) (r : all traitRule (k .trai
   some-behind : 0 < length Behind
   some-behind = omega (arith, traits-wide (k .traits) (k .white ++ endingOnto e next), append-wide (k .white) (endingOnto e next), ending-wide e next)
 
-admitted-complete : (by : Bounds) (deeper room : ℕ) (at s w left : List ℕ) (mode : Mode) → 0 < deeper → 0 < room → modeOf (by .modes) w ≡ mode → inMode Absent (by .modes) w ≡ false → admitted by deeper room at s w left ≡ found mode left
-unfolding admitted inMode
-admitted-complete by zero room at s w left mode d r e f = absurd (omega arith)
-admitted-complete by (suc deeper) room at s w left Children d r e f = rw (e, admitted) (makes-complete room s Children left r)
-admitted-complete by (suc deeper) room at s w left Content d r e f = rw (e, admitted) (makes-complete room s Content left r)
-admitted-complete by (suc deeper) room at s w left Absent d r e f = true-false (sym (rw (e, inMode)) ∙ f)
+admitted-complete : (m : Modes) (deeper room : ℕ) (s w left : List ℕ) → 0 < deeper → 0 < room → inMode Absent m w ≡ false
+    → admitted m deeper room s w left ≡ found w left
+unfolding admitted
+admitted-complete m zero room s w left d r f = absurd (omega arith)
+admitted-complete m (suc deeper) room s w left d r f = rw (f, admitted) (makes-complete room (drop 1 s) w left r)
 
 -- the facts of a marker that stands there
-pub record Stands (by : Bounds) (deeper room : ℕ) (k : Marker) (e : Ending) (mode : Mode) : Type 0 where
+pub record Stands (m : Modes) (by : Bounds) (deeper room : ℕ) (k : Marker) (e : Ending) : Type 0 where
   pub rule : markerRule k ≡ true
   pub within : markerFits (by .names) (by .lists) k ≡ true
   pub opens : e ≡ block → opensBlock k ≡ true
-  pub is-mode : modeOf (by .modes) (k .name) ≡ mode
-  pub listed : inMode Absent (by .modes) (k .name) ≡ false
+  pub listed : inMode Absent m (k .name) ≡ false
   pub deep : 0 < deeper
   pub fits : suc (traitsSize (k .traits)) ≤ room
 
--- reading a Concept whose marker stands there goes on behind the marker
-abbrev pub afterMarker : Bounds → ℕ → ℕ → ℕ → ℕ → List ℕ → Marker → Mode → List ℕ → Ending → Found Concept
-afterMarker by fuel deeper room tabs named k mode left self = found (selfClosed k) left
-afterMarker by fuel deeper room tabs named k mode left block =
-    elim mode [
-      | Children ↦ childrenOf by fuel (deeper - 1) (room - 1 - traitsSize (k .traits)) k left
-      | Content ↦ contentOf tabs (room - 1 - traitsSize (k .traits)) k left
-      | Absent ↦ fault 5 named
-    ]
-
-pub marker-complete : (by : Bounds) (fuel deeper room tabs : ℕ) (k : Marker) (e : Ending) (mode : Mode) (next : List ℕ) → Stands by deeper room k e mode → concept by (suc fuel) deeper room tabs (markerOnto k (endingOnto e next)) ≡ afterMarker by fuel deeper room tabs (k .name ++ traitsOnto (k .traits) (k .white ++ endingOnto e next)) k mode next e
-unfolding concept markerRule markerFits isName
-marker-complete by fuel deeper room tabs k e mode next p =
-    let m = both _ (all isWhite (k .white)) (p .rule) in
-    let n = both (nameRule isUpper (k .name)) (all traitRule (k .traits)) (m .0) in
+pub opening-complete : (m : Modes) (by : Bounds) (deeper room : ℕ) (k : Marker) (e : Ending) (next : List ℕ) → Stands m by deeper room k e
+    → opening m by deeper room (markerOnto k (endingOnto e next)) ≡ found (record { marker = k; ends = e }) next
+unfolding markerRule markerFits isName
+opening-complete m by deeper room k e next p =
+    let v = both _ (all isWhite (k .white)) (p .rule) in
+    let n = both (nameRule isUpper (k .name)) (all traitRule (k .traits)) (v .0) in
     let w = both (leb (length (k .name)) (by .names)) (all (traitFits (by .names) (by .lists)) (k .traits)) (p .within) in
     let q = rule-name isUpper (k .name) (n .0) in
     let behind = traitsOnto (k .traits) (k .white ++ endingOnto e next) in
     let f : traitsSize (k .traits) ≤ room - 1 = omega (arith, p .fits) in
-    rw (due-complete (byte "<") (k .name ++ behind), name-found (isName isUpper (by .names)) (k .name) behind (q .0) (q .1) (and (n .0) (w .0)) (some-behind k e next (n .1) (m .1)) (name-ends k e next (n .1) (m .1)), admitted-complete by deeper room (byte "<" ∷ (k .name ++ behind)) (k .name ++ behind) (k .name) behind mode (p .deep) (omega (arith, p .fits)) (p .is-mode) (p .listed), opened-complete by (room - 1) k e next (n .1) (w .1) (m .1) (p .opens) f)
-    (same-end (k .name ++ behind) e)
-  where
-    same-end : (named : List ℕ) (e : Ending) → elim e [ self ↦ found (selfClosed k) next | block ↦ elim mode [ Children ↦ childrenOf by fuel (deeper - 1) (room - 1 - traitsSize (k .traits)) k next | Content ↦ contentOf tabs (room - 1 - traitsSize (k .traits)) k next | Absent ↦ fault 5 named ] ] ≡ afterMarker by fuel deeper room tabs named k mode next e
-    same-end named self = refl
-    same-end named block = refl
+    rw (
+      due-complete (byte "<") (k .name ++ behind),
+      name-found (isName isUpper (by .names)) (k .name) behind (q .0) (q .1) (and (n .0) (w .0))
+          (some-behind k e next (n .1) (v .1)) (name-ends k e next (n .1) (v .1)),
+      admitted-complete m deeper room (byte "<" ∷ (k .name ++ behind))
+          (k .name) behind (p .deep) (omega (arith, p .fits)) (p .listed),
+      opened-complete by (room - 1) k e next (n .1) (w .1) (v .1) (p .opens) f,
+    )
+
+-- reading a Concept whose marker stands there goes on behind the marker
+pub marker-complete : (m : Modes) (by : Bounds) (fuel deeper room tabs : ℕ) (k : Marker) (e : Ending) (next : List ℕ) → Stands m by deeper room k e
+    → concept m by (suc fuel) deeper room tabs (markerOnto k (endingOnto e next)) ≡ insideBy m (childrenOf m by fuel) deeper room tabs
+    (record { marker = k; ends = e }) next
+unfolding concept
+marker-complete m by fuel deeper room tabs k e next p = ap (λ (x : Found Opened). andThen x (insideBy m (childrenOf m by fuel) deeper room tabs))
+    (opening-complete m by deeper room k e next p)
 
 -- what a mode's test says
 pub mode-is : (mode : Mode) (m : Modes) (w : List ℕ) → inMode mode m w ≡ true → modeOf m w ≡ mode
@@ -326,23 +469,27 @@ pub listed-children : (m : Modes) (w : List ℕ) → modeOf m w ≡ Children →
 unfolding inMode
 listed-children m w e = rw (e, inMode)
 
-pub listed-content : (m : Modes) (w : List ℕ) → modeOf m w ≡ Content → inMode Absent m w ≡ false
+pub listed-content : (m : Modes) (w : List ℕ) → modeOf m w ≡ Content → (inMode Absent m w ≡ false) × (inMode Children m w ≡ false)
 unfolding inMode
-listed-content m w e = rw (e, inMode)
+listed-content m w e = (rw (e, inMode), rw (e, inMode))
 
 -- what stands behind a body: tabs and a closing marker
-pub record EndsBody (next : List ℕ) : Type 0 where
-  pub tabs : ℕ
-  pub mark : List ℕ
-  pub filled : isBlankLine next ≡ false
-  pub only : tabsOnly next ≡ found tabs mark
-  pub closes : startsWith (bytes "</") mark ≡ true
+closing-tab : (w next : List ℕ) → startsIn isTab (closingOnto w next) ≡ false
+unfolding startsIn
+closing-tab w next = refl
 
-ends-body : (tabs : ℕ) (w next : List ℕ) → EndsBody (tabsOnto tabs (closingOnto w next))
-unfolding isBlank isLineEnd startsWith
-ends-body tabs w next =
-    let rest = byte "/" ∷ (w ++ (byte ">" ∷ next)) in
-    record { tabs = tabs; mark = closingOnto w next; filled = marked-line tabs (byte "<") rest refl refl; only = only-complete tabs (byte "<") rest refl; closes = refl }
+closing-line : (tabs : ℕ) (w next : List ℕ) → isClosing (tabsOnto tabs (closingOnto w next)) ≡ true
+unfolding startsWith
+closing-line tabs w next = ap (startsWith (bytes "</")) (tabs-behind tabs (closingOnto w next) (closing-tab w next))
+
+-- a blank line is none
+blank-opens : (s : List ℕ) → isBlankLine s ≡ true → isClosing s ≡ false
+unfolding isBlank isLineEnd
+blank-opens s b = split (isClosing s) (λ e.
+    let rest = drop 1 (bytes "</") ++ drop 2 (behind isTab s) in
+    let line : s ≡ tabsOnto (lengthIn isTab s) (byte "<" ∷ rest) = tabs-covers s
+    ∙ ap (tabsOnto (lengthIn isTab s)) (starts-is (bytes "</") (behind isTab s) e) in
+    true-false (sym b ∙ ap isBlankLine line ∙ marked-line (lengthIn isTab s) (byte "<") rest refl refl)) (λ e. e)
 
 -- a line that an element begins
 pub record Begins (s : List ℕ) : Type 0 where
@@ -350,7 +497,19 @@ pub record Begins (s : List ℕ) : Type 0 where
   pub mark : List ℕ
   pub filled : isBlankLine s ≡ false
   pub only : tabsOnly s ≡ found tabs mark
-  pub open-mark : startsWith (bytes "</") mark ≡ false
+  pub opens : isClosing s ≡ false
+
+begins : (tabs b : ℕ) (rest : List ℕ) → isBlank b ≡ false → isLineEnd b ≡ false → startsIn isTab (b ∷ rest) ≡ false
+    → startsWith (bytes "</") (b ∷ rest) ≡ false → Begins (tabsOnto tabs (b ∷ rest))
+begins tabs b rest n l t o =
+    record {
+      tabs = tabs;
+      mark = b ∷ rest;
+      filled = marked-line tabs b rest n l;
+      only = only-complete tabs b rest n;
+      opens = ap (startsWith (bytes "</"))
+          (tabs-behind tabs (b ∷ rest) t) ∙ o;
+    }
 
 name-front : (k : Marker) (rest : List ℕ) → markerRule k ≡ true → startsWith (bytes "/") (k .name ++ rest) ≡ false
 unfolding markerRule startsWith isNameByte isLetter isUpper isLower isDigit
@@ -361,27 +520,31 @@ name-front k rest r = let n = rule-name isUpper (k .name) (both (nameRule isUppe
     go (b ∷ w) a l = rw (apart isNameByte b (byte "/") (all-head isNameByte b w a .0) refl, startsWith)
 
 -- a Concept begins with "<" and its name
-concept-front : (m : Modes) (tabs : ℕ) (c : Concept) (next : List ℕ) → conceptRule m c ≡ true → (rest : List ℕ) × (conceptOnto tabs c next ≡ byte "<" ∷ rest) × (startsWith (bytes "/") rest ≡ false)
-unfolding conceptOnto conceptRule markerRule
-concept-front m tabs (selfClosed k) next r = (_, refl, name-front k _ (both _ (not (inMode Absent m (k .name))) r .0))
-concept-front m tabs (children k rest inner back) next r = (_, refl, name-front k _ (both _ (opensBlock k) (both _ (inMode Children m (k .name)) (both _ (blankRule rest) (both _ (bodyRule m inner) r .0) .0) .0) .0))
-concept-front m tabs (content k rest lines) next r = (_, refl, name-front k _ (both _ (opensBlock k) (both _ (inMode Content m (k .name)) (both _ (blankRule rest) (both _ (all lineRule lines) r .0) .0) .0) .0))
+concept-front : (tabs : ℕ) (c : Concept) (next : List ℕ) → conceptRule c ≡ true
+    → (rest : List ℕ) × (conceptOnto tabs c next ≡ byte "<" ∷ rest) × (startsWith (bytes "/") rest ≡ false)
+unfolding conceptOnto conceptRule
+concept-front tabs (selfClosed k) next r = (_, refl, name-front k _ r)
+concept-front tabs (children k rest inner back) next r =
+    (_, refl, name-front k _ (element-parts (markerRule k) (opensBlock k) (blankRule rest) (bodyRule inner) r .0))
+concept-front tabs (content k rest lines) next r =
+    (_, refl, name-front k _ (element-parts (markerRule k) (opensBlock k) (blankRule rest) (all lineRule lines) r .0))
 
 -- the line that an element begins: tabs, and then "[" or "<" and a name
-pub begins-element : (m : Modes) (notes : List Annotation) (tabs : ℕ) (c : Concept) (next : List ℕ) → conceptRule m c ≡ true → Begins (annotationsOnto notes (tabsOnto tabs (conceptOnto tabs c next)))
-unfolding annotationsOnto isBlank isLineEnd startsWith
-begins-element m [] tabs c next r =
-    let f = concept-front m tabs c next r in
-    rw (f .1) (record { tabs = tabs; mark = byte "<" ∷ f .0; filled = marked-line tabs (byte "<") (f .0) refl refl; only = only-complete tabs (byte "<") (f .0) refl; open-mark = f .2 })
-begins-element m (a ∷ notes) tabs c next r =
-    let rest = a .text ++ (byte "]" ∷ blankOnto (a .rest) (annotationsOnto notes (tabsOnto tabs (conceptOnto tabs c next)))) in
-    record { tabs = a .tabs; mark = byte "[" ∷ rest; filled = marked-line (a .tabs) (byte "[") rest refl refl; only = only-complete (a .tabs) (byte "[") rest refl; open-mark = refl }
+pub begins-element : (notes : List Annotation) (tabs : ℕ) (c : Concept) (next : List ℕ) → conceptRule c ≡ true
+    → Begins (annotationsOnto notes (tabsOnto tabs (conceptOnto tabs c next)))
+unfolding annotationsOnto isBlank isLineEnd startsIn startsWith
+begins-element [] tabs c next r =
+    let f = concept-front tabs c next r in
+    rw (f .1) (begins tabs (byte "<") (f .0) refl refl refl (f .2))
+begins-element (a ∷ notes) tabs c next r =
+    begins (a .tabs) (byte "[") (a .text ++
+    (byte "]" ∷ blankOnto (a .rest) (annotationsOnto notes (tabsOnto tabs (conceptOnto tabs c next))))) refl refl refl refl
 
 -- the line of a Concept: its tabs, what stands behind them, and that no annotation does
-module _ (m : Modes) (tabs : ℕ) (c : Concept) (next : List ℕ) (r : conceptRule m c ≡ true) where
+module _ (tabs : ℕ) (c : Concept) (next : List ℕ) (r : conceptRule c ≡ true) where
   no-tab : startsIn isTab (conceptOnto tabs c next) ≡ false
   unfolding startsIn
-  no-tab = let f = concept-front m tabs c next r in ap (startsIn isTab) (f .1)
+  no-tab = let f = concept-front tabs c next r in ap (startsIn isTab) (f .1)
 
   pub concept-tabs : lengthIn isTab (tabsOnto tabs (conceptOnto tabs c next)) ≡ tabs
   concept-tabs = tabs-length tabs (conceptOnto tabs c next) no-tab
@@ -391,7 +554,20 @@ module _ (m : Modes) (tabs : ℕ) (c : Concept) (next : List ℕ) (r : conceptRu
 
   pub no-annotation : startsWith (bytes "[") (behind isTab (tabsOnto tabs (conceptOnto tabs c next))) ≡ false
   unfolding startsWith
-  no-annotation = let f = concept-front m tabs c next r in ap (startsWith (bytes "[")) (concept-behind ∙ f .1)
+  no-annotation = let f = concept-front tabs c next r in ap (startsWith (bytes "[")) (concept-behind ∙ f .1)
+
+-- a Concept with its annotations is found where its Concept is
+pub annotated-complete : (read : ℕ → ℕ → List ℕ → Found Concept) (room : ℕ) (notes : List Annotation) (tabs : ℕ) (c : Concept) (next : List ℕ)
+    → all annotationRule notes ≡ true → conceptRule c ≡ true → length notes ≤ room → read (room - length notes) tabs (conceptOnto tabs c next) ≡ found c next
+    → annotatedBy read room (annotationsOnto notes (tabsOnto tabs (conceptOnto tabs c next))) ≡ found (record { notes = notes; tabs = tabs; concept = c }) next
+annotated-complete read room notes tabs c next n r f e =
+    rw (
+      annotations-complete room notes (tabsOnto tabs (conceptOnto tabs c next)) n f
+          (no-annotation tabs c next r),
+      concept-behind tabs c next r,
+      concept-tabs tabs c next r,
+      e,
+    )
 
 -- what stands behind an element's Concept is the end of its line
 pub blank-ends : (b : Blank) (next : List ℕ) → blankRule b ≡ true → atLineEnd (behind isBlank (blankOnto b next)) ≡ true
@@ -402,77 +578,113 @@ blank-ends b next r = ap atLineEnd (behind-of isBlank (b .blanks) (lineEndOnto (
     go LF = refl
     go CRLF = refl
 
+-- the pieces of a body are found
+blank-piece : (read : ℕ → ℕ → List ℕ → Found Concept) (room : ℕ) (b : Blank) (next : List ℕ) → blankRule b ≡ true
+    → pieceBy read room (blankOnto b next) ≡ found (blankPiece b) next
+blank-piece read room b next r = when-true (isBlankLine (blankOnto b next)) _ _ (blank-line b next r) ∙ rw (rest-complete b next r)
+
+element-piece : (read : ℕ → ℕ → List ℕ → Found Concept) (room : ℕ) (a : Annotated) (rest : Blank) (next : List ℕ) → all annotationRule (a .notes) ≡ true
+    → conceptRule (a .concept) ≡ true → blankRule rest ≡ true
+    → length (a .notes) ≤ room → read (room - length (a .notes)) (a .tabs) (conceptOnto (a .tabs) (a .concept) (blankOnto rest next)) ≡ found (a .concept)
+    (blankOnto rest next)
+    → pieceBy read room (annotationsOnto (a .notes) (tabsOnto (a .tabs) (conceptOnto (a .tabs) (a .concept) (blankOnto rest next)))) ≡ found
+    (elementPiece a rest) next
+element-piece read room a rest next n r b f e =
+    let g = begins-element (a .notes) (a .tabs) (a .concept) (blankOnto rest next) r in
+    when-false (isBlankLine _) _ _ (g .filled)
+    ∙ rw (g .only, annotated-complete read room (a .notes) (a .tabs) (a .concept) (blankOnto rest next) n r f e, rest-complete rest next b)
+
 pub marker-name : (k : Marker) → markerRule k ≡ true → nameRule isUpper (k .name) ≡ true
 unfolding markerRule
 marker-name k r = both (nameRule isUpper (k .name)) (all traitRule (k .traits)) (both _ (all isWhite (k .white)) r .0) .0
 
-closing-tab : (w next : List ℕ) → startsIn isTab (closingOnto w next) ≡ false
-unfolding startsIn
-closing-tab w next = refl
-
 pub no-self : {X : Type 0} → self ≡ block → X
 no-self e = let z : _≡_ {A = ℕ} 0 1 = cc in absurd (omega arith)
 
-pub block-parts : (a b c d e : Bool) → a && b && c && d && e ≡ true → (a ≡ true) × (b ≡ true) × (c ≡ true) × (d ≡ true) × (e ≡ true)
-block-parts a b c d e r =
-    let p = both (a && b && c && d) e r in
-    let q = both (a && b && c) d (p .0) in
-    let s = both (a && b) c (q .0) in
-    let t = both a b (s .0) in
-    (t .0, t .1, s .1, q .1, p .1)
-
-pub element-parts : (a b c d : Bool) → a && b && c && d ≡ true → (a ≡ true) × (b ≡ true) × (c ≡ true) × (d ≡ true)
-element-parts a b c d r =
-    let p = both (a && b && c) d r in
-    let q = both (a && b) c (p .0) in
-    let s = both a b (q .0) in
-    (s .0, s .1, q .1, p .1)
-
 mutual
-  unfolding conceptOnto conceptRule conceptFits conceptDepth conceptSize concept
+  unfolding conceptOnto conceptRule conceptModes conceptFits conceptDepth conceptSize concept
 
-  pub concept-complete : (by : Bounds) (c : Concept) (fuel deeper room tabs : ℕ) (next : List ℕ) → conceptRule (by .modes) c ≡ true → conceptFits (by .names) (by .lists) c ≡ true → conceptDepth c ≤ deeper → conceptSize c ≤ room → atLineEnd (behind isBlank next) ≡ true → length (conceptOnto tabs c next) < fuel → concept by fuel deeper room tabs (conceptOnto tabs c next) ≡ found c next
-  concept-complete by c zero deeper room tabs next r w d f e l = absurd (omega arith)
-  concept-complete by (selfClosed k) (suc fuel) deeper room tabs next r w d f e l =
-      let p = both (markerRule k) (not (inMode Absent (by .modes) (k .name))) r in
-      marker-complete by fuel deeper room tabs k self (modeOf (by .modes) (k .name)) next
-      (record { rule = p .0; within = w; opens = λ q. no-self q; is-mode = refl; listed = not-true (inMode Absent (by .modes) (k .name)) (p .1); deep = d; fits = f })
-  concept-complete by (content k rest lines) (suc fuel) deeper room tabs next r w d f e l =
-      let p = block-parts (markerRule k) (opensBlock k) (inMode Content (by .modes) (k .name)) (blankRule rest) (all lineRule lines) r in
-      let i = mode-is Content (by .modes) (k .name) (p .2) in
-      marker-complete by fuel deeper room tabs k block Content (blankOnto rest (linesOnto tabs lines (tabsOnto tabs (closingOnto (k .name) next))))
-      (record { rule = p .0; within = w; opens = λ q. p .1; is-mode = i; listed = listed-content (by .modes) (k .name) i; deep = d; fits = omega arith })
-      ∙ content-complete tabs (room - 1 - traitsSize (k .traits)) k rest lines next (p .3) (p .4) (omega arith) e
-  concept-complete by (children k rest inner back) (suc fuel) deeper room tabs next r w d f e l =
-      let p = block-parts (markerRule k) (opensBlock k) (inMode Children (by .modes) (k .name)) (blankRule rest) (bodyRule (by .modes) inner) r in
-      let i = mode-is Children (by .modes) (k .name) (p .2) in
+  pub concept-complete : (m : Modes) (by : Bounds) (c : Concept) (fuel deeper room tabs : ℕ) (next : List ℕ) → conceptRule c ≡ true → conceptModes m c ≡ true
+      → conceptFits (by .names) (by .lists) c ≡ true → conceptDepth c ≤ deeper → conceptSize c ≤ room → atLineEnd (behind isBlank next) ≡ true
+      → length (conceptOnto tabs c next) < fuel → concept m by fuel deeper room tabs (conceptOnto tabs c next) ≡ found c next
+  concept-complete m by c zero deeper room tabs next r o w d f e l = absurd (omega arith)
+  concept-complete m by (selfClosed k) (suc fuel) deeper room tabs next r o w d f e l =
+      marker-complete m by fuel deeper room tabs k self next
+      (record { rule = r; within = w; opens = λ q. no-self q; listed = not-true (inMode Absent m (k .name)) o; deep = d; fits = f })
+  concept-complete m by (content k rest lines) (suc fuel) deeper room tabs next r o w d f e l =
+      let p = element-parts (markerRule k) (opensBlock k) (blankRule rest) (all lineRule lines) r in
+      let i = listed-content m (k .name) (mode-is Content m (k .name) o) in
+      marker-complete m by fuel deeper room tabs k block (blankOnto rest (linesOnto tabs lines (tabsOnto tabs (closingOnto (k .name) next))))
+      (record { rule = p .0; within = w; opens = λ q. p .1; listed = i .0; deep = d; fits = omega arith })
+      ∙ when-false (inMode Children m (k .name)) _ _ (i .1)
+      ∙ content-complete tabs (room - 1 - traitsSize (k .traits)) k rest lines next (p .2) (p .3) (omega arith) e
+  concept-complete m by (children k rest inner back) (suc fuel) deeper room tabs next r o w d f e l =
+      let p = element-parts (markerRule k) (opensBlock k) (blankRule rest) (bodyRule inner) r in
+      let v = both (inMode Children m (k .name)) (bodyModes m inner) o in
       let q = both (markerFits (by .names) (by .lists) k) (bodyFits (by .names) (by .lists) inner) w in
       let behind = blankOnto rest (bodyOnto inner (tabsOnto back (closingOnto (k .name) next))) in
-      marker-complete by fuel deeper room tabs k block Children behind
-      (record { rule = p .0; within = q .0; opens = λ q. p .1; is-mode = i; listed = listed-children (by .modes) (k .name) i; deep = omega arith; fits = omega arith })
-      ∙ children-complete by k rest inner back fuel (deeper - 1) (room - 1 - traitsSize (k .traits)) next (rule-name isUpper (k .name) (marker-name k (p .0))) (p .3) (p .4) (q .1) (omega arith) (omega arith)
+      marker-complete m by fuel deeper room tabs k block behind
+      (record {
+        rule = p .0;
+        within = q .0;
+        opens = λ q. p .1;
+        listed = listed-children m (k .name)
+            (mode-is Children m (k .name) (v .0));
+        deep = omega arith;
+        fits = omega arith;
+      })
+      ∙ when-true (inMode Children m (k .name)) _ _ (v .0)
+      ∙ children-complete m by k rest inner back fuel (deeper - 1) (room - 1 - traitsSize (k .traits)) next
+      (rule-name isUpper (k .name) (marker-name k (p .0))) (p .2) (p .3) (v .1) (q .1) (omega arith) (omega arith)
       (omega (arith, marker-wide k block behind, rule-name isUpper (k .name) (marker-name k (p .0)) .1))
 
-  pub children-complete : (by : Bounds) (k : Marker) (rest : Blank) (inner : Body) (back fuel deeper room : ℕ) (next : List ℕ) → (all isNameByte (k .name) ≡ true) × (0 < length (k .name)) → blankRule rest ≡ true → bodyRule (by .modes) inner ≡ true → bodyFits (by .names) (by .lists) inner ≡ true → bodyDepth inner ≤ deeper → bodySize inner ≤ room → length (blankOnto rest (bodyOnto inner (tabsOnto back (closingOnto (k .name) next)))) + 2 < fuel → childrenOf by fuel deeper room k (blankOnto rest (bodyOnto inner (tabsOnto back (closingOnto (k .name) next)))) ≡ found (children k rest inner back) next
-  children-complete by k rest inner back zero deeper room next n b r w d f l = absurd (omega arith)
-  children-complete by k rest inner back (suc fuel) deeper room next n b r w d f l =
+  pub children-complete : (m : Modes) (by : Bounds) (k : Marker) (rest : Blank) (inner : Body) (back fuel deeper room : ℕ) (next : List ℕ)
+      → (all isNameByte (k .name) ≡ true) × (0 < length (k .name)) → blankRule rest ≡ true → bodyRule inner ≡ true → bodyModes m inner ≡ true
+      → bodyFits (by .names) (by .lists) inner ≡ true → bodyDepth inner ≤ deeper → bodySize inner ≤ room
+      → length (blankOnto rest (bodyOnto inner (tabsOnto back (closingOnto (k .name) next)))) + 2 < fuel
+      → childrenOf m by fuel deeper room k (blankOnto rest (bodyOnto inner (tabsOnto back (closingOnto (k .name) next)))) ≡ found
+      (children k rest inner back) next
+  children-complete m by k rest inner back zero deeper room next n b r o w d f l = absurd (omega arith)
+  children-complete m by k rest inner back (suc fuel) deeper room next n b r o w d f l =
       let end = tabsOnto back (closingOnto (k .name) next) in
       let mark = closingOnto (k .name) next in
-      rw (rest-complete rest (bodyOnto inner end) b, body-complete by inner fuel deeper room end r w d f (ends-body back (k .name) next) (omega (arith, blank-wide rest (bodyOnto inner end))), tabs-behind back mark (closing-tab (k .name) next), closing-complete (k .name) next (n .0) (n .1), tabs-length back mark (closing-tab (k .name) next))
+      rw (
+        rest-complete rest (bodyOnto inner end) b,
+        body-complete m by inner fuel deeper room end r o w d f (closing-line back (k .name) next)
+            (omega (arith, blank-wide rest (bodyOnto inner end))),
+        tabs-behind back mark (closing-tab (k .name) next),
+        closing-complete (k .name) next (n .0)
+            (n .1),
+        tabs-length back mark (closing-tab (k .name) next),
+      )
 
-  pub body-complete : (by : Bounds) (b : Body) (fuel deeper room : ℕ) (next : List ℕ) → bodyRule (by .modes) b ≡ true → bodyFits (by .names) (by .lists) b ≡ true → bodyDepth b ≤ deeper → bodySize b ≤ room → EndsBody next → length (bodyOnto b next) + 1 < fuel → body by fuel deeper room (bodyOnto b next) ≡ found b next
-  body-complete by b zero deeper room next r w d f e l = absurd (omega arith)
-  body-complete by done (suc fuel) deeper room next r w d f e l = rw (e .filled, body, e .only) (when-true (startsWith (bytes "</") (e .mark)) _ _ (e .closes))
-  body-complete by (blankLine b inner) (suc fuel) deeper room next r w d f e l =
-      let p = both (blankRule b) (bodyRule (by .modes) inner) r in
-      rw (blank-line b (bodyOnto inner next) (p .0), body, rest-complete b (bodyOnto inner next) (p .0), body-complete by inner fuel deeper room next (p .1) w d f e (omega (arith, blank-wide b (bodyOnto inner next))))
-  body-complete by (element notes tabs c rest inner) (suc fuel) deeper room next r w d f e l =
-      let m = by .modes in
-      let p = element-parts (all annotationRule notes) (conceptRule m c) (blankRule rest) (bodyRule m inner) r in
+  pub body-complete : (m : Modes) (by : Bounds) (b : Body) (fuel deeper room : ℕ) (next : List ℕ) → bodyRule b ≡ true → bodyModes m b ≡ true
+      → bodyFits (by .names) (by .lists) b ≡ true → bodyDepth b ≤ deeper → bodySize b ≤ room → isClosing next ≡ true → length (bodyOnto b next) + 1 < fuel
+      → body m by fuel deeper room (bodyOnto b next) ≡ found b next
+  body-complete m by b zero deeper room next r o w d f e l = absurd (omega arith)
+  body-complete m by done (suc fuel) deeper room next r o w d f e l = when-true (isClosing next) _ _ e
+  body-complete m by (blankLine b inner) (suc fuel) deeper room next r o w d f e l =
+      let p = both (blankRule b) (bodyRule inner) r in
+      let left = bodyOnto inner next in
+      when-false (isClosing (blankOnto b left)) _ _ (blank-opens (blankOnto b left) (blank-line b left (p .0)))
+      ∙ rw (
+        blank-piece (concept m by fuel deeper) room b left (p .0),
+        body-complete m by inner fuel deeper (room - 0) next (p .1) o w d (omega arith) e
+            (omega (arith, blank-wide b left)),
+      )
+  body-complete m by (element notes tabs c rest inner) (suc fuel) deeper room next r o w d f e l =
+      let p = element-parts (all annotationRule notes) (conceptRule c) (blankRule rest) (bodyRule inner) r in
+      let v = both (conceptModes m c) (bodyModes m inner) o in
       let q = both (conceptFits (by .names) (by .lists) c) (bodyFits (by .names) (by .lists) inner) w in
-      let behindIt = blankOnto rest (bodyOnto inner next) in
-      let line = tabsOnto tabs (conceptOnto tabs c behindIt) in
-      let g = begins-element m notes tabs c behindIt (p .1) in
-      rw (g .filled, body, g .only)
-      (when-false (startsWith (bytes "</") (g .mark)) _ _ (g .open-mark)
-      ∙ rw (annotations-complete room notes line (p .0) (omega arith) (no-annotation m tabs c behindIt (p .1)), concept-behind m tabs c behindIt (p .1), concept-tabs m tabs c behindIt (p .1), concept-complete by c fuel deeper (room - length notes) tabs behindIt (p .1) (q .0) (omega arith) (omega arith) (blank-ends rest (bodyOnto inner next) (p .2)) (omega (arith, tabs-wide tabs (conceptOnto tabs c behindIt), annotations-wide notes line)), rest-complete rest (bodyOnto inner next) (p .2), body-complete by inner fuel deeper (room - length notes - conceptSize c) next (p .3) (q .1) (omega arith) (omega arith) e (omega (arith, tabs-wide tabs (conceptOnto tabs c behindIt), annotations-wide notes line, concept-wide c tabs behindIt, blank-wide rest (bodyOnto inner next)))))
+      let left = bodyOnto inner next in
+      let start = conceptOnto tabs c (blankOnto rest left) in
+      let line = tabsOnto tabs start in
+      let g = begins-element notes tabs c (blankOnto rest left) (p .1) in
+      when-false (isClosing (annotationsOnto notes line)) _ _ (g .opens)
+      ∙ rw (
+        element-piece (concept m by fuel deeper) room (record { notes = notes; tabs = tabs; concept = c }) rest left (p .0) (p .1) (p .2) (omega arith)
+            (concept-complete m by c fuel deeper (room - length notes) tabs (blankOnto rest left) (p .1) (v .0) (q .0) (omega arith) (omega arith)
+            (blank-ends rest left (p .2)) (omega (arith, tabs-wide tabs start, annotations-wide notes line))),
+        body-complete m by inner fuel deeper (room - (length notes + conceptSize c + 0)) next (p .3) (v .1) (q .1) (omega arith) (omega arith) e
+            (omega (arith, concept-wide c tabs (blankOnto rest left), tabs-wide tabs start, annotations-wide notes line, blank-wide rest left)),
+      )

@@ -114,8 +114,8 @@ only-offsets-change m s t d =
     let a = again-derives m s t d in
     record {
       shapes = same-shapes t;
-      tell = subst (λ (l : List ℕ). AllTell l (entries t) (senses (meaning t))) (d .covers) (entries-tell m t (d .rule));
+      tell = subst (λ (l : List ℕ). AllTell l (entries t) (senses (meaning t))) (d .covers) (entries-tell t (d .rule));
       tell-again =
           subst (λ (x : SheetSense). AllTell (canonical t) (entries (again t)) (senses x)) (again-means t)
-          (subst (λ (l : List ℕ). AllTell l (entries (again t)) (senses (meaning (again t)))) (a .covers) (entries-tell m (again t) (a .rule)));
+          (subst (λ (l : List ℕ). AllTell l (entries (again t)) (senses (meaning (again t)))) (a .covers) (entries-tell (again t) (a .rule)));
     }

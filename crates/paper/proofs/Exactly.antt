@@ -18,7 +18,7 @@ use Rattle.paper.specs.Tree.{Sheet}
 use Rattle.paper.specs.Grammar.{Derives}
 use Rattle.paper.specs.Limits.{sheetLimit, entryLimit, conceptLimit, listLimit, conceptFits, conceptDepth, withinLimits}
 use Rattle.paper.specs.Entries.{Entry, entries, filled}
-use Rattle.paper.specs.Reading.{boundsOf, sheetTree, roomOf, sheetOf, Reading, refusal, reading}
+use Rattle.paper.specs.Reading.{bounds, sheetTree, roomOf, sheetOf, Reading, refusal, reading}
 use Rattle.paper.proofs.Tests.{split}
 use Rattle.paper.proofs.Lists.{both, and}
 use Rattle.paper.proofs.Finds.{Tail, tail-place, Reads}
@@ -101,30 +101,29 @@ sheet-answers m room s =
     long : sheetLimit < length s → Rejects s 2 (drop sheetLimit s)
     long l = record { least = omega arith; most = omega arith; place = omega arith; short = omega (arith, length-drop sheetLimit s); order = long-order s l }
 
-    tree : length s ≤ sheetLimit → (vs : List ℕ) → sheetBytes s ≡ found vs [] → (x : Found Sheet) → sheetTree (boundsOf m) conceptLimit room s ≡ x
-        → Reads s (λ t left. ReadSheet (boundsOf m) conceptLimit room s t left) x → Answers m room s x
+    tree : length s ≤ sheetLimit → (vs : List ℕ) → sheetBytes s ≡ found vs [] → (x : Found Sheet) → sheetTree m bounds conceptLimit room s ≡ x
+        → Reads s (λ t left. ReadSheet m bounds conceptLimit room s t left) x → Answers m room s x
     tree l vs e (fault n left) f h =
-        let end : n ≡ 9 → left ≡ [] = λ q. cut-at-end (boundsOf m) conceptLimit room s left (f ∙ ap (λ (k : ℕ). fault k left) q) in
+        let end : n ≡ 9 → left ≡ [] = λ q. cut-at-end m bounds conceptLimit room s left (f ∙ ap (λ (k : ℕ). fault k left) q) in
         let order = tree-order s vs n left l e (h .least) end in
         record { least = omega (arith, h .least); most = h .most; place = omega arith; short = omega arith; order = order }
     tree l vs e (found t left) f h =
         let r = h .1 in (
           r .over,
           record {
-            derives = record { scalars = vs; bytes = e; covers = sym (r .covers); rule = r .rule };
+            derives = record { scalars = vs; bytes = e; covers = sym (r .covers); rule = r .rule; modes = r .modes };
             limits = and (and (le-leb (length s) sheetLimit l) (r .within)) (le-leb _ conceptLimit (r .depth));
             fit = omega (arith, entries-size t, r .fits);
           },
         )
 
     bytes : length s ≤ sheetLimit → (x : Found (List ℕ)) → sheetBytes s ≡ x → Only 3 s x
-        → Answers m room s (andThen x (λ vs left. sheetTree (boundsOf m) conceptLimit room s))
+        → Answers m room s (andThen x (λ vs left. sheetTree m bounds conceptLimit room s))
     bytes l (fault n left) e h =
         let order = bytes-order s n left l e (h .0) (h .1) in
         record { least = omega (arith, h .0); most = omega (arith, h .0); place = omega arith; short = omega arith; order = order }
     bytes l (found vs left) e h =
-        let by = boundsOf m in
-        tree l vs (e ∙ ap (found vs) (sheet-made s vs left e .empty)) (sheetTree by conceptLimit room s) refl (sheet-reads by conceptLimit room s)
+        tree l vs (e ∙ ap (found vs) (sheet-made s vs left e .empty)) (sheetTree m bounds conceptLimit room s) refl (sheet-reads m bounds conceptLimit room s)
 
 pub sheet-accepts : (m : Modes) (room : ℕ) (s : List ℕ) (t : Sheet) → Accepts m room s t → sheetOf m room s ≡ found t []
 unfolding sheetOf withinLimits
@@ -133,9 +132,9 @@ sheet-accepts m room s t a =
     let p = both (leb (length s) sheetLimit && conceptFits nameLimit listLimit (t .root)) (leb (conceptDepth (t .root)) conceptLimit) (a .limits) in
     let q = both (leb (length s) sheetLimit) (conceptFits nameLimit listLimit (t .root)) (p .0) in
     rw (le-ltb sheetLimit (length s) (leb-true (length s) sheetLimit (q .0)), sheetOf, d .bytes)
-    (ap (sheetTree (boundsOf m) conceptLimit room) (sym (d .covers))
-    ∙ sheet-complete (boundsOf m) conceptLimit room t
-    (record { rule = d .rule; within = q .1; depth = leb-true (conceptDepth (t .root)) conceptLimit (p .1); fits = omega (arith, a .fit, entries-size t) }))
+    (ap (sheetTree m bounds conceptLimit room) (sym (d .covers))
+    ∙ sheet-complete m bounds conceptLimit room t
+    (record { rule = d .rule; modes = d .modes; within = q .1; depth = leb-true (conceptDepth (t .root)) conceptLimit (p .1); fits = omega (arith, a .fit, entries-size t) }))
 
 -- ---- accepted exactly
 

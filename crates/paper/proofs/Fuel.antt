@@ -1,158 +1,136 @@
 -- Fuel above the length does not matter in reading Concepts and bodies, and the steps of these readings without fuel. Assumes nothing.
 use Prim.Native.Nat.{ℕ, zero, suc, _+_, _-_, _≤_, _<_}
 use mathlib.Core.Path.{_≡_, ap, _∙_}
-use mathlib.Core.Bool.{Bool, true, false}
-use mathlib.Core.List.{List, _∷_, _++_}
+use mathlib.Core.Bool.{true, false}
+use mathlib.Core.List.{List}
 use native.Mathlib.Numerals.{add-one}
 use native.Mathlib.Omega.{arith}
-use lib.ListN.{length, length-append}
-use Rattle.paper.specs.declared.Mode.{Mode}
-use Rattle.paper.specs.declared.Mode.the-variants.{Children, Content, Absent}
-use Rattle.paper.specs.Found.{Found, found, fault, andThen}
-use Rattle.paper.specs.Bytes.{byte, bytes, isUpper, lengthIn, behind, startsWith}
-use Rattle.paper.specs.Names.{isName}
-use Rattle.paper.specs.Tree.{Marker, block, self, Concept, selfClosed, children, Body, done, blankLine, element}
-use Rattle.paper.specs.Grammar.{endingOnto}
-use Rattle.paper.specs.Entries.{traitsSize, conceptSize}
-use Rattle.paper.specs.Reading.{Bounds, lineRest, isBlankLine, isTab, tabsOnly, name, due, annotations, Opened, opened, admitted, closing, contentOf, concept, childrenOf, body, conceptOf, blockOf, bodyOf}
-use Rattle.paper.proofs.Tests.{split, when-true, when-false}
+use lib.ListN.{length}
+use Rattle.paper.specs.declared.Mode.the-variants.{Children}
+use Rattle.paper.specs.Found.{Found, found, andThen}
+use Rattle.paper.specs.Bytes.{isUpper, lengthIn, behind}
+use Rattle.paper.specs.Modes.{Modes}
+use Rattle.paper.specs.Tree.{Marker, block, self, Concept, selfClosed, children, Body, done, Annotated, BodyPiece, blankPiece, elementPiece, before}
+use Rattle.paper.specs.Grammar.{inMode}
+use Rattle.paper.specs.Entries.{bodySize}
+use Rattle.paper.specs.Reading.{Bounds, lineRest, isBlankLine, isTab, tabsOnly, annotations, Opened, opening, closing, contentOf, roomIn, insideBy, annotatedBy, pieceBy, isClosing, concept, childrenOf, body, conceptOf, blockOf, bodyOf, pieceOf}
 use Rattle.paper.proofs.Finds.{tail-length, tail-then, tail-drop, then-same}
-use Rattle.paper.proofs.Lines.{ReadBlank, rest-reads, only-reads, ReadName, name-reads, due-reads}
+use Rattle.paper.proofs.Lines.{ReadBlank, rest-reads, rule-name}
 use Rattle.paper.proofs.Annotations.{ReadAnnotations, annotations-reads}
-use Rattle.paper.proofs.Markers.{ReadOpened, opened-reads}
-use Rattle.paper.proofs.Widths.{append-wide, traits-wide, ending-wide}
-use Rattle.paper.proofs.Concepts.{ReadConcept, concept-reads, Admits, admitted-reads}
+use Rattle.paper.proofs.Widths.{marker-wide}
+use Rattle.paper.proofs.Concepts.{concept-reads, Opens, opening-reads, ReadPiece, piece-by, piece-reads, marker-name}
 
 -- what a marker leaves is three bytes shorter than its line at least
-pub marker-shorter : (by : Bounds) (room : ℕ) (rule : List ℕ → Bool) (deeper outer : ℕ) (s named w mid start : List ℕ) (mode : Mode) (o : Opened) (left : List ℕ) → s ≡ byte "<" ∷ named → ReadName rule named w mid → Admits by deeper outer w mid mode start → ReadOpened by room w start o left → length left + 3 ≤ length s
-marker-shorter by room rule deeper outer s named w mid start mode o left d n a r =
-    let k = o .marker in
-    omega (arith, ap length d, ap length (n .covers), length-append w mid, n .some, ap length (a .same), ap length (r .covers), traits-wide (k .traits) (k .white ++ endingOnto (o .ends) left), append-wide (k .white) (endingOnto (o .ends) left), ending-wide (o .ends) left)
+pub marker-shorter : (m : Modes) (by : Bounds) (deeper room : ℕ) (s : List ℕ) (o : Opened) (left : List ℕ) → Opens m by deeper room s o left
+    → length left + 3 ≤ length s
+marker-shorter m by deeper room s o left p =
+    omega (arith, ap length (p .covers), marker-wide (o .marker) (o .ends) left, rule-name isUpper (o .marker .name) (marker-name (o .marker) (p .rule)) .1)
+
+-- ---- two ways to read on that are alike over what is left
+
+inside-alike : (m : Modes) (one other : ℕ → ℕ → Marker → List ℕ → Found Concept) (deeper room tabs : ℕ) (o : Opened) (left : List ℕ)
+    → ((deeper room : ℕ) (k : Marker) → one deeper room k left ≡ other deeper room k left)
+    → insideBy m one deeper room tabs o left ≡ insideBy m other deeper room tabs o left
+inside-alike m one other deeper room tabs o left h =
+    ap (λ (x : Found Concept). elim
+    (o .ends) [
+      | self ↦ found (selfClosed (o .marker)) left
+      | block ↦ elim
+          (inMode Children m (o .marker .name)) [ true ↦ x | false ↦ contentOf tabs (roomIn room o) (o .marker) left ]
+    ])
+    (h (deeper - 1) (roomIn room o) (o .marker))
+
+module _ (one other : ℕ → ℕ → List ℕ → Found Concept) (room : ℕ) (s : List ℕ)
+    (h : (room tabs : ℕ) (l : List ℕ) → length l ≤ length s → one room tabs l ≡ other room tabs l) where
+  annotated-alike : annotatedBy one room s ≡ annotatedBy other room s
+  annotated-alike =
+      then-same s (λ notes line. ReadAnnotations room s notes line) (annotations room s) _ _ (annotations-reads room s)
+      (λ notes line t a. ap (λ (x : Found Concept). andThen x (λ c left. found (record { notes = notes; tabs = lengthIn isTab line; concept = c }) left))
+      (h (room - length notes) (lengthIn isTab line) (behind isTab line) (tail-length (tail-then t (tail-drop (lengthIn isTab line) line)))))
+
+  piece-alike : pieceBy one room s ≡ pieceBy other room s
+  piece-alike =
+      ap (λ (x : Found Annotated). elim (isBlankLine s) [
+        | true ↦ andThen (lineRest s) (λ b left. found (blankPiece b) left)
+        | false ↦ andThen (tabsOnly s) (λ tabs mark. andThen x (λ a left. andThen (lineRest left) (λ rest end. found (elementPiece a rest) end)))
+      ]) annotated-alike
 
 mutual
   unfolding concept
 
-  pub concept-fuel : (by : Bounds) (f g deeper room tabs : ℕ) (s : List ℕ) → length s < f → length s < g → concept by f deeper room tabs s ≡ concept by g deeper room tabs s
-  concept-fuel by zero g deeper room tabs s h k = absurd (omega arith)
-  concept-fuel by (suc f) zero deeper room tabs s h k = absurd (omega arith)
-  concept-fuel by (suc f) (suc g) deeper room tabs s h k =
-      then-same s (λ b named. s ≡ byte "<" ∷ named) (due (byte "<") s) _ _ (due-reads (byte "<") s)
-      (λ b named t d. then-same named (λ w mid. ReadName (isName isUpper (by .names)) named w mid) (name (isName isUpper (by .names)) named) _ _ (name-reads (isName isUpper (by .names)) named)
-      (λ w mid u n. then-same s (λ mode start. Admits by deeper room w mid mode start) (admitted by deeper room s named w mid) _ _ (admitted-reads by deeper room s named w mid t (tail-then t u))
-      (λ mode start v a. then-same start (λ o left. ReadOpened by (room - 1) w start o left) (opened by (room - 1) w start) _ _ (opened-reads by (room - 1) w start)
-      (λ o left x r.
-      let l = marker-shorter by (room - 1) (isName isUpper (by .names)) deeper room s named w mid start mode o left d n a r in
-      ap (λ (x : Found Concept). elim (o .ends) [ self ↦ found (selfClosed (o .marker)) left | block ↦ elim mode [ Children ↦ x | Content ↦ contentOf tabs (room - 1 - traitsSize (o .marker .traits)) (o .marker) left | Absent ↦ fault 5 named ] ])
-      (children-fuel by f g (deeper - 1) (room - 1 - traitsSize (o .marker .traits)) (o .marker) left (omega arith) (omega arith))))))
+  pub concept-fuel : (m : Modes) (by : Bounds) (f g deeper room tabs : ℕ) (s : List ℕ) → length s < f → length s < g
+      → concept m by f deeper room tabs s ≡ concept m by g deeper room tabs s
+  concept-fuel m by zero g deeper room tabs s h k = absurd (omega arith)
+  concept-fuel m by (suc f) zero deeper room tabs s h k = absurd (omega arith)
+  concept-fuel m by (suc f) (suc g) deeper room tabs s h k =
+      then-same s (λ o left. Opens m by deeper room s o left) (opening m by deeper room s) _ _ (opening-reads m by deeper room s)
+      (λ o left t p.
+      let l = marker-shorter m by deeper room s o left p in
+      inside-alike m (childrenOf m by f) (childrenOf m by g) deeper room tabs o left
+      (λ deeper room i. children-fuel m by f g deeper room i left (omega arith) (omega arith)))
 
-  pub children-fuel : (by : Bounds) (f g deeper room : ℕ) (k : Marker) (s : List ℕ) → length s + 2 < f → length s + 2 < g → childrenOf by f deeper room k s ≡ childrenOf by g deeper room k s
-  children-fuel by zero g deeper room k s h l = absurd (omega arith)
-  children-fuel by (suc f) zero deeper room k s h l = absurd (omega arith)
-  children-fuel by (suc f) (suc g) deeper room k s h l =
+  pub children-fuel : (m : Modes) (by : Bounds) (f g deeper room : ℕ) (k : Marker) (s : List ℕ) → length s + 2 < f → length s + 2 < g
+      → childrenOf m by f deeper room k s ≡ childrenOf m by g deeper room k s
+  children-fuel m by zero g deeper room k s h l = absurd (omega arith)
+  children-fuel m by (suc f) zero deeper room k s h l = absurd (omega arith)
+  children-fuel m by (suc f) (suc g) deeper room k s h l =
       then-same s (λ b left. ReadBlank s b left) (lineRest s) _ _ (rest-reads s)
       (λ rest start t r. ap (λ (x : Found Body). andThen x (λ inner left. andThen (closing (k .name) (behind isTab left)) (λ b end. found (children k rest inner (lengthIn isTab left)) end)))
-      (body-fuel by f g deeper room start (omega (arith, r .shorter)) (omega (arith, r .shorter))))
+      (body-fuel m by f g deeper room start (omega (arith, r .shorter)) (omega (arith, r .shorter))))
 
-  pub body-fuel : (by : Bounds) (f g deeper room : ℕ) (s : List ℕ) → length s + 1 < f → length s + 1 < g → body by f deeper room s ≡ body by g deeper room s
-  body-fuel by zero g deeper room s h l = absurd (omega arith)
-  body-fuel by (suc f) zero deeper room s h l = absurd (omega arith)
-  body-fuel by (suc f) (suc g) deeper room s h l =
-      split (isBlankLine s)
-      (λ e. rw (e, body) (then-same s (λ b left. ReadBlank s b left) (lineRest s) _ _ (rest-reads s)
-      (λ b next t r. ap (λ (x : Found Body). andThen x (λ inner end. found (blankLine b inner) end)) (body-fuel by f g deeper room next (omega (arith, r .shorter)) (omega (arith, r .shorter))))))
-      (λ e. rw (e, body) (then-same s (λ tabs mark. mark ≡ behind isTab s) (tabsOnly s) _ _ (only-reads s)
-      (λ tabs mark t m. split (startsWith (bytes "</") mark) (λ c. rw c)
-      (λ c. rw c (then-same s (λ notes line. ReadAnnotations room s notes line) (annotations room s) _ _ (annotations-reads room s)
-      (λ notes line u a.
-      let short = tail-length (tail-then u (tail-drop (lengthIn isTab line) line)) in
-      ap (λ (x : Found Concept). andThen x (λ c left. andThen (lineRest left) (λ rest left. andThen (body by f deeper (room - length notes - conceptSize c) left) (λ inner end. found (element notes (lengthIn isTab line) c rest inner) end))))
-      (concept-fuel by f g deeper (room - length notes) (lengthIn isTab line) (behind isTab line) (omega (arith, short)) (omega (arith, short)))
-      ∙ then-same (behind isTab line) (λ c left. ReadConcept by deeper (room - length notes) (lengthIn isTab line) (behind isTab line) c left) (concept by g deeper (room - length notes) (lengthIn isTab line) (behind isTab line)) _ _ (concept-reads by g deeper (room - length notes) (lengthIn isTab line) (behind isTab line))
-      (λ c left v k. then-same left (λ b next. ReadBlank left b next) (lineRest left) _ _ (rest-reads left)
-      (λ rest next x r. ap (λ (y : Found Body). andThen y (λ inner end. found (element notes (lengthIn isTab line) c rest inner) end))
-      (body-fuel by f g deeper (room - length notes - conceptSize c) next (omega (arith, r .shorter, tail-length v, short)) (omega (arith, r .shorter, tail-length v, short)))))))))))
+  pub body-fuel : (m : Modes) (by : Bounds) (f g deeper room : ℕ) (s : List ℕ) → length s + 1 < f → length s + 1 < g
+      → body m by f deeper room s ≡ body m by g deeper room s
+  body-fuel m by zero g deeper room s h l = absurd (omega arith)
+  body-fuel m by (suc f) zero deeper room s h l = absurd (omega arith)
+  body-fuel m by (suc f) (suc g) deeper room s h l =
+      ap (λ (x : Found Body). elim (isClosing s) [ true ↦ found done s | false ↦ x ])
+      (ap (λ (x : Found BodyPiece). andThen x
+      (λ p left. andThen (body m by f deeper (room - bodySize (before p done)) left) (λ inner end. found (before p inner) end)))
+      (piece-alike (concept m by f deeper) (concept m by g deeper) room s
+      (λ room tabs line n. concept-fuel m by f g deeper room tabs line (omega arith) (omega arith)))
+      ∙ then-same s (λ p left. ReadPiece m by deeper room s p left) (pieceBy (concept m by g deeper) room s) _ _
+      (piece-by m by deeper (concept m by g deeper) (concept-reads m by g deeper) room s)
+      (λ p left t r. ap (λ (x : Found Body). andThen x (λ inner end. found (before p inner) end))
+      (body-fuel m by f g deeper (room - bodySize (before p done)) left (omega (arith, r .shorter)) (omega (arith, r .shorter)))))
 
 -- ---- the steps without fuel
 
--- a Concept behind its marker, by the marker's ending and the mode
-abbrev pub behindMarker : Bounds → ℕ → ℕ → ℕ → List ℕ → Mode → Opened → List ℕ → Found Concept
-behindMarker by deeper room tabs named mode o left =
-    elim (o .ends) [
-      | self ↦ found (selfClosed (o .marker)) left
-      | block ↦ elim mode [
-        | Children ↦ blockOf by (deeper - 1) (room - 1 - traitsSize (o .marker .traits)) (o .marker) left
-        | Content ↦ contentOf tabs (room - 1 - traitsSize (o .marker .traits)) (o .marker) left
-        | Absent ↦ fault 5 named
-      ]
-    ]
-
-pub concept-of : (by : Bounds) (deeper room tabs : ℕ) (s : List ℕ) → conceptOf by deeper room tabs s ≡ andThen (due (byte "<") s) (λ b named. andThen (name (isName isUpper (by .names)) named) (λ w left.
-    andThen (admitted by deeper room s named w left) (λ mode left. andThen (opened by (room - 1) w left) (λ o left. behindMarker by deeper room tabs named mode o left))))
+pub concept-of : (m : Modes) (by : Bounds) (deeper room tabs : ℕ) (s : List ℕ)
+    → conceptOf m by deeper room tabs s ≡ andThen (opening m by deeper room s) (insideBy m (blockOf m by) deeper room tabs)
 unfolding concept
-concept-of by deeper room tabs s =
+concept-of m by deeper room tabs s =
     rw (add-one (length s))
-    (then-same s (λ b named. s ≡ byte "<" ∷ named) (due (byte "<") s) _ _ (due-reads (byte "<") s)
-    (λ b named t d. then-same named (λ w mid. ReadName (isName isUpper (by .names)) named w mid) (name (isName isUpper (by .names)) named) _ _ (name-reads (isName isUpper (by .names)) named)
-    (λ w mid u n. then-same s (λ mode start. Admits by deeper room w mid mode start) (admitted by deeper room s named w mid) _ _ (admitted-reads by deeper room s named w mid t (tail-then t u))
-    (λ mode start v a. then-same start (λ o left. ReadOpened by (room - 1) w start o left) (opened by (room - 1) w start) _ _ (opened-reads by (room - 1) w start)
-    (λ o left x r.
-    let l = marker-shorter by (room - 1) (isName isUpper (by .names)) deeper room s named w mid start mode o left d n a r in
-    ap (λ (x : Found Concept). elim (o .ends) [ self ↦ found (selfClosed (o .marker)) left | block ↦ elim mode [ Children ↦ x | Content ↦ contentOf tabs (room - 1 - traitsSize (o .marker .traits)) (o .marker) left | Absent ↦ fault 5 named ] ])
-    (children-fuel by (length s) (length left + 3) (deeper - 1) (room - 1 - traitsSize (o .marker .traits)) (o .marker) left (omega arith) (omega arith)))))))
+    (then-same s (λ o left. Opens m by deeper room s o left) (opening m by deeper room s) _ _ (opening-reads m by deeper room s)
+    (λ o left t p.
+    let l = marker-shorter m by deeper room s o left p in
+    inside-alike m (childrenOf m by (length s)) (blockOf m by) deeper room tabs o left
+    (λ deeper room k. children-fuel m by (length s) (length left + 3) deeper room k left (omega arith) (omega arith))))
 
-pub block-of : (by : Bounds) (deeper room : ℕ) (k : Marker) (s : List ℕ) → blockOf by deeper room k s ≡ andThen (lineRest s) (λ rest start. andThen (bodyOf by deeper room start) (λ inner left.
+pub block-of : (m : Modes) (by : Bounds) (deeper room : ℕ) (k : Marker) (s : List ℕ)
+    → blockOf m by deeper room k s ≡ andThen (lineRest s) (λ rest start. andThen (bodyOf m by deeper room start) (λ inner left.
     andThen (closing (k .name) (behind isTab left)) (λ b end. found (children k rest inner (lengthIn isTab left)) end)))
 unfolding concept
-block-of by deeper room k s =
+block-of m by deeper room k s =
     let e : length s + 3 ≡ suc (length s + 2) = omega arith in
     rw e
     (then-same s (λ b left. ReadBlank s b left) (lineRest s) _ _ (rest-reads s)
     (λ rest start t r. ap (λ (x : Found Body). andThen x (λ inner left. andThen (closing (k .name) (behind isTab left)) (λ b end. found (children k rest inner (lengthIn isTab left)) end)))
-    (body-fuel by (length s + 2) (length start + 2) deeper room start (omega (arith, r .shorter)) (omega arith))))
+    (body-fuel m by (length s + 2) (length start + 2) deeper room start (omega (arith, r .shorter)) (omega arith))))
 
-module _ (by : Bounds) (fuel deeper room : ℕ) (s : List ℕ) where
-  body-blank : isBlankLine s ≡ true → body by (suc fuel) deeper room s ≡ andThen (lineRest s) (λ b next. andThen (body by fuel deeper room next) (λ inner end. found (blankLine b inner) end))
-  unfolding concept
-  body-blank e = rw (e, body)
-
-  body-line : isBlankLine s ≡ false → body by (suc fuel) deeper room s ≡ andThen (tabsOnly s) (λ tabs mark. elim (startsWith (bytes "</") mark) [
-    | true ↦ found done s
-    | false ↦ andThen (annotations room s) (λ notes line. andThen (concept by fuel deeper (room - length notes) (lengthIn isTab line) (behind isTab line)) (λ c left.
-        andThen (lineRest left) (λ rest left. andThen (body by fuel deeper (room - length notes - conceptSize c) left) (λ inner end. found (element notes (lengthIn isTab line) c rest inner) end))))
-  ])
-  unfolding concept
-  body-line e = rw (e, body)
-
-module _ (by : Bounds) (deeper room : ℕ) (s : List ℕ) where
-  more-fuel : bodyOf by deeper room s ≡ body by (suc (length s + 1)) deeper room s
-  more-fuel = ap (λ (n : ℕ). body by n deeper room s) (omega arith)
-
-  -- a blank line; a fault in front; what ends the body; an element
-  pub body-of-blank : isBlankLine s ≡ true → bodyOf by deeper room s ≡ andThen (lineRest s) (λ b next. andThen (bodyOf by deeper room next) (λ inner end. found (blankLine b inner) end))
-  body-of-blank e =
-      more-fuel ∙ body-blank by (length s + 1) deeper room s e
-      ∙ then-same s (λ b left. ReadBlank s b left) (lineRest s) _ _ (rest-reads s)
-      (λ b next t r. ap (λ (x : Found Body). andThen x (λ inner end. found (blankLine b inner) end)) (body-fuel by (length s + 1) (length next + 2) deeper room next (omega (arith, r .shorter)) (omega arith)))
-
-  pub body-of-fault : isBlankLine s ≡ false → (n : ℕ) (left : List ℕ) → tabsOnly s ≡ fault n left → bodyOf by deeper room s ≡ fault n left
-  body-of-fault e n left f = more-fuel ∙ body-line by (length s + 1) deeper room s e ∙ rw f
-
-  pub body-of-closing : isBlankLine s ≡ false → (tabs : ℕ) (mark : List ℕ) → tabsOnly s ≡ found tabs mark → startsWith (bytes "</") mark ≡ true → bodyOf by deeper room s ≡ found done s
-  body-of-closing e tabs mark f c = more-fuel ∙ body-line by (length s + 1) deeper room s e ∙ rw f (when-true (startsWith (bytes "</") mark) _ _ c)
-
-  pub body-of-element : isBlankLine s ≡ false → (tabs : ℕ) (mark : List ℕ) → tabsOnly s ≡ found tabs mark → startsWith (bytes "</") mark ≡ false
-      → bodyOf by deeper room s ≡ andThen (annotations room s) (λ notes line. andThen (conceptOf by deeper (room - length notes) (lengthIn isTab line) (behind isTab line)) (λ c left.
-      andThen (lineRest left) (λ rest next. andThen (bodyOf by deeper (room - length notes - conceptSize c) next) (λ inner end. found (element notes (lengthIn isTab line) c rest inner) end))))
-  body-of-element e tabs mark f c =
-      more-fuel ∙ body-line by (length s + 1) deeper room s e
-      ∙ rw f
-      (when-false (startsWith (bytes "</") mark) _ _ c
-      ∙ then-same s (λ notes line. ReadAnnotations room s notes line) (annotations room s) _ _ (annotations-reads room s)
-      (λ notes line u a.
-      let short = tail-length (tail-then u (tail-drop (lengthIn isTab line) line)) in
-      ap (λ (x : Found Concept). andThen x (λ c left. andThen (lineRest left) (λ rest left. andThen (body by (length s + 1) deeper (room - length notes - conceptSize c) left) (λ inner end. found (element notes (lengthIn isTab line) c rest inner) end))))
-      (concept-fuel by (length s + 1) (length (behind isTab line) + 1) deeper (room - length notes) (lengthIn isTab line) (behind isTab line) (omega (arith, short)) (omega arith))
-      ∙ then-same (behind isTab line) (λ c left. ReadConcept by deeper (room - length notes) (lengthIn isTab line) (behind isTab line) c left) (conceptOf by deeper (room - length notes) (lengthIn isTab line) (behind isTab line)) _ _ (concept-reads by (length (behind isTab line) + 1) deeper (room - length notes) (lengthIn isTab line) (behind isTab line))
-      (λ c left v k. then-same left (λ b next. ReadBlank left b next) (lineRest left) _ _ (rest-reads left)
-      (λ rest next x r. ap (λ (y : Found Body). andThen y (λ inner end. found (element notes (lengthIn isTab line) c rest inner) end))
-      (body-fuel by (length s + 1) (length next + 2) deeper (room - length notes - conceptSize c) next (omega (arith, r .shorter, tail-length v, short)) (omega arith))))))
+pub body-of : (m : Modes) (by : Bounds) (deeper room : ℕ) (s : List ℕ) → bodyOf m by deeper room s ≡ elim (isClosing s) [
+  | true ↦ found done s
+  | false ↦ andThen (pieceOf m by deeper room s)
+      (λ p left. andThen (bodyOf m by deeper (room - bodySize (before p done)) left) (λ inner end. found (before p inner) end))
+]
+unfolding concept
+body-of m by deeper room s =
+    let e : length s + 2 ≡ suc (length s + 1) = omega arith in
+    rw e
+    (ap (λ (x : Found Body). elim (isClosing s) [ true ↦ found done s | false ↦ x ])
+    (ap (λ (x : Found BodyPiece). andThen x
+    (λ p left. andThen (body m by (length s + 1) deeper (room - bodySize (before p done)) left) (λ inner end. found (before p inner) end)))
+    (piece-alike (concept m by (length s + 1) deeper) (conceptOf m by deeper) room s
+    (λ room tabs l n. concept-fuel m by (length s + 1) (length l + 1) deeper room tabs l (omega arith) (omega arith)))
+    ∙ then-same s (λ p left. ReadPiece m by deeper room s p left) (pieceOf m by deeper room s) _ _ (piece-reads m by deeper room s)
+    (λ p left t r. ap (λ (x : Found Body). andThen x (λ inner end. found (before p inner) end))
+    (body-fuel m by (length s + 1) (length left + 2) deeper (room - bodySize (before p done)) left (omega (arith, r .shorter)) (omega arith)))))

@@ -18,6 +18,7 @@ pub mod Widths
 pub mod Fronts
 pub mod Concepts
 pub mod Fuel
+pub mod Room
 pub mod Sheets
 pub mod Sizes
 pub mod Before

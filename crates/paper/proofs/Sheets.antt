@@ -7,21 +7,22 @@ use native.Mathlib.Omega.{arith}
 use lib.ListN.{length}
 use Rattle.paper.specs.Found.{found}
 use Rattle.paper.specs.Bytes.{isBlank, isLineEnd, all, startsIn, lengthIn, front, behind}
+use Rattle.paper.specs.Modes.{Modes}
 use Rattle.paper.specs.Tree.{Blank, Sheet}
-use Rattle.paper.specs.Grammar.{blanksOnto, tabsOnto, annotationsOnto, conceptOnto, sheetOnto, blankRule, annotationRule, conceptRule, sheetRule}
+use Rattle.paper.specs.Grammar.{blanksOnto, tabsOnto, annotationsOnto, conceptOnto, sheetOnto, blankRule, annotationRule, conceptRule, sheetRule, sheetModes}
 use Rattle.paper.specs.Limits.{conceptFits, conceptDepth}
 use Rattle.paper.specs.Entries.{sheetSize}
-use Rattle.paper.specs.Reading.{Bounds, blankLines, isTab, tabsOnly, annotations, conceptOf, atLineEnd, lastBlanks, sheetTree}
+use Rattle.paper.specs.Reading.{Bounds, blankLines, isTab, tabsOnly, conceptOf, annotatedOf, atLineEnd, lastBlanks, sheetTree}
 use Rattle.paper.proofs.Lists.{both, and, all-head, front-all, front-behind, front-of, behind-of}
-use Rattle.paper.proofs.Finds.{tail-then, tail-drop, Reads, reads-on, reads-in}
-use Rattle.paper.proofs.Lines.{ReadBlanks, blanks-reads, blanks-complete, tabs-covers, only-reads}
-use Rattle.paper.proofs.Annotations.{ReadAnnotations, annotations-reads, annotations-complete}
-use Rattle.paper.proofs.Concepts.{ReadConcept, concept-reads, concept-complete, begins-element, concept-tabs, concept-behind, no-annotation, blank-ends, element-parts}
+use Rattle.paper.proofs.Finds.{tail-drop, Reads, reads-on, reads-in}
+use Rattle.paper.proofs.Lines.{ReadBlanks, blanks-reads, blanks-complete, only-reads}
+use Rattle.paper.proofs.Concepts.{ReadAnnotated, annotated-reads, annotated-complete, concept-complete, begins-element, blank-ends, element-parts}
 
-pub record ReadSheet (by : Bounds) (deeper room : ℕ) (s : List ℕ) (t : Sheet) (left : List ℕ) : Type 0 where
+pub record ReadSheet (m : Modes) (by : Bounds) (deeper room : ℕ) (s : List ℕ) (t : Sheet) (left : List ℕ) : Type 0 where
   pub over : left ≡ []
   pub covers : s ≡ sheetOnto t []
-  pub rule : sheetRule (by .modes) t ≡ true
+  pub rule : sheetRule t ≡ true
+  pub modes : sheetModes m t ≡ true
   pub within : conceptFits (by .names) (by .lists) (t .root) ≡ true
   pub depth : conceptDepth (t .root) ≤ deeper
   pub fits : sheetSize t ≤ room
@@ -39,27 +40,30 @@ last-complete : (last : List ℕ) → all isBlank last ≡ true → lastBlanks (
 unfolding lastBlanks startsIn
 last-complete last r = rw (behind-of isBlank last [] r refl, lastBlanks, front-of isBlank last [] r refl)
 
-pub sheet-reads : (by : Bounds) (deeper room : ℕ) (s : List ℕ) → Reads s (λ t left. ReadSheet by deeper room s t left) (sheetTree by deeper room s)
+pub sheet-reads : (m : Modes) (by : Bounds) (deeper room : ℕ) (s : List ℕ)
+    → Reads s (λ t left. ReadSheet m by deeper room s t left) (sheetTree m by deeper room s)
 unfolding sheetTree sheetOnto sheetRule sheetSize
-sheet-reads by deeper room s =
+sheet-reads m by deeper room s =
     reads-on s (λ bs left. ReadBlanks s bs left) _ _ (blankLines s) (blanks-reads s)
     (λ before first t b. reads-on s (λ tabs mark. mark ≡ behind isTab first) _ _ (tabsOnly first) (reads-in t _ (tabsOnly first) (only-reads first))
-    (λ tabs mark u l. reads-on s (λ notes line. ReadAnnotations room first notes line) _ _ (annotations room first) (reads-in t _ (annotations room first) (annotations-reads room first))
-    (λ notes line u a. reads-on s (λ c left. ReadConcept by deeper (room - length notes) (lengthIn isTab line) (behind isTab line) c left) _ _ (conceptOf by deeper (room - length notes) (lengthIn isTab line) (behind isTab line))
-    (reads-in (tail-then u (tail-drop (lengthIn isTab line) line)) _ (conceptOf by deeper (room - length notes) (lengthIn isTab line) (behind isTab line)) (concept-reads by (length (behind isTab line) + 1) deeper (room - length notes) (lengthIn isTab line) (behind isTab line)))
-    (λ c left u k. reads-on s (λ bs end. ReadBlanks left bs end) _ _ (blankLines left) (reads-in u _ (blankLines left) (blanks-reads left))
+    (λ tabs mark u l. reads-on s (λ a left. ReadAnnotated m by deeper room first a left) _ _ (annotatedOf m by deeper room first)
+    (reads-in t _ (annotatedOf m by deeper room first) (annotated-reads m by deeper room first))
+    (λ a left u k. reads-on s (λ bs end. ReadBlanks left bs end) _ _ (blankLines left) (reads-in u _ (blankLines left) (blanks-reads left))
     (λ after rest u q. reads-on s (λ last end. (end ≡ []) × (rest ≡ last ++ []) × (all isBlank last ≡ true)) _ _ (lastBlanks (front isBlank rest) (behind isBlank rest)) (reads-in u _ (lastBlanks (front isBlank rest) (behind isBlank rest)) (last-reads rest))
     (λ last end u e. (
       u,
       record {
         over = e .0;
-        covers = b .covers ∙ ap (blanksOnto before) (a .covers ∙ ap (annotationsOnto notes) (tabs-covers line ∙ ap (tabsOnto (lengthIn isTab line)) (k .covers ∙ ap (conceptOnto (lengthIn isTab line) c) (q .covers ∙ ap (blanksOnto after) (e .1)))));
-        rule = and (and (and (and (b .rule) (a .rule)) (k .rule)) (q .rule)) (e .2);
+        covers = b .covers ∙ ap (blanksOnto before)
+            (k .covers ∙ ap (λ (l : List ℕ). annotationsOnto (a .notes) (tabsOnto (a .tabs) (conceptOnto (a .tabs) (a .concept) l)))
+            (q .covers ∙ ap (blanksOnto after) (e .1)));
+        rule = and (and (and (and (b .rule) (k .notes-rule)) (k .rule)) (q .rule)) (e .2);
+        modes = k .modes;
         within = k .within;
         depth = k .depth;
-        fits = omega (arith, a .fits, k .fits);
+        fits = k .fits;
       },
-    )))))))
+    ))))))
 
 -- behind the root stands the end of its line
 ends-root : (after : List Blank) (last : List ℕ) → all blankRule after ≡ true → all isBlank last ≡ true → atLineEnd (behind isBlank (blanksOnto after (last ++ []))) ≡ true
@@ -67,21 +71,31 @@ unfolding blanksOnto atLineEnd startsIn
 ends-root [] last r e = ap atLineEnd (behind-of isBlank last [] e refl)
 ends-root (b ∷ after) last r e = blank-ends b (blanksOnto after (last ++ [])) (all-head blankRule b after r .0)
 
-pub record Keeps (by : Bounds) (deeper room : ℕ) (t : Sheet) : Type 0 where
-  pub rule : sheetRule (by .modes) t ≡ true
+pub record Keeps (m : Modes) (by : Bounds) (deeper room : ℕ) (t : Sheet) : Type 0 where
+  pub rule : sheetRule t ≡ true
+  pub modes : sheetModes m t ≡ true
   pub within : conceptFits (by .names) (by .lists) (t .root) ≡ true
   pub depth : conceptDepth (t .root) ≤ deeper
   pub fits : sheetSize t ≤ room
 
-pub sheet-complete : (by : Bounds) (deeper room : ℕ) (t : Sheet) → Keeps by deeper room t → sheetTree by deeper room (sheetOnto t []) ≡ found t []
+pub sheet-complete : (m : Modes) (by : Bounds) (deeper room : ℕ) (t : Sheet) → Keeps m by deeper room t
+    → sheetTree m by deeper room (sheetOnto t []) ≡ found t []
 unfolding sheetTree sheetOnto sheetRule sheetSize startsIn
-sheet-complete by deeper room t k =
+sheet-complete m by deeper room t k =
     let p = both _ (all isBlank (t .last)) (k .rule) in
-    let q = element-parts (all blankRule (t .before)) (all annotationRule (t .annotations)) (conceptRule (by .modes) (t .root)) (all blankRule (t .after)) (p .0) in
-    let m = by .modes in
+    let q = element-parts (all blankRule (t .before)) (all annotationRule (t .annotations)) (conceptRule (t .root)) (all blankRule (t .after)) (p .0) in
     let end = t .last ++ [] in
     let left = blanksOnto (t .after) end in
-    let line = tabsOnto (t .tabs) (conceptOnto (t .tabs) (t .root) left) in
-    let first = annotationsOnto (t .annotations) line in
-    let g = begins-element m (t .annotations) (t .tabs) (t .root) left (q .2) in
-    rw (blanks-complete (t .before) first (q .0) (g .filled), g .only, annotations-complete room (t .annotations) line (q .1) (omega (arith, k .fits)) (no-annotation m (t .tabs) (t .root) left (q .2)), concept-behind m (t .tabs) (t .root) left (q .2), concept-tabs m (t .tabs) (t .root) left (q .2), concept-complete by (t .root) (length (conceptOnto (t .tabs) (t .root) left) + 1) deeper (room - length (t .annotations)) (t .tabs) left (q .2) (k .within) (k .depth) (omega (arith, k .fits)) (ends-root (t .after) (t .last) (q .3) (p .1)) (omega arith), blanks-complete (t .after) end (q .3) (ap (startsIn isLineEnd) (behind-of isBlank (t .last) [] (p .1) refl)), last-complete (t .last) (p .1))
+    let s = conceptOnto (t .tabs) (t .root) left in
+    let first = annotationsOnto (t .annotations) (tabsOnto (t .tabs) s) in
+    let g = begins-element (t .annotations) (t .tabs) (t .root) left (q .2) in
+    rw (
+      blanks-complete (t .before) first (q .0) (g .filled),
+      g .only,
+      annotated-complete (conceptOf m by deeper) room (t .annotations) (t .tabs)
+          (t .root) left (q .1) (q .2) (omega (arith, k .fits))
+          (concept-complete m by (t .root) (length s + 1) deeper (room - length (t .annotations)) (t .tabs) left (q .2) (k .modes) (k .within) (k .depth)
+          (omega (arith, k .fits)) (ends-root (t .after) (t .last) (q .3) (p .1)) (omega arith)),
+      blanks-complete (t .after) end (q .3) (ap (startsIn isLineEnd) (behind-of isBlank (t .last) [] (p .1) refl)),
+      last-complete (t .last) (p .1),
+    )

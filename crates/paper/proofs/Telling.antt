@@ -10,15 +10,13 @@ use lib.Dec.{leb}
 use lib.Seq.{take-append-seam}
 use Rattle.paper.specs.Bytes.{byte, tab, all, isBlank, isWhite, isLower, isUpper}
 use Rattle.paper.specs.Names.{nameRule}
-use Rattle.paper.specs.Modes.{Modes}
 use Rattle.paper.specs.Values.{Leaf, string, character, backtick, word, Value, leaf, emptyList, list, More, close, comma, valueOnto, moreOnto, spelling, collapse, valueRule, moreRule, listEnders}
 use Rattle.paper.specs.Tree.{Blank, Trait, Marker, Annotation, Line, Concept, selfClosed, children, content, Body, done, blankLine, element, Sheet, block, self}
-use Rattle.paper.specs.Grammar.{blankOnto, blanksOnto, tabsOnto, annotationOnto, annotationsOnto, traitOnto, traitsOnto, markerOnto, endingOnto, closingOnto, linesOnto, conceptOnto, bodyOnto, sheetOnto, blankRule, annotationRule, traitRule, markerRule, lineRule, opensBlock, inMode, conceptRule, bodyRule, sheetRule, Derives}
+use Rattle.paper.specs.Grammar.{blankOnto, blanksOnto, tabsOnto, annotationOnto, annotationsOnto, traitOnto, traitsOnto, markerOnto, endingOnto, closingOnto, linesOnto, conceptOnto, bodyOnto, sheetOnto, blankRule, annotationRule, traitRule, markerRule, lineRule, opensBlock, conceptRule, bodyRule, sheetRule}
 use Rattle.paper.specs.Entries.{Entry, valueWidth, itemEntries, moreEntries, itemSize, traitEntries, traitSize, traitName, traitValue, traitsSize, annotationEntries, conceptEntry, conceptSize, conceptWidth, markerName, markerOf, bodyStart, insideEntries, bodyEntries, noParent, rootStart, entries}
 use Rattle.paper.specs.Canonical.{ValueSense, quoted, letter, spelt, listed, ItemsSense, none, item, TraitSense, MarkerSense, ConceptSense, bare, around, saying, BodySense, empty, with, SheetSense, leafSense, valueSense, moreSense, markerSense, lineSense, annotationSense, conceptSense, bodySense, meaning, canonical}
-use Rattle.paper.specs.declared.Mode.the-variants.{Children, Content}
 use Rattle.paper.proofs.Lists.{both, all-head}
-use Rattle.paper.proofs.Concepts.{block-parts, element-parts}
+use Rattle.paper.proofs.Concepts.{element-parts}
 use Rattle.paper.proofs.ReadValues.{value-append}
 use Rattle.paper.proofs.Fronts.{Front, run-front, byte-front, blank-front, blanks-front, note-front, notes-front, trait-front, traits-front, marker-front, lines-front, whole-front, concept-ends, past-bytes, past-front, front-append}
 
@@ -214,49 +212,49 @@ module _ (s : List ℕ) where
   mutual
     unfolding insideEntries insideSenses conceptSense conceptOnto conceptRule
 
-    inside-tell : (m : Modes) (c : Concept) (own at tabs : ℕ) (rest : List ℕ) → conceptRule m c ≡ true → drop at s ≡ conceptOnto tabs c rest
+    inside-tell : (c : Concept) (own at tabs : ℕ) (rest : List ℕ) → conceptRule c ≡ true → drop at s ≡ conceptOnto tabs c rest
         → AllTell s (insideEntries own at tabs c) (insideSenses (conceptSense c))
-    inside-tell m (selfClosed k) own at tabs rest r e = marker-tells k at _ e own (both (markerRule k) _ r .0)
-    inside-tell m (children k end inner back) own at tabs rest r e =
-        let p = block-parts (markerRule k) (opensBlock k) (inMode Children m (k .name)) (blankRule end) (bodyRule m inner) r in
+    inside-tell (selfClosed k) own at tabs rest r e = marker-tells k at _ e own r
+    inside-tell (children k end inner back) own at tabs rest r e =
+        let p = element-parts (markerRule k) (opensBlock k) (blankRule end) (bodyRule inner) r in
         tell-append (marker-tells k at _ e own (p .0))
-        (body-tell m inner own (own + 1 + traitsSize (k .traits)) (bodyStart at k end) (tabsOnto back (closingOnto (k .name) rest)) (p .4)
+        (body-tell inner own (own + 1 + traitsSize (k .traits)) (bodyStart at k end) (tabsOnto back (closingOnto (k .name) rest)) (p .3)
         (past-opening k end at (bodyOnto inner (tabsOnto back (closingOnto (k .name) rest))) e))
-    inside-tell m (content k end them) own at tabs rest r e =
-        let p = block-parts (markerRule k) (opensBlock k) (inMode Content m (k .name)) (blankRule end) (all lineRule them) r in
+    inside-tell (content k end them) own at tabs rest r e =
+        let p = element-parts (markerRule k) (opensBlock k) (blankRule end) (all lineRule them) r in
         let behind = tabsOnto tabs (closingOnto (k .name) rest) in
         let start = past-opening k end at (linesOnto tabs them behind) e in
         tell-append (marker-tells k at _ e own (p .0))
         (tells {x = lines (map lineSense them)}
-        (refl, record { tabs = tabs; them = them; rule = p .4; is = sym (part-is s (bodyStart at k end) (linesOnto tabs them []) behind (start ∙ front-append (linesOnto tabs them) (lines-front tabs them) behind)); mean = refl })
+        (refl, record { tabs = tabs; them = them; rule = p .3; is = sym (part-is s (bodyStart at k end) (linesOnto tabs them []) behind (start ∙ front-append (linesOnto tabs them) (lines-front tabs them) behind)); mean = refl })
         none-left)
 
-    body-tell : (m : Modes) (b : Body) (parent next at : ℕ) (rest : List ℕ) → bodyRule m b ≡ true → drop at s ≡ bodyOnto b rest
+    body-tell : (b : Body) (parent next at : ℕ) (rest : List ℕ) → bodyRule b ≡ true → drop at s ≡ bodyOnto b rest
         → AllTell s (bodyEntries parent next at b) (bodySenses (bodySense b))
-    body-tell m done parent next at rest r e = none-left
-    body-tell m (blankLine b inner) parent next at rest r e =
-        body-tell m inner parent next (at + length (blankOnto b [])) rest (both (blankRule b) (bodyRule m inner) r .1) (past-front s at (blankOnto b) (bodyOnto inner rest) (blank-front b) e)
-    body-tell m (element notes tabs c end inner) parent next at rest r e =
-        let p = element-parts (all annotationRule notes) (conceptRule m c) (blankRule end) (bodyRule m inner) r in
+    body-tell done parent next at rest r e = none-left
+    body-tell (blankLine b inner) parent next at rest r e =
+        body-tell inner parent next (at + length (blankOnto b [])) rest (both (blankRule b) (bodyRule inner) r .1) (past-front s at (blankOnto b) (bodyOnto inner rest) (blank-front b) e)
+    body-tell (element notes tabs c end inner) parent next at rest r e =
+        let p = element-parts (all annotationRule notes) (conceptRule c) (blankRule end) (bodyRule inner) r in
         let more = blankOnto end (bodyOnto inner rest) in
         let start = at + length (annotationsOnto notes []) + tabs in
         let first = past-tabs tabs (at + length (annotationsOnto notes [])) (conceptOnto tabs c more) (past-front s at (annotationsOnto notes) (tabsOnto tabs (conceptOnto tabs c more)) (notes-front notes) e) in
         tell-append (notes-tell notes parent at (tabsOnto tabs (conceptOnto tabs c more)) e)
         (tells {x = named (nameIn (conceptSense c))} (refl, concept-named c start tabs more first)
-        (tell-append (inside-tell m c (next + length notes) start tabs more (p .1) first)
-        (body-tell m inner parent (next + length notes + conceptSize c) (start + conceptWidth tabs c + length (blankOnto end [])) rest (p .3)
+        (tell-append (inside-tell c (next + length notes) start tabs more (p .1) first)
+        (body-tell inner parent (next + length notes + conceptSize c) (start + conceptWidth tabs c + length (blankOnto end [])) rest (p .3)
         (past-front s (start + conceptWidth tabs c) (blankOnto end) (bodyOnto inner rest) (blank-front end)
         (past-front s start (conceptOnto tabs c) more (whole-front _ (concept-ends c tabs)) first)))))
 
 -- ---- a whole sheet
 
-pub entries-tell : (m : Modes) (t : Sheet) → sheetRule m t ≡ true → AllTell (sheetOnto t []) (entries t) (senses (meaning t))
+pub entries-tell : (t : Sheet) → sheetRule t ≡ true → AllTell (sheetOnto t []) (entries t) (senses (meaning t))
 unfolding sheetOnto sheetRule entries senses meaning
-entries-tell m t r =
+entries-tell t r =
     let s = sheetOnto t [] in
     let end = blanksOnto (t .after) (t .last ++ []) in
-    let p = both (all blankRule (t .before) && all annotationRule (t .annotations) && conceptRule m (t .root) && all blankRule (t .after)) (all isBlank (t .last)) r in
-    let q = element-parts (all blankRule (t .before)) (all annotationRule (t .annotations)) (conceptRule m (t .root)) (all blankRule (t .after)) (p .0) in
+    let p = both (all blankRule (t .before) && all annotationRule (t .annotations) && conceptRule (t .root) && all blankRule (t .after)) (all isBlank (t .last)) r in
+    let q = element-parts (all blankRule (t .before)) (all annotationRule (t .annotations)) (conceptRule (t .root)) (all blankRule (t .after)) (p .0) in
     let c = t .root in
     let line = tabsOnto (t .tabs) (conceptOnto (t .tabs) c end) in
     let start : length (blanksOnto (t .before) []) ≡ 0 + length (blanksOnto (t .before) []) = omega arith in
@@ -264,4 +262,4 @@ entries-tell m t r =
     let first = past-tabs s (t .tabs) _ (conceptOnto (t .tabs) c end) (past-front s (length (blanksOnto (t .before) [])) (annotationsOnto (t .annotations)) line (notes-front (t .annotations)) notes) in
     tell-append (notes-tell s (t .annotations) noParent (length (blanksOnto (t .before) [])) line notes)
     (tells {x = named (nameIn (conceptSense c))} (refl, concept-named s c (rootStart t) (t .tabs) end first)
-    (inside-tell s m c (length (t .annotations)) (rootStart t) (t .tabs) end (q .2) first))
+    (inside-tell s c (length (t .annotations)) (rootStart t) (t .tabs) end (q .2) first))

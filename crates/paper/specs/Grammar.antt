@@ -114,29 +114,47 @@ slashLast (t ∷ u ∷ ts) = slashLast (u ∷ ts)
 unfoldable pub opensBlock : Marker → Bool
 opensBlock k = not (eqb (length (k .white)) 0 && slashLast (k .traits))
 
-unfoldable pub inMode : Mode → Modes → List ℕ → Bool
-inMode Children m w = elim (modeOf m w) [ Children ↦ true | Content ↦ false | Absent ↦ false ]
-inMode Content m w = elim (modeOf m w) [ Children ↦ false | Content ↦ true | Absent ↦ false ]
-inMode Absent m w = elim (modeOf m w) [ Children ↦ false | Content ↦ false | Absent ↦ true ]
-
 -- text is not blanks only, and CR and LF are never text
 abbrev pub lineRule : Line → Bool
 lineRule (blank b) = blankRule b
 lineRule (text t end) = not (all isBlank t) && all (λ b. not (isLineEnd b)) t
 
 unfoldable mutual
-  pub conceptRule : Modes → Concept → Bool
-  conceptRule m (selfClosed k) = markerRule k && not (inMode Absent m (k .name))
-  conceptRule m (children k rest body back) = markerRule k && opensBlock k && inMode Children m (k .name) && blankRule rest && bodyRule m body
-  conceptRule m (content k rest lines) = markerRule k && opensBlock k && inMode Content m (k .name) && blankRule rest && all lineRule lines
+  pub conceptRule : Concept → Bool
+  conceptRule (selfClosed k) = markerRule k
+  conceptRule (children k rest body back) = markerRule k && opensBlock k && blankRule rest && bodyRule body
+  conceptRule (content k rest lines) = markerRule k && opensBlock k && blankRule rest && all lineRule lines
 
-  pub bodyRule : Modes → Body → Bool
-  bodyRule m done = true
-  bodyRule m (blankLine b body) = blankRule b && bodyRule m body
-  bodyRule m (element notes tabs c rest body) = all annotationRule notes && conceptRule m c && blankRule rest && bodyRule m body
+  pub bodyRule : Body → Bool
+  bodyRule done = true
+  bodyRule (blankLine b body) = blankRule b && bodyRule body
+  bodyRule (element notes tabs c rest body) = all annotationRule notes && conceptRule c && blankRule rest && bodyRule body
 
-unfoldable pub sheetRule : Modes → Sheet → Bool
-sheetRule m t = all blankRule (t .before) && all annotationRule (t .annotations) && conceptRule m (t .root) && all blankRule (t .after) && all isBlank (t .last)
+unfoldable pub sheetRule : Sheet → Bool
+sheetRule t = all blankRule (t .before) && all annotationRule (t .annotations) && conceptRule (t .root) && all blankRule (t .after) && all isBlank (t .last)
+
+-- ---- the modes of a tree
+
+unfoldable pub inMode : Mode → Modes → List ℕ → Bool
+inMode Children m w = elim (modeOf m w) [ Children ↦ true | Content ↦ false | Absent ↦ false ]
+inMode Content m w = elim (modeOf m w) [ Children ↦ false | Content ↦ true | Absent ↦ false ]
+inMode Absent m w = elim (modeOf m w) [ Children ↦ false | Content ↦ false | Absent ↦ true ]
+
+-- a Concept's body holds Concepts with their annotations, if its name is in children mode, and Content, if it is in content mode.
+-- One without a body has a name that the table lists
+unfoldable mutual
+  pub conceptModes : Modes → Concept → Bool
+  conceptModes m (selfClosed k) = not (inMode Absent m (k .name))
+  conceptModes m (children k rest body back) = inMode Children m (k .name) && bodyModes m body
+  conceptModes m (content k rest lines) = inMode Content m (k .name)
+
+  pub bodyModes : Modes → Body → Bool
+  bodyModes m done = true
+  bodyModes m (blankLine b body) = bodyModes m body
+  bodyModes m (element notes tabs c rest body) = conceptModes m c && bodyModes m body
+
+abbrev pub sheetModes : Modes → Sheet → Bool
+sheetModes m t = conceptModes m (t .root)
 
 -- ---- a derivation of a sheet under a mode table's modes
 
@@ -144,4 +162,5 @@ pub record Derives (m : Modes) (s : List ℕ) (t : Sheet) : Type 0 where
   pub scalars : List ℕ
   pub bytes : sheetBytes s ≡ found scalars []
   pub covers : sheetOnto t [] ≡ s
-  pub rule : sheetRule m t ≡ true
+  pub rule : sheetRule t ≡ true
+  pub modes : sheetModes m t ≡ true

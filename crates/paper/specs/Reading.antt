@@ -5,29 +5,27 @@ use mathlib.Core.Bool.{Bool, true, false, _&&_}
 use mathlib.Core.List.{List, [], _∷_, map}
 use lib.ListN.{length, drop, getD, replicate}
 use lib.Dec.{leb, ltb, eqb}
-use Rattle.paper.specs.declared.Mode.{Mode}
-use Rattle.paper.specs.declared.Mode.the-variants.{Children, Content, Absent}
+use Rattle.paper.specs.declared.Mode.the-variants.{Children, Absent}
 use Rattle.paper.specs.Answer.{Told, accepted, refused}
 use Rattle.paper.specs.Found.{Found, found, fault, andThen, Turn, over, stop, turnOf, manyOf, placeIn}
 use Rattle.paper.specs.Bytes.{byte, bytes, isUpper, isLower, isBlank, isWhite, isLineEnd, lengthIn, front, behind, elem, same, startsIn, startsWith, sheetBytes, lf, cr, tab, space}
 use Rattle.paper.specs.Names.{nameLimit, run, pastRun, isName}
-use Rattle.paper.specs.Modes.{Modes, modeTable, modeOf}
+use Rattle.paper.specs.Modes.{Modes, modeTable}
 use Rattle.paper.specs.Values.{is, upTo, onward}
-use Rattle.paper.specs.Tree.{LF, CRLF, Blank, Trait, Marker, Annotation, Line, blank, text, Concept, selfClosed, children, content, Body, done, blankLine, element, Sheet, Ending, block, self}
-use Rattle.paper.specs.Grammar.{tabsOnto, closingOnto}
+use Rattle.paper.specs.Tree.{LF, CRLF, Blank, Trait, Marker, Annotation, Line, blank, text, Concept, selfClosed, children, content, Body, done, Annotated, BodyPiece, blankPiece, elementPiece, before, Sheet, Ending, block, self}
+use Rattle.paper.specs.Grammar.{tabsOnto, closingOnto, inMode}
 use Rattle.paper.specs.Limits.{sheetLimit, entryLimit, conceptLimit, listLimit}
-use Rattle.paper.specs.Entries.{entryCells, itemEntries, traitSize, traitsSize, conceptSize, entries, filled}
+use Rattle.paper.specs.Entries.{entryCells, itemEntries, traitSize, traitsSize, bodySize, entries, filled}
 use Rattle.paper.specs.ReadingValues.{wholeValue}
 
--- what a sheet is read by: the modes of its table, and how long names and how deep lists may be
+-- how long names and how deep lists may be
 pub record Bounds : Type 0 where
-  pub modes : Modes
   pub names : ℕ
   pub lists : ℕ
 
--- the paper's own limits, under a table of these modes
-abbrev pub boundsOf : Modes → Bounds
-boundsOf m = record { modes = m; names = nameLimit; lists = listLimit }
+-- the paper's own limits
+abbrev pub bounds : Bounds
+bounds = record { names = nameLimit; lists = listLimit }
 
 -- ---- lines
 
@@ -154,13 +152,23 @@ opened by room w s =
     andThen (manyOf traitSize (traitTurn by) room s) (λ ts left. andThen (ending (behind isWhite left)) (λ e end.
     found (record { marker = record { name = w; traits = ts; white = front isWhite left }; ends = e }) end))
 
--- a Concept's name is judged in this order: the rule, the nesting, the table, the room
-unfoldable pub admitted : Bounds → ℕ → ℕ → List ℕ → List ℕ → List ℕ → List ℕ → Found Mode
-admitted by deeper room at s w left =
+-- a Concept's name is judged in this order: the rule, the nesting, the table, the room. s is the list from its "<" on
+unfoldable pub admitted : Modes → ℕ → ℕ → List ℕ → List ℕ → List ℕ → Found (List ℕ)
+admitted m deeper room s w left =
     elim deeper [
-      | zero ↦ fault 10 at
-      | suc fewer ↦ elim (modeOf (by .modes) w) [ Children ↦ makes room s Children left | Content ↦ makes room s Content left | Absent ↦ fault 5 s ]
+      | zero ↦ fault 10 s
+      | suc fewer ↦ elim (inMode Absent m w) [ true ↦ fault 5 (drop 1 s) | false ↦ makes room (drop 1 s) w left ]
     ]
+
+-- "<" and the name; what stands behind a name; and the whole opening marker
+abbrev pub head : Bounds → List ℕ → Found (List ℕ)
+head by s = andThen (due (byte "<") s) (λ b named. name (isName isUpper (by .names)) named)
+
+abbrev pub named : Modes → Bounds → ℕ → ℕ → List ℕ → List ℕ → List ℕ → Found Opened
+named m by deeper room s w left = andThen (admitted m deeper room s w left) (opened by (room - 1))
+
+abbrev pub opening : Modes → Bounds → ℕ → ℕ → List ℕ → Found Opened
+opening m by deeper room s = andThen (head by s) (named m by deeper room s)
 
 -- a closing marker behind its tabs: a closing name is only compared
 unfoldable pub closing : List ℕ → List ℕ → Found ℕ
@@ -207,53 +215,79 @@ contentOf tabs room k s =
 
 -- ---- Concepts
 
--- a Concept whose "<" is due, on a line of so many tabs, where so many may still be opened; and the body of one.
--- The fuel is above the length
-unfoldable mutual
-  pub concept : Bounds → ℕ → ℕ → ℕ → ℕ → List ℕ → Found Concept
-  concept by zero deeper room tabs s = fault 9 s
-  concept by (suc fuel) deeper room tabs s =
-      andThen (due (byte "<") s) (λ b named. andThen (name (isName isUpper (by .names)) named) (λ w left.
-      andThen (admitted by deeper room s named w left) (λ mode left. andThen (opened by (room - 1) w left) (λ o left.
-      elim (o .ends) [
-        | self ↦ found (selfClosed (o .marker)) left
-        | block ↦ elim mode [
-          | Children ↦ childrenOf by fuel (deeper - 1) (room - 1 - traitsSize (o .marker .traits)) (o .marker) left
-          | Content ↦ contentOf tabs (room - 1 - traitsSize (o .marker .traits)) (o .marker) left
-          | Absent ↦ fault 5 named
-        ]
-      ]))))
+-- what an opening marker leaves of the room
+abbrev pub roomIn : ℕ → Opened → ℕ
+roomIn room o = room - 1 - traitsSize (o .marker .traits)
 
-  pub childrenOf : Bounds → ℕ → ℕ → ℕ → Marker → List ℕ → Found Concept
-  childrenOf by zero deeper room k s = fault 9 s
-  childrenOf by (suc fuel) deeper room k s =
-      andThen (lineRest s) (λ rest start. andThen (body by fuel deeper room start) (λ inner left.
+-- what follows an opening marker: nothing, children if its name is in children mode, or else Content
+abbrev pub insideBy : Modes → (ℕ → ℕ → Marker → List ℕ → Found Concept) → ℕ → ℕ → ℕ → Opened → List ℕ → Found Concept
+insideBy m inner deeper room tabs o left =
+    elim (o .ends) [
+      | self ↦ found (selfClosed (o .marker)) left
+      | block ↦ elim (inMode Children m (o .marker .name)) [
+        | true ↦ inner (deeper - 1) (roomIn room o) (o .marker) left
+        | false ↦ contentOf tabs (roomIn room o) (o .marker) left
+      ]
+    ]
+
+-- annotations and their Concept, by how a Concept is read in a room on a line of so many tabs
+abbrev pub annotatedBy : (ℕ → ℕ → List ℕ → Found Concept) → ℕ → List ℕ → Found Annotated
+annotatedBy read room s =
+    andThen (annotations room s) (λ notes line.
+    andThen (read (room - length notes) (lengthIn isTab line) (behind isTab line)) (λ c left.
+    found (record { notes = notes; tabs = lengthIn isTab line; concept = c }) left))
+
+-- a blank line, or a Concept with its annotations and the rest of its line
+abbrev pub pieceBy : (ℕ → ℕ → List ℕ → Found Concept) → ℕ → List ℕ → Found BodyPiece
+pieceBy read room s =
+    elim (isBlankLine s) [
+      | true ↦ andThen (lineRest s) (λ b left. found (blankPiece b) left)
+      | false ↦ andThen (tabsOnly s) (λ tabs mark. andThen (annotatedBy read room s) (λ a left.
+          andThen (lineRest left) (λ rest end. found (elementPiece a rest) end)))
+    ]
+
+-- the line of a closing marker
+abbrev pub isClosing : List ℕ → Bool
+isClosing s = startsWith (bytes "</") (behind isTab s)
+
+-- a Concept whose "<" is due, on a line of so many tabs, where so many may still be opened; the children of one with its closing marker;
+-- and the pieces of its body. Only these and what reads a whole sheet ask for modes. The fuel is above the length
+unfoldable mutual
+  pub concept : Modes → Bounds → ℕ → ℕ → ℕ → ℕ → List ℕ → Found Concept
+  concept m by zero deeper room tabs s = fault 9 s
+  concept m by (suc fuel) deeper room tabs s =
+      andThen (opening m by deeper room s) (insideBy m (λ deeper room k left. childrenOf m by fuel deeper room k left) deeper room tabs)
+
+  pub childrenOf : Modes → Bounds → ℕ → ℕ → ℕ → Marker → List ℕ → Found Concept
+  childrenOf m by zero deeper room k s = fault 9 s
+  childrenOf m by (suc fuel) deeper room k s =
+      andThen (lineRest s) (λ rest start. andThen (body m by fuel deeper room start) (λ inner left.
       andThen (closing (k .name) (behind isTab left)) (λ b end. found (children k rest inner (lengthIn isTab left)) end)))
 
-  pub body : Bounds → ℕ → ℕ → ℕ → List ℕ → Found Body
-  body by zero deeper room s = fault 9 s
-  body by (suc fuel) deeper room s =
-      elim (isBlankLine s) [
-        | true ↦ andThen (lineRest s) (λ b left. andThen (body by fuel deeper room left) (λ inner end. found (blankLine b inner) end))
-        | false ↦ andThen (tabsOnly s) (λ tabs mark.
-            elim (startsWith (bytes "</") mark) [
-              | true ↦ found done s
-              | false ↦ andThen (annotations room s) (λ notes line.
-                  andThen (concept by fuel deeper (room - length notes) (lengthIn isTab line) (behind isTab line)) (λ c left.
-                  andThen (lineRest left) (λ rest left. andThen (body by fuel deeper (room - length notes - conceptSize c) left) (λ inner end.
-                  found (element notes (lengthIn isTab line) c rest inner) end))))
-            ])
+  pub body : Modes → Bounds → ℕ → ℕ → ℕ → List ℕ → Found Body
+  body m by zero deeper room s = fault 9 s
+  body m by (suc fuel) deeper room s =
+      elim (isClosing s) [
+        | true ↦ found done s
+        | false ↦ andThen (pieceBy (λ room tabs line. concept m by fuel deeper room tabs line) room s) (λ p left.
+            andThen (body m by fuel deeper (room - bodySize (before p done)) left) (λ inner end. found (before p inner) end))
       ]
 
 -- the same with fuel that is enough
-abbrev pub conceptOf : Bounds → ℕ → ℕ → ℕ → List ℕ → Found Concept
-conceptOf by deeper room tabs s = concept by (length s + 1) deeper room tabs s
+abbrev pub conceptOf : Modes → Bounds → ℕ → ℕ → ℕ → List ℕ → Found Concept
+conceptOf m by deeper room tabs s = concept m by (length s + 1) deeper room tabs s
 
-abbrev pub blockOf : Bounds → ℕ → ℕ → Marker → List ℕ → Found Concept
-blockOf by deeper room k s = childrenOf by (length s + 3) deeper room k s
+abbrev pub blockOf : Modes → Bounds → ℕ → ℕ → Marker → List ℕ → Found Concept
+blockOf m by deeper room k s = childrenOf m by (length s + 3) deeper room k s
 
-abbrev pub bodyOf : Bounds → ℕ → ℕ → List ℕ → Found Body
-bodyOf by deeper room s = body by (length s + 2) deeper room s
+abbrev pub bodyOf : Modes → Bounds → ℕ → ℕ → List ℕ → Found Body
+bodyOf m by deeper room s = body m by (length s + 2) deeper room s
+
+abbrev pub annotatedOf : Modes → Bounds → ℕ → ℕ → List ℕ → Found Annotated
+annotatedOf m by deeper room s = annotatedBy (conceptOf m by deeper) room s
+
+abbrev pub pieceOf : Modes → Bounds → ℕ → ℕ → List ℕ → Found BodyPiece
+pieceOf m by deeper room s = pieceBy (conceptOf m by deeper) room s
 
 -- ---- a whole sheet
 
@@ -262,12 +296,11 @@ unfoldable pub lastBlanks : List ℕ → List ℕ → Found (List ℕ)
 lastBlanks blanks [] = found blanks []
 lastBlanks blanks (b ∷ l) = fault 7 (b ∷ l)
 
-unfoldable pub sheetTree : Bounds → ℕ → ℕ → List ℕ → Found Sheet
-sheetTree by deeper room s =
-    andThen (blankLines s) (λ before first. andThen (tabsOnly first) (λ tabs mark. andThen (annotations room first) (λ notes line.
-    andThen (conceptOf by deeper (room - length notes) (lengthIn isTab line) (behind isTab line)) (λ c left.
+unfoldable pub sheetTree : Modes → Bounds → ℕ → ℕ → List ℕ → Found Sheet
+sheetTree m by deeper room s =
+    andThen (blankLines s) (λ before first. andThen (tabsOnly first) (λ tabs mark. andThen (annotatedOf m by deeper room first) (λ a left.
     andThen (blankLines left) (λ after left. andThen (lastBlanks (front isBlank left) (behind isBlank left)) (λ last end.
-    found (record { before = before; annotations = notes; tabs = lengthIn isTab line; root = c; after = after; last = last }) end))))))
+    found (record { before = before; annotations = a .notes; tabs = a .tabs; root = a .concept; after = after; last = last }) end)))))
 
 -- the room of so many cells, in entries
 abbrev pub roomOf : ℕ → ℕ
@@ -275,7 +308,11 @@ roomOf lent = min (lent / entryCells) entryLimit
 
 -- the faults of a sheet under a valid table, in the paper's order: 2, 3, then 4 to 11
 unfoldable pub sheetOf : Modes → ℕ → List ℕ → Found Sheet
-sheetOf m room s = elim (ltb sheetLimit (length s)) [ true ↦ fault 2 (drop sheetLimit s) | false ↦ andThen (sheetBytes s) (λ vs left. sheetTree (boundsOf m) conceptLimit room s) ]
+sheetOf m room s = elim (ltb sheetLimit (length s)) [
+  | true ↦ fault 2 (drop sheetLimit s)
+  | false ↦ andThen (sheetBytes s)
+      (λ vs left. sheetTree m bounds conceptLimit room s)
+]
 
 -- the answer, and every lent cell at exit: a refusal leaves all of them zero
 pub record Reading : Type 0 where

@@ -51,6 +51,21 @@ mutual
     blankLine : Blank → Body → Body
     element : List Annotation → ℕ → Concept → Blank → Body → Body
 
+-- a Concept with its annotations and the tabs of its line
+pub record Annotated : Type 0 where
+  pub notes : List Annotation
+  pub tabs : ℕ
+  pub concept : Concept
+
+-- one piece of a children body, in front of the others: a blank line, or an element
+pub data BodyPiece : Type 0 where
+  blankPiece : Blank → BodyPiece
+  elementPiece : Annotated → Blank → BodyPiece
+
+abbrev pub before : BodyPiece → Body → Body
+before (blankPiece b) body = blankLine b body
+before (elementPiece a rest) body = element (a .notes) (a .tabs) (a .concept) rest body
+
 -- blank lines, the root's annotations, tabs and Concept, the rest of its line and blank lines, and what the end of input cuts
 pub record Sheet : Type 0 where
   pub before : List Blank

@@ -1,6 +1,6 @@
--- A Concept with its annotations: what reading both finds, and a law for each way out of the function that reads and enters both.
+-- A Concept with its annotations: a law for each way out of the function that reads and enters both.
 -- Over plain lists. Assumes nothing.
-use Prim.Native.Nat.{ℕ, _+_, _-_, _≤_, _<_}
+use Prim.Native.Nat.{ℕ, _+_, _-_, _≤_}
 use mathlib.Core.Path.{_≡_, refl, sym, ap, _∙_}
 use mathlib.Core.List.{List, []}
 use native.Mathlib.Omega.{arith}
@@ -9,17 +9,15 @@ use Rattle.paper.specs.declared.Refusal.{Refusal}
 use Rattle.paper.specs.Found.{Found, found, andThen}
 use Rattle.paper.specs.Bytes.{lengthIn, behind}
 use Rattle.paper.specs.Modes.{Modes}
-use Rattle.paper.specs.Tree.{Annotation, Concept}
-use Rattle.paper.specs.Grammar.{tabsOnto, annotationsOnto, conceptOnto}
+use Rattle.paper.specs.Tree.{Annotation, Concept, Annotated}
+use Rattle.paper.specs.Grammar.{annotationsOnto}
 use Rattle.paper.specs.Entries.{Entry, annotationEntries, conceptSize}
-use Rattle.paper.specs.Reading.{isTab, annotations, conceptOf, boundsOf}
-use Rattle.paper.proofs.Finds.{tail-drop, Reads, reads-in, reads-then, reads-map}
-use Rattle.paper.proofs.Lines.{tabs-covers}
+use Rattle.paper.specs.Reading.{isTab, annotations, conceptOf, annotatedOf, bounds}
 use Rattle.paper.proofs.Annotations.{ReadAnnotations, annotations-reads}
-use Rattle.paper.proofs.Widths.{tabs-wide, annotations-wide, concept-wide}
 use Rattle.paper.proofs.Concepts.{ReadConcept, concept-reads}
 use Rattle.paper.proofs.Sizes.{notes-size}
 use Rattle.text.proofs.Stretch.{Stretch, behind-at}
+use Rattle.modes.specs.Table.{modesOf}
 use Rattle.entries.specs.Laid.{lay, slotAfter}
 use Rattle.entries.specs.declared.Slot.{Slot}
 use Rattle.entries.proofs.Laying.{lay-append}
@@ -30,54 +28,18 @@ use Rattle.lines.specs.declared.part.Part.the-variants.{Read, Refused}
 use Rattle.lines.proofs.Crossing.{FoundAt, found-at, makes-passed, makes-read}
 use Rattle.lines.proofs.Lengths.{notes-long}
 use Rattle.lines.proofs.NoteRuns.{All}
-use Rattle.sheets.specs.Concepts.{Stands, wholeConcept, Annotated, annotatedOf, annotatedSize, annotatedCount, annotatedEntries}
+use Rattle.sheets.specs.Concepts.{Ready, wholeConcept, ReadsConcept, annotatedEntries, ReadsAnnotated}
 use Rattle.sheets.proofs.Slots.{stands-on}
-
--- ---- what reading finds
-
-pub record ReadAnnotated (room : ℕ) (s : List ℕ) (a : Annotated) (left : List ℕ) : Type 0 where
-  pub covers : s ≡ annotationsOnto (a .notes) (tabsOnto (a .tabs) (conceptOnto (a .tabs) (a .concept) left))
-  pub fits : annotatedSize a ≤ room
-  pub shorter : length left < length s
-
-pub annotated-reads : (m : Modes) (deeper room : ℕ) (s : List ℕ) → Reads s (λ a left. ReadAnnotated room s a left) (annotatedOf m deeper room s)
-unfolding annotatedOf
-annotated-reads m deeper room s =
-    reads-then s (λ notes line. ReadAnnotations room s notes line) (λ a left. ReadAnnotated room s a left) _ (annotations room s) (annotations-reads room s)
-    (λ notes line n.
-    let tabs = lengthIn isTab line in
-    let fewer = room - length notes in
-    let mark = behind isTab line in
-    reads-map line (λ c left. ReadConcept (boundsOf m) deeper fewer tabs mark c left) (λ a left. ReadAnnotated room s a left) (λ c. record { notes = notes; tabs = tabs; concept = c })
-    (conceptOf (boundsOf m) deeper fewer tabs mark)
-    (reads-in (tail-drop tabs line) _ (conceptOf (boundsOf m) deeper fewer tabs mark) (concept-reads (boundsOf m) (length mark + 1) deeper fewer tabs mark))
-    (λ c left k.
-    let e : s ≡ annotationsOnto notes (tabsOnto tabs (conceptOnto tabs c left)) = n .covers ∙ ap (annotationsOnto notes) (tabs-covers line ∙ ap (tabsOnto tabs) (k .covers)) in
-    record {
-      covers = e;
-      fits = omega (arith, n .fits, k .fits);
-      shorter = omega (arith, ap length e, annotations-wide notes (tabsOnto tabs (conceptOnto tabs c left)), tabs-wide tabs (conceptOnto tabs c left), concept-wide c tabs left);
-    }))
-
--- ---- the ways out
 
 -- what is read behind the annotations
 abbrev onward : Modes → ℕ → ℕ → List Annotation → List ℕ → Found Annotated
 onward m deeper room notes line =
-    andThen (conceptOf (boundsOf m) deeper (room - length notes) (lengthIn isTab line) (behind isTab line)) (λ c left.
+    andThen (conceptOf m bounds deeper (room - length notes) (lengthIn isTab line) (behind isTab line)) (λ c left.
     found (record { notes = notes; tabs = lengthIn isTab line; concept = c }) left)
-
-by-notes : (m : Modes) (deeper room : ℕ) (s : List ℕ) → annotatedOf m deeper room s ≡ andThen (annotations room s) (onward m deeper room)
-unfolding annotatedOf
-by-notes m deeper room s = refl
-
-abbrev Annotates : List ℕ → ℕ → List ℕ → Slot → Modes → ℕ → Part → List ℕ → Type 0
-Annotates s at cells slot m deeper r after =
-    Makes annotatedSize annotatedCount (annotatedEntries (slot .parent) (slot .next) at) s cells (slot .next) (annotatedOf m deeper (slot .room - slot .next) (drop at s)) r after
 
 -- annotations that are read from a place to the start of a line, and entered
 pub record NotesAt (table s : List ℕ) (at : ℕ) (cells : List ℕ) (slot : Slot) (mid : List ℕ) (line made : ℕ) : Type 0 where
-  pub stands : Stands table s at cells slot
+  pub stands : Ready table s at cells slot
   pub it : List Annotation
   pub finds : annotations (slot .room - slot .next) (drop at s) ≡ found it (drop line s)
   pub covers : drop at s ≡ annotationsOnto it (drop line s)
@@ -87,12 +49,13 @@ pub record NotesAt (table s : List ℕ) (at : ℕ) (cells : List ℕ) (slot : Sl
   pub inside : line ≤ length s
   pub laid : mid ≡ lay cells (slot .next) (annotationEntries (slot .parent) at it)
 
-module _ {table s : List ℕ} {at : ℕ} {cells : List ℕ} {slot : Slot} (h : Stands table s at cells slot) {notes : Part} {mid : List ℕ} (n : All s at cells slot notes mid) where
-  pub notes-refused : (m : Modes) (deeper : ℕ) {why : Refusal} {place : ℕ} → notes ≡ Refused why place → Annotates s at cells slot m deeper notes mid
-  notes-refused m deeper {why} {place} q =
+module _ {table s : List ℕ} {at : ℕ} {cells : List ℕ} {slot : Slot} (h : Ready table s at cells slot) {notes : Part} {mid : List ℕ}
+    (n : All s at cells slot notes mid) where
+  pub notes-refused : (deeper : ℕ) {why : Refusal} {place : ℕ} → notes ≡ Refused why place → ReadsAnnotated table s at deeper cells slot notes mid
+  notes-refused deeper {why} {place} q =
       let room = slot .room - slot .next in
-      makes-passed annotatedSize annotatedCount (annotatedEntries (slot .parent) (slot .next) at) s cells (slot .next) (annotatedOf m deeper room (drop at s)) notes mid
-      length length (λ x. andThen x (onward m deeper room)) (λ k left. refl) (annotations room (drop at s)) why place (n .says) q (by-notes m deeper room (drop at s))
+      makes-passed _ _ _ _ _ _ _ notes mid length length (λ x. andThen x (onward (modesOf table) deeper room)) (λ k left. refl)
+      (annotations room (drop at s)) why place (n .says) q refl
 
   pub notes-at : {line made own : ℕ} → notes ≡ Read line made own → NotesAt table s at cells slot mid line made
   notes-at {line} {made} {own} q =
@@ -116,11 +79,13 @@ module _ {table s : List ℕ} {at : ℕ} {cells : List ℕ} {slot : Slot} {mid :
   abbrev room : ℕ
   room = slot .room - slot .next
 
-  pub concept-stands : length mid ≡ length cells → Stands table s mark mid next
+  pub concept-stands : length mid ≡ length cells → Ready table s mark mid next
   concept-stands e = stands-on (n .stands) (run .2) (fits-after made (n .stands .fits) e (n .few) lends)
 
-  module _ (m : Modes) (deeper : ℕ) {r : Part} {after : List ℕ}
-      (k : Makes conceptSize (λ c. 1) (wholeConcept (next .parent) (next .next) mark (mark - line)) s mid (next .next) (conceptOf (boundsOf m) deeper (next .room - next .next) (mark - line) (drop mark s)) r after) where
+  module _ (deeper : ℕ) {r : Part} {after : List ℕ} (k : ReadsConcept table s mark (mark - line) deeper mid next r after) where
+    abbrev m : Modes
+    m = modesOf table
+
     abbrev noted : List Annotation
     noted = n .it
 
@@ -131,7 +96,7 @@ module _ {table s : List ℕ} {at : ℕ} {cells : List ℕ} {slot : Slot} {mid :
     start = at + length (annotationsOnto noted []) + tabs
 
     abbrev reading : Found Concept
-    reading = conceptOf (boundsOf m) deeper (room - length noted) tabs (drop mark s)
+    reading = conceptOf m bounds deeper (room - length noted) tabs (drop mark s)
 
     abbrev with-notes : Concept → Annotated
     with-notes c = record { notes = noted; tabs = tabs; concept = c }
@@ -145,25 +110,28 @@ module _ {table s : List ℕ} {at : ℕ} {cells : List ℕ} {slot : Slot} {mid :
         go (slot .next + made) (slot .room - (slot .next + made)) mark (mark - line) (omega (arith, n .many)) (omega (arith, n .many)) starts (omega (arith, run .0)) (rw lends at k)
       where
         go : (number left place back : ℕ) → number ≡ slot .next + length noted → left ≡ room - length noted → place ≡ start → back ≡ tabs
-            → Makes conceptSize (λ c. 1) (wholeConcept (slot .parent) number place back) s mid number (conceptOf (boundsOf m) deeper left back (drop mark s)) r after
+            → Makes conceptSize (λ c. 1) (wholeConcept (slot .parent) number place back) s mid number
+            (conceptOf m bounds deeper left back (drop mark s)) r after
             → Makes conceptSize (λ c. 1) (wholeConcept (slot .parent) (slot .next + length noted) start tabs) s mid (slot .next + length noted) reading r after
         go number left place back a b c d made = rw (a, b, c, d) at made
 
-    by-concept : annotatedOf m deeper room (drop at s) ≡ andThen reading (λ c left. found (with-notes c) left)
+    by-concept : annotatedOf m bounds deeper room (drop at s) ≡ andThen reading (λ c left. found (with-notes c) left)
     by-concept =
-        by-notes m deeper room (drop at s) ∙ ap (λ (x : Found (List Annotation)). andThen x (onward m deeper room)) (n .finds)
-        ∙ ap (λ (l : List ℕ). andThen (conceptOf (boundsOf m) deeper (room - length noted) tabs l) (λ c left. found (with-notes c) left)) (behind-at isTab s line mark run)
+        ap (λ (x : Found (List Annotation)). andThen x (onward m deeper room)) (n .finds)
+        ∙ ap (λ (l : List ℕ). andThen (conceptOf m bounds deeper (room - length noted) tabs l) (λ c left. found (with-notes c) left))
+        (behind-at isTab s line mark run)
 
-    pub concept-refused : {why : Refusal} {place : ℕ} → r ≡ Refused why place → Annotates s at cells slot m deeper r after
+    pub concept-refused : {why : Refusal} {place : ℕ} → r ≡ Refused why place → ReadsAnnotated table s at deeper cells slot r after
     concept-refused {why} {place} e =
-        makes-passed annotatedSize annotatedCount (annotatedEntries (slot .parent) (slot .next) at) s cells (slot .next) (annotatedOf m deeper room (drop at s)) r after
-        conceptSize (λ c. 1) (λ x. andThen x (λ c left. found (with-notes c) left)) (λ j left. refl) reading why place (made-concept .says) e by-concept
+        makes-passed _ _ _ _ _ _ _ r after conceptSize (λ c. 1) (λ x. andThen x (λ c left. found (with-notes c) left)) (λ j left. refl) reading why place
+        (made-concept .says) e by-concept
 
     module _ {end inside mine : ℕ} (e : r ≡ Read end inside mine) where
-      the-concept : FoundAt conceptSize (λ c. 1) (λ c left. ReadConcept (boundsOf m) deeper (room - length noted) tabs (drop mark s) c left) s mark reading end inside mine
+      the-concept : FoundAt conceptSize (λ c. 1)
+          (λ c left. ReadConcept m bounds deeper (room - length noted) tabs (drop mark s) c left) s mark reading end inside mine
       the-concept =
           found-at conceptSize (λ c. 1) s r _ mark reading end inside mine (made-concept .says)
-          (concept-reads (boundsOf m) (length (drop mark s) + 1) deeper (room - length noted) tabs (drop mark s)) (run .2) e
+          (concept-reads m bounds (length (drop mark s) + 1) deeper (room - length noted) tabs (drop mark s)) (run .2) e
 
       pub all-few : slot .next + made + inside ≤ slot .room
       all-few = omega (arith, n .few, n .many, the-concept .many, the-concept .holds .fits)
@@ -177,8 +145,8 @@ module _ {table s : List ℕ} {at : ℕ} {cells : List ℕ} {slot : Slot} {mid :
           ∙ ap (λ (i : ℕ). lay (lay cells (slot .next) first) (slot .next + i) others) (sym (notes-size noted (slot .parent) at))
           ∙ lay-append cells (slot .next) first others
 
-      pub annotated-read : Annotates s at cells slot m deeper (Read end (made + inside) (made + 1)) after
+      pub annotated-read : ReadsAnnotated table s at deeper cells slot (Read end (made + inside) (made + 1)) after
       annotated-read =
-          makes-read annotatedSize annotatedCount (annotatedEntries (slot .parent) (slot .next) at) s cells (slot .next) (annotatedOf m deeper room (drop at s)) (Read end (made + inside) (made + 1)) after
-          (with-notes (the-concept .it)) end (made + inside) (made + 1) refl (the-concept .inside)
+          makes-read _ _ _ _ _ _ _ (Read end (made + inside) (made + 1)) after (with-notes (the-concept .it)) end (made + inside) (made + 1) refl
+          (the-concept .inside)
           (by-concept ∙ ap (λ (x : Found Concept). andThen x (λ c left. found (with-notes c) left)) (the-concept .finds)) (omega (arith, n .many, the-concept .many)) (omega (arith, n .many)) laid

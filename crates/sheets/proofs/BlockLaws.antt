@@ -8,10 +8,11 @@ use lib.ListN.{length, drop, length-drop}
 use Rattle.paper.specs.declared.Refusal.{Refusal}
 use Rattle.paper.specs.Found.{Found, found, andThen}
 use Rattle.paper.specs.Bytes.{lengthIn, behind}
+use Rattle.paper.specs.Modes.{Modes}
 use Rattle.paper.specs.Tree.{Blank, Marker, Concept, children, Body}
 use Rattle.paper.specs.Grammar.{blankOnto, closingOnto}
 use Rattle.paper.specs.Entries.{bodySize, bodyCount, bodyEntries}
-use Rattle.paper.specs.Reading.{Bounds, isTab, lineRest, closing, blockOf, bodyOf}
+use Rattle.paper.specs.Reading.{bounds, isTab, lineRest, closing, blockOf, bodyOf}
 use Rattle.paper.proofs.Markers.{closing-reads}
 use Rattle.paper.proofs.Concepts.{ReadBody, body-reads}
 use Rattle.paper.proofs.Fuel.{block-of}
@@ -24,50 +25,52 @@ use Rattle.lines.specs.declared.part.Part.the-variants.{Read, Refused}
 use Rattle.lines.proofs.Crossing.{found-at, makes-passed, makes-read}
 use Rattle.lines.proofs.Ends.{RestAt}
 use Rattle.lines.proofs.Lengths.{blank-long}
-use Rattle.sheets.specs.Concepts.{Stands, insideSize, insideCount, bodyOfConcept}
+use Rattle.sheets.specs.Concepts.{Ready, InsideAt}
 
 -- what is read behind the lines of a body, and with them
 abbrev closed : Marker → Blank → Body → List ℕ → Found Concept
 closed k rest inner left = andThen (closing (k .name) (behind isTab left)) (λ b end. found (children k rest inner (lengthIn isTab left)) end)
 
-abbrev bodied : Bounds → ℕ → ℕ → Marker → Blank → List ℕ → Found Concept
-bodied by deeper room k rest start = andThen (bodyOf by deeper room start) (closed k rest)
-
--- what the block of a marker makes, whose line has so many tabs
-abbrev Blocks : List ℕ → ℕ → List ℕ → Slot → Bounds → ℕ → Marker → ℕ → Part → List ℕ → Type 0
-Blocks s at cells slot by deeper k tabs r after =
-    Makes insideSize insideCount (bodyOfConcept (slot .parent) (slot .next) tabs at) s cells (slot .next) (blockOf by deeper (slot .room - slot .next) k (drop at s)) r after
+abbrev bodied : Modes → ℕ → ℕ → Marker → Blank → List ℕ → Found Concept
+bodied m deeper room k rest start = andThen (bodyOf m bounds deeper room start) (closed k rest)
 
 -- children that are read up to the line of a closing marker, and entered
-pub record BodyAt (s : List ℕ) (at : ℕ) (cells : List ℕ) (slot : Slot) (by : Bounds) (deeper : ℕ) (after : List ℕ) (line made own : ℕ) : Type 0 where
+pub record BodyAt (s : List ℕ) (at : ℕ) (cells : List ℕ) (slot : Slot) (m : Modes) (deeper : ℕ) (after : List ℕ) (line made own : ℕ) : Type 0 where
   pub rest : Blank
   pub it : Body
-  pub finds : (k : Marker) → blockOf by deeper (slot .room - slot .next) k (drop at s) ≡ closed k rest it (drop line s)
+  pub finds : (k : Marker) → blockOf m bounds deeper (slot .room - slot .next) k (drop at s) ≡ closed k rest it (drop line s)
   pub many : bodySize it ≡ made
   pub owned : bodyCount it ≡ own
   pub inside : line ≤ length s
   pub laid : after ≡ lay cells (slot .next) (bodyEntries (slot .parent) (slot .next) (at + length (blankOnto rest [])) it)
 
-module _ {table s : List ℕ} {at : ℕ} {cells : List ℕ} {slot : Slot} (h : Stands table s at cells slot) (by : Bounds) (deeper : ℕ) where
+module _ {table s : List ℕ} {at : ℕ} {cells : List ℕ} {slot : Slot} (h : Ready table s at cells slot) (m : Modes) (deeper : ℕ) where
   abbrev room : ℕ
   room = slot .room - slot .next
 
-  pub rest-refused : (k : Marker) (tabs : ℕ) (r : Part) → seen r ≡ passed s (lineRest (drop at s)) → {why : Refusal} {place : ℕ} → r ≡ Refused why place → Blocks s at cells slot by deeper k tabs r cells
+  pub rest-refused : (k : Marker) (tabs : ℕ) (r : Part) → seen r ≡ passed s (lineRest (drop at s)) → {why : Refusal} {place : ℕ} → r ≡ Refused why place
+      → InsideAt s at tabs cells slot (blockOf m bounds deeper (slot .room - slot .next) k (drop at s)) r cells
   rest-refused k tabs r e {why} {place} q =
-      makes-passed _ _ _ _ _ _ _ r cells (λ b. 0) (λ b. 0) (λ x. andThen x (bodied by deeper room k)) (λ n left. refl) (lineRest (drop at s)) why place e q (block-of by deeper room k (drop at s))
+      makes-passed _ _ _ _ _ _ _ r cells (λ b. 0) (λ b. 0) (λ x. andThen x (bodied m deeper room k)) (λ n left. refl) (lineRest (drop at s)) why place e q
+      (block-of m bounds deeper room k (drop at s))
 
   module _ {start : ℕ} (rest : RestAt s at start) {body : Part} {after : List ℕ}
-      (b : Makes bodySize bodyCount (bodyEntries (slot .parent) (slot .next) start) s cells (slot .next) (bodyOf by deeper room (drop start s)) body after) where
-    by-rest : (k : Marker) → blockOf by deeper room k (drop at s) ≡ bodied by deeper room k (rest .it) (drop start s)
-    by-rest k = block-of by deeper room k (drop at s) ∙ ap (λ (x : Found Blank). andThen x (bodied by deeper room k)) (rest .finds)
+      (b : Makes bodySize bodyCount (bodyEntries (slot .parent) (slot .next) start) s cells (slot .next)
+      (bodyOf m bounds deeper room (drop start s)) body after) where
+    by-rest : (k : Marker) → blockOf m bounds deeper room k (drop at s) ≡ bodied m deeper room k (rest .it) (drop start s)
+    by-rest k = block-of m bounds deeper room k (drop at s) ∙ ap (λ (x : Found Blank). andThen x (bodied m deeper room k)) (rest .finds)
 
-    pub body-refused : (k : Marker) (tabs : ℕ) {why : Refusal} {place : ℕ} → body ≡ Refused why place → Blocks s at cells slot by deeper k tabs body after
+    pub body-refused : (k : Marker) (tabs : ℕ) {why : Refusal} {place : ℕ} → body ≡ Refused why place
+        → InsideAt s at tabs cells slot (blockOf m bounds deeper (slot .room - slot .next) k (drop at s)) body after
     body-refused k tabs {why} {place} q =
-        makes-passed _ _ _ _ _ _ _ body after bodySize bodyCount (λ x. andThen x (closed k (rest .it))) (λ n left. refl) (bodyOf by deeper room (drop start s)) why place (b .says) q (by-rest k)
+        makes-passed _ _ _ _ _ _ _ body after bodySize bodyCount (λ x. andThen x (closed k (rest .it))) (λ n left. refl)
+        (bodyOf m bounds deeper room (drop start s)) why place (b .says) q (by-rest k)
 
-    pub body-at : {line made own : ℕ} → body ≡ Read line made own → BodyAt s at cells slot by deeper after line made own
+    pub body-at : {line made own : ℕ} → body ≡ Read line made own → BodyAt s at cells slot m deeper after line made own
     body-at {line} {made} {own} q =
-        let f = found-at bodySize bodyCount s body (λ inner left. ReadBody by deeper room (drop start s) inner left) start (bodyOf by deeper room (drop start s)) line made own (b .says) (body-reads by (length (drop start s) + 2) deeper room (drop start s)) (rest .inside) q in
+        let f = found-at bodySize bodyCount s body (λ inner left. ReadBody m bounds deeper room (drop start s) inner left) start
+        (bodyOf m bounds deeper room (drop start s)) line made own (b .says)
+        (body-reads m bounds (length (drop start s) + 2) deeper room (drop start s)) (rest .inside) q in
         let starts : start ≡ at + length (blankOnto (rest .it) []) = omega (arith, ap length (rest .covers), blank-long (rest .it) (drop start s), length-drop at s, length-drop start s, rest .ahead, rest .inside) in
         record {
           rest = rest .it;
@@ -80,19 +83,22 @@ module _ {table s : List ℕ} {at : ℕ} {cells : List ℕ} {slot : Slot} (h : S
         }
 
 -- the closing marker of a Concept of this name, whose tabs end at a mark
-module _ {s : List ℕ} {at : ℕ} {cells : List ℕ} {slot : Slot} {by : Bounds} {deeper : ℕ} {after : List ℕ} {line made own : ℕ} (body : BodyAt s at cells slot by deeper after line made own)
+module _ {s : List ℕ} {at : ℕ} {cells : List ℕ} {slot : Slot} {m : Modes} {deeper : ℕ} {after : List ℕ} {line made own : ℕ}
+    (body : BodyAt s at cells slot m deeper after line made own)
     {mark : ℕ} (run : Stretch isTab s line mark) (k : Marker) {w : List ℕ} (named : k .name ≡ w) (tabs : ℕ) (last : Part) (e : seen last ≡ passed s (closing w (drop mark s))) where
   abbrev whole : Concept
   whole = children k (body .rest) (body .it) (lengthIn isTab (drop line s))
 
-  by-body : blockOf by deeper (slot .room - slot .next) k (drop at s) ≡ andThen (closing w (drop mark s)) (λ b end. found whole end)
+  by-body : blockOf m bounds deeper (slot .room - slot .next) k (drop at s) ≡ andThen (closing w (drop mark s)) (λ b end. found whole end)
   by-body = body .finds k ∙ rw (named, behind-at isTab s line mark run)
 
-  pub closing-refused : {why : Refusal} {place : ℕ} → last ≡ Refused why place → Blocks s at cells slot by deeper k tabs last after
+  pub closing-refused : {why : Refusal} {place : ℕ} → last ≡ Refused why place
+      → InsideAt s at tabs cells slot (blockOf m bounds deeper (slot .room - slot .next) k (drop at s)) last after
   closing-refused {why} {place} q =
       makes-passed _ _ _ _ _ _ _ last after (λ b. 0) (λ b. 0) (λ x. andThen x (λ b end. found whole end)) (λ n left. refl) (closing w (drop mark s)) why place e q by-body
 
-  pub block-read : {end none few : ℕ} → last ≡ Read end none few → Blocks s at cells slot by deeper k tabs (Read end made own) after
+  pub block-read : {end none few : ℕ} → last ≡ Read end none few
+      → InsideAt s at tabs cells slot (blockOf m bounds deeper (slot .room - slot .next) k (drop at s)) (Read end made own) after
   block-read {end} {none} {few} q =
       let f = found-at (λ b. 0) (λ b. 0) s last (λ b left. drop mark s ≡ closingOnto w left) mark (closing w (drop mark s)) end none few e (closing-reads w (drop mark s)) (run .2) q in
       makes-read _ _ _ _ _ _ _ (Read end made own) after whole end made own refl (f .inside) (by-body ∙ ap (λ (x : Found ℕ). andThen x (λ b end. found whole end)) (f .finds)) (sym (body .many)) (sym (body .owned)) (body .laid)

@@ -7,18 +7,19 @@ use lib.ListN.{length, drop, length-drop}
 use lib.Seq.{drop-drop}
 use borrow.Author.Tests.{eq-eqb, ne-eqb}
 use Rattle.paper.specs.declared.Refusal.{Refusal}
-use Rattle.paper.specs.declared.Mode.{Mode}
+use Rattle.paper.specs.declared.Mode.the-variants.{Children}
 use Rattle.paper.specs.Found.{Found, found, fault, andThen}
 use Rattle.paper.specs.Bytes.{byte}
+use Rattle.paper.specs.Modes.{Modes}
 use Rattle.paper.specs.Tree.{Trait, Marker, Ending, block, self, Concept, selfClosed, children, content}
-use Rattle.paper.specs.Grammar.{blankOnto, traitsOnto, markerOnto, endingOnto, linesOnto}
+use Rattle.paper.specs.Grammar.{blankOnto, traitsOnto, markerOnto, endingOnto, linesOnto, inMode}
 use Rattle.paper.specs.Entries.{Entry, unnamed, traitsSize, traitEntries, conceptSize, conceptCount, markerOf, conceptForm, conceptWidth, markerName, conceptEntry, bodyStart, insideEntries, bodyEntries}
-use Rattle.paper.specs.Reading.{contentOf, conceptOf, blockOf, boundsOf}
+use Rattle.paper.specs.Reading.{Opened as Marked, opening, contentOf, roomIn, conceptOf, blockOf, bounds}
 use Rattle.paper.proofs.Finds.{Reads}
 use Rattle.paper.proofs.Widths.{marker-wide}
 use Rattle.paper.proofs.Sizes.{traits-size}
 use Rattle.paper.proofs.Content.{ReadContent, content-reads}
-use Rattle.paper.proofs.Concepts.{ReadConcept, concept-reads, Opens as Leads}
+use Rattle.paper.proofs.Concepts.{Opens as Leads, opening-reads, ReadConcept, concept-reads}
 use Rattle.modes.specs.Table.{modesOf}
 use Rattle.entries.specs.Laid.{lay, slotAfter, slotUnder}
 use Rattle.entries.specs.declared.Slot.{Slot}
@@ -31,25 +32,24 @@ use Rattle.lines.proofs.Crossing.{FoundAt, found-at, makes-passed, makes-read}
 use Rattle.lines.proofs.ReadAt.{part-is}
 use Rattle.sheets.specs.declared.opening.Opening.{Opening}
 use Rattle.sheets.specs.declared.opening.Opening.the-variants.{Opened, Refused}
-use Rattle.sheets.specs.Opening.{Marked, markedOf, formIn, partOf, madeBy, traitsIn, enteredBy, Opens}
-use Rattle.sheets.specs.Concepts.{Stands, wholeConcept, endedBy, cellsEnded, Ends, insideOf, insideSize, insideCount, bodyOfConcept}
+use Rattle.sheets.specs.Opening.{partOf, madeBy, traitsIn, enteredBy, ReadsOpening}
+use Rattle.sheets.specs.Concepts.{Ready, ReadsConcept, endedBy, cellsEnded, Ends, insideOf, insideSize, insideCount, bodyOfConcept, InsideAt, ReadsInside}
 use Rattle.sheets.proofs.Slots.{stands-on}
 use Rattle.sheets.proofs.Lengths.{marker-long, concept-long, body-few}
-use Rattle.sheets.proofs.Marked.{marked-reads, not-absent, after, concept-marked, endingOf, Formed, inside-reads}
+use Rattle.sheets.proofs.Marked.{formOf, after, concept-marked, endingOf, Formed, inside-reads}
 
 -- ---- what follows a marker of a form that ends at a place
 
-module _ {table s : List ℕ} {at : ℕ} {cells : List ℕ} {slot : Slot} (h : Stands table s at cells slot) (deeper tabs form : ℕ) (k : Marker) where
+module _ {table s : List ℕ} {at : ℕ} {cells : List ℕ} {slot : Slot} (h : Ready table s at cells slot) (deeper tabs form : ℕ) (k : Marker) where
   abbrev Inside : Part → List ℕ → Type 0
-  Inside r last =
-      Makes insideSize insideCount (bodyOfConcept (slot .parent) (slot .next) tabs at) s cells (slot .next) (insideOf form (modesOf table) deeper (slot .room - slot .next) tabs k (drop at s)) r last
+  Inside r last = InsideAt s at tabs cells slot (insideOf form (modesOf table) deeper (slot .room - slot .next) tabs k (drop at s)) r last
 
   pub inside-closed : form ≡ 1 → {r : Part} → r ≡ Part.Read at 0 0 → Inside r cells
   unfolding insideOf
   inside-closed f {r} e = makes-read _ _ _ _ _ _ _ r cells (selfClosed k) at 0 0 e (h .in-sheet .inside) (rw (f, insideOf)) refl refl (sym (lay-none cells (slot .next)))
 
   pub inside-block : form ≡ 2 → {r : Part} {last : List ℕ}
-      → Makes insideSize insideCount (bodyOfConcept (slot .parent) (slot .next) tabs at) s cells (slot .next) (blockOf (boundsOf (modesOf table)) deeper (slot .room - slot .next) k (drop at s)) r last → Inside r last
+      → InsideAt s at tabs cells slot (blockOf (modesOf table) bounds deeper (slot .room - slot .next) k (drop at s)) r last → Inside r last
   unfolding insideOf
   inside-block f b = rw (ne-eqb form 1 (λ e. omega arith), insideOf, eq-eqb form 2 f) b
 
@@ -59,7 +59,7 @@ module _ {table s : List ℕ} {at : ℕ} {cells : List ℕ} {slot : Slot} (h : S
   inside-content f g {r} {last} b = rw (ne-eqb form 1 f, insideOf, ne-eqb form 2 g) (go (contentOf tabs (slot .room - slot .next) k (drop at s)) (content-reads tabs (slot .room - slot .next) k (drop at s)) b)
     where
       go : (x : Found Concept) → Reads (drop at s) (λ c left. ReadContent tabs (slot .room - slot .next) k (drop at s) c left) x
-          → Makes (λ c. 1) (λ c. 1) (contentEntries (slot .parent) tabs at) s cells (slot .next) x r last → Makes insideSize insideCount (bodyOfConcept (slot .parent) (slot .next) tabs at) s cells (slot .next) x r last
+          → Makes (λ c. 1) (λ c. 1) (contentEntries (slot .parent) tabs at) s cells (slot .next) x r last → InsideAt s at tabs cells slot x r last
       go (fault n left) h b = record { says = b .says; laid = λ c end e. let z : _≡_ {A = ℕ} 0 1 = cc in absurd (omega arith) }
       go (found c left) h b =
           let q = h .1 .is-content in
@@ -109,23 +109,21 @@ entry-is parent at tabs c form count to end f n t e = rw (f, n, t, e)
 
 -- ---- a Concept whose "<" is due at a place
 
-abbrev Whole : List ℕ → List ℕ → ℕ → List ℕ → Slot → ℕ → ℕ → Part → List ℕ → Type 0
-Whole table s at cells slot deeper tabs r last =
-    Makes conceptSize (λ c. 1) (wholeConcept (slot .parent) (slot .next) at tabs) s cells (slot .next) (conceptOf (boundsOf (modesOf table)) deeper (slot .room - slot .next) tabs (drop at s)) r last
-
-pub marker-refused : {table s : List ℕ} {at : ℕ} {cells : List ℕ} {slot : Slot} → Stands table s at cells slot
-    → {deeper : ℕ} {o : Opening} {mid : List ℕ} → Opens deeper s (at + 1) cells slot (markedOf (modesOf table) deeper (slot .room - slot .next) (drop at s)) o mid
-    → (tabs : ℕ) {why : Refusal} {place : ℕ} → o ≡ Refused why place → {r : Part} → r ≡ Part.Refused why place → Whole table s at cells slot deeper tabs r mid
+pub marker-refused : {table s : List ℕ} {at : ℕ} {cells : List ℕ} {slot : Slot} → Ready table s at cells slot
+    → {deeper : ℕ} {o : Opening} {mid : List ℕ} → ReadsOpening table s at deeper cells slot o mid
+    → (tabs : ℕ) {why : Refusal} {place : ℕ} → o ≡ Refused why place → {r : Part} → r ≡ Part.Refused why place
+    → ReadsConcept table s at tabs deeper cells slot r mid
 marker-refused {table} {s} {at} {cells} {slot} h {deeper} {o} {mid} opens tabs {why} {place} q {r} e =
     let room = slot .room - slot .next in
-    makes-passed _ _ _ _ _ _ _ r mid madeBy traitsIn (λ x. andThen x (after (modesOf table) deeper room tabs)) (λ n left. refl) (markedOf (modesOf table) deeper room (drop at s)) why place
-    (ap seen (e ∙ sym (ap partOf q)) ∙ opens .makes .says) e (concept-marked (modesOf table) deeper room tabs (drop at s))
+    makes-passed _ _ _ _ _ _ _ r mid madeBy traitsIn (λ x. andThen x (after (modesOf table) deeper room tabs)) (λ n left. refl)
+    (opening (modesOf table) bounds deeper room (drop at s)) why place (ap seen (e ∙ sym (ap partOf q)) ∙ opens .makes .says) e
+    (concept-marked (modesOf table) deeper room tabs (drop at s))
 
 -- its marker was read
 pub record MarkerAt (table s : List ℕ) (at : ℕ) (cells : List ℕ) (slot : Slot) (deeper : ℕ) (mid : List ℕ) (form to end made own : ℕ) (inside : Nesting) : Type 0 where
-  pub stands : Stands table s at cells slot
+  pub stands : Ready table s at cells slot
   pub answer : Opening
-  pub opens : Opens deeper s (at + 1) cells slot (markedOf (modesOf table) deeper (slot .room - slot .next) (drop at s)) answer mid
+  pub opens : ReadsOpening table s at deeper cells slot answer mid
   pub told : answer ≡ Opened form to end made own inside
 
 module _ {table s : List ℕ} {at : ℕ} {cells : List ℕ} {slot : Slot} {deeper : ℕ} {mid : List ℕ} {form to end made own : ℕ} {inside : Nesting}
@@ -133,24 +131,25 @@ module _ {table s : List ℕ} {at : ℕ} {cells : List ℕ} {slot : Slot} {deepe
   abbrev room : ℕ
   room = slot .room - slot .next
 
-  abbrev marked : Found Marked
-  marked = markedOf (modesOf table) deeper room (drop at s)
+  abbrev m : Modes
+  m = modesOf table
 
-  marker : FoundAt madeBy traitsIn (λ k left. Leads (boundsOf (modesOf table)) deeper room (drop at s) (k .mode) (k .opened) left) s at marked end made own
+  abbrev marked : Found Marked
+  marked = opening m bounds deeper room (drop at s)
+
+  marker : FoundAt madeBy traitsIn (λ o left. Leads m bounds deeper room (drop at s) o left) s at marked end made own
   marker =
-      found-at madeBy traitsIn s (partOf (known .answer)) _ at marked end made own (known .opens .makes .says) (marked-reads (modesOf table) deeper room (drop at s)) (known .stands .in-sheet .inside)
+      found-at madeBy traitsIn s (partOf (known .answer)) _ at marked end made own (known .opens .makes .says) (opening-reads m bounds deeper room (drop at s))
+      (known .stands .in-sheet .inside)
       (ap partOf (known .told))
 
   abbrev k : Marker
-  k = marker .it .opened .marker
-
-  abbrev mode : Mode
-  mode = marker .it .mode
+  k = marker .it .marker
 
   abbrev ending : Ending
-  ending = marker .it .opened .ends
+  ending = marker .it .ends
 
-  says : (form ≡ formIn mode ending) × (to ≡ at + 1 + length (k .name)) × (suc (inside .left) ≡ deeper)
+  says : (form ≡ formOf m (marker .it)) × (to ≡ at + 1 + length (k .name)) × (suc (inside .left) ≡ deeper)
   says = known .opens .says form to end made own inside (known .told) (marker .it) (drop end s) (marker .finds)
 
   -- where its name and the marker end, and that its entries have room
@@ -180,40 +179,41 @@ module _ {table s : List ℕ} {at : ℕ} {cells : List ℕ} {slot : Slot} {deepe
     lends : next ≡ slotAfter (slotUnder slot) made
     lends = goes-on ∙ ap (λ (x : Slot). slotAfter x made) goes-under
 
-    pub lent-stands : length mid ≡ length cells → Stands table s end mid next
+    pub lent-stands : length mid ≡ length cells → Ready table s end mid next
     lent-stands held = rw lends (stands-on (known .stands) (marker .inside) (fits-on (known .stands .fits) held refl (marker-ahead .4)))
 
-    module _ (tabs : ℕ) {b : Part} {left : List ℕ}
-        (body : (k : Marker) → k .name ≡ part s (at + 1) to → Makes insideSize insideCount (bodyOfConcept (next .parent) (next .next) tabs end) s mid (next .next) (insideOf form (modesOf table) (inside .left) (next .room - next .next) tabs k (drop end s)) b left) where
+    module _ (tabs : ℕ) {b : Part} {left : List ℕ} (body : ReadsInside table s end form tabs (at + 1) to (inside .left) mid next b left) where
       abbrev reading : Found Concept
-      reading = conceptOf (boundsOf (modesOf table)) deeper room tabs (drop at s)
+      reading = conceptOf m bounds deeper room tabs (drop at s)
 
       abbrev inner : Found Concept
-      inner = after (modesOf table) deeper room tabs (marker .it) (drop end s)
+      inner = after m deeper room tabs (marker .it) (drop end s)
 
-      inner-is : insideOf form (modesOf table) (inside .left) (slot .room - (slot .next + 1 + made)) tabs k (drop end s) ≡ inner
+      inner-is : insideOf form m (inside .left) (slot .room - (slot .next + 1 + made)) tabs k (drop end s) ≡ inner
       inner-is =
           let deep : inside .left ≡ deeper - 1 = omega (arith, says .2) in
-          let fewer : slot .room - (slot .next + 1 + made) ≡ room - 1 - traitsSize (k .traits) = omega (arith, marker .many) in
-          ap (λ (f : ℕ). insideOf f (modesOf table) (inside .left) (slot .room - (slot .next + 1 + made)) tabs k (drop end s)) (says .0)
-          ∙ ap₂ (λ (i j : ℕ). insideOf (formIn mode ending) (modesOf table) i j tabs k (drop end s)) deep fewer
+          let fewer : slot .room - (slot .next + 1 + made) ≡ roomIn room (marker .it) = omega (arith, marker .many) in
+          ap (λ (f : ℕ). insideOf f m (inside .left) (slot .room - (slot .next + 1 + made)) tabs k (drop end s)) (says .0)
+          ∙ ap₂ (λ (i j : ℕ). insideOf (formOf m (marker .it)) m i j tabs k (drop end s)) deep fewer
 
       follows : Makes insideSize insideCount (bodyOfConcept (slot .next) (slot .next + 1 + made) tabs end) s mid (slot .next + 1 + made) inner b left
       follows =
-          let it : Makes insideSize insideCount (bodyOfConcept (slot .next) (slot .next + 1 + made) tabs end) s mid (slot .next + 1 + made) (insideOf form (modesOf table) (inside .left) (slot .room - (slot .next + 1 + made)) tabs k (drop end s)) b left = rw lends at (body k named) in
+          let it : Makes insideSize insideCount (bodyOfConcept (slot .next) (slot .next + 1 + made) tabs end) s mid (slot .next + 1 + made)
+          (insideOf form m (inside .left) (slot .room - (slot .next + 1 + made)) tabs k (drop end s)) b left = rw lends at (body k named) in
           rw inner-is at it
 
       reading-is : reading ≡ inner
-      reading-is = concept-marked (modesOf table) deeper room tabs (drop at s) ∙ ap (λ (x : Found Marked). andThen x (after (modesOf table) deeper room tabs)) (marker .finds)
+      reading-is = concept-marked m deeper room tabs (drop at s) ∙ ap (λ (x : Found Marked). andThen x (after m deeper room tabs)) (marker .finds)
 
-      inside-refused : (why : Refusal) (place : ℕ) → b ≡ Part.Refused why place → (r : Part) → r ≡ Part.Refused why place → (last : List ℕ) → Whole table s at cells slot deeper tabs r last
+      inside-refused : (why : Refusal) (place : ℕ) → b ≡ Part.Refused why place → (r : Part) → r ≡ Part.Refused why place → (last : List ℕ)
+          → ReadsConcept table s at tabs deeper cells slot r last
       inside-refused why place g r e last = makes-passed _ _ _ _ _ _ _ r last insideSize insideCount (λ x. x) (λ n left. refl) inner why place (ap seen (e ∙ sym g) ∙ follows .says) e reading-is
 
       module _ (far more count : ℕ) (g : b ≡ Part.Read far more count) where
-        it : FoundAt insideSize insideCount (λ c left. Formed k mode ending c) s end inner far more count
+        it : FoundAt insideSize insideCount (λ c left. Formed k ending (formOf m (marker .it)) c) s end inner far more count
         it =
             found-at insideSize insideCount s b _ end inner far more count (follows .says)
-            (inside-reads (modesOf table) (deeper - 1) (room - 1 - traitsSize (k .traits)) tabs k (drop end s) mode ending (not-absent (modesOf table) (k .name) mode (marker .holds .is-mode) (marker .holds .listed))) (marker .inside) g
+            (inside-reads m (deeper - 1) (roomIn room (marker .it)) tabs k (drop end s) ending (inMode Children m (k .name))) (marker .inside) g
 
         abbrev c : Concept
         c = it .it
@@ -221,9 +221,10 @@ module _ {table s : List ℕ} {at : ℕ} {cells : List ℕ} {slot : Slot} {deepe
         finds : reading ≡ found c (drop far s)
         finds = reading-is ∙ it .finds
 
-        read : ReadConcept (boundsOf (modesOf table)) deeper room tabs (drop at s) c (drop far s)
+        read : ReadConcept m bounds deeper room tabs (drop at s) c (drop far s)
         read =
-            let r : Reads (drop at s) (λ c left. ReadConcept (boundsOf (modesOf table)) deeper room tabs (drop at s) c left) (found c (drop far s)) = rw finds at (concept-reads (boundsOf (modesOf table)) (length (drop at s) + 1) deeper room tabs (drop at s)) in
+            let r : Reads (drop at s) (λ c left. ReadConcept m bounds deeper room tabs (drop at s) c left) (found c (drop far s)) =
+            rw finds at (concept-reads m bounds (length (drop at s) + 1) deeper room tabs (drop at s)) in
             r .1
 
         size : conceptSize c ≡ 1 + made + more
@@ -262,7 +263,9 @@ module _ {table s : List ℕ} {at : ℕ} {cells : List ℕ} {slot : Slot} {deepe
         )
 
         inside-ended : (r : Part) (last : List ℕ) → r ≡ Part.Read far (1 + made + more) 1
-            → last ≡ lay left (slot .next) (record { kind = 1; form = form; parent = slot .parent; count = own + count; nameStart = at + 1; nameEnd = to; start = at; end = far } ∷ []) → Whole table s at cells slot deeper tabs r last
+            → last ≡ lay left (slot .next)
+            (record { kind = 1; form = form; parent = slot .parent; count = own + count; nameStart = at + 1; nameEnd = to; start = at; end = far } ∷ [])
+            → ReadsConcept table s at tabs deeper cells slot r last
         inside-ended r last e l =
             makes-read _ _ _ _ _ _ _ r last c far (1 + made + more) 1 e (it .inside) finds (sym size) refl
             (l ∙ ap₂ (λ (x : List ℕ) (e : Entry). lay x (slot .next) (e ∷ [])) left-is entry ∙ lay-before cells (slot .next) (conceptEntry (slot .parent) at tabs c) (insideEntries (slot .next) at tabs c))
@@ -275,9 +278,10 @@ module _ {table s : List ℕ} {at : ℕ} {cells : List ℕ} {slot : Slot} {deepe
             named = (marker-ahead .0, omega (arith, marker-ahead .1, known .stands .in-sheet .within));
           }
 
-      pub concept-ended : {r : Part} {last : List ℕ} → r ≡ endedBy b made → last ≡ cellsEnded left slot b form at to own → Whole table s at cells slot deeper tabs r last
+      pub concept-ended : {r : Part} {last : List ℕ} → r ≡ endedBy b made → last ≡ cellsEnded left slot b form at to own
+          → ReadsConcept table s at tabs deeper cells slot r last
       concept-ended {r} {last} e l = go b refl e l
         where
-          go : (p : Part) → b ≡ p → r ≡ endedBy p made → last ≡ cellsEnded left slot p form at to own → Whole table s at cells slot deeper tabs r last
+          go : (p : Part) → b ≡ p → r ≡ endedBy p made → last ≡ cellsEnded left slot p form at to own → ReadsConcept table s at tabs deeper cells slot r last
           go (Part.Read far more count) g e l = inside-ended far more count g r last e l
           go (Part.Refused why place) g e l = inside-refused why place g r e last

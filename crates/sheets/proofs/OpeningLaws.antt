@@ -1,15 +1,14 @@
 -- Opening markers: a law for each way out of src/opening.rt. Over plain lists. Assumes nothing.
 -- Document 01, "The grammar", Markers, and "Order".
-use Prim.Native.Nat.{ℕ, suc, _+_, _-_, _≤_, _<_}
-use mathlib.Core.Path.{_≡_, refl, sym, ap, _∙_}
+use Prim.Native.Nat.{ℕ, zero, suc, _+_, _-_, _≤_, _<_}
+use mathlib.Core.Path.{_≡_, refl, sym, ap, subst, _∙_}
 use mathlib.Core.Bool.{Bool, true, false}
-use mathlib.Core.List.{List, [], _++_}
+use mathlib.Core.List.{List, _++_}
 use native.Mathlib.Omega.{arith}
 use lib.ListN.{length, drop, length-append, length-drop}
 use lib.Seq.{drop-drop}
 use lib.Dec.{leb}
 use borrow.Author.Tests.{leb-true, leb-false}
-use Rattle.paper.specs.declared.Mode.{Mode}
 use Rattle.paper.specs.declared.Mode.the-variants.{Children, Content, Absent}
 use Rattle.paper.specs.declared.Refusal.{Refusal}
 use Rattle.paper.specs.declared.Refusal.the-variants.{NoEntryLeft, TooDeep, Unlisted}
@@ -20,9 +19,13 @@ use Rattle.paper.specs.Names.{isConceptName}
 use Rattle.paper.specs.Modes.{Modes, modeOf}
 use Rattle.paper.specs.Tree.{Trait, Marker, Ending as Ends, block, self}
 use Rattle.paper.specs.Entries.{Entry, traitsSize, traitEntries}
-use Rattle.paper.specs.Reading.{due, name, makes, ending, opened, admitted, boundsOf}
+use Rattle.paper.specs.Grammar.{inMode}
+use Rattle.paper.specs.Reading.{due, name, makes, ending, Opened as Marked, opened, admitted, head, named, bounds}
+use Rattle.paper.proofs.Finds.{Reads}
 use Rattle.paper.proofs.Lines.{makes-complete}
-use Rattle.paper.proofs.Markers.{ReadTraits, traits-reads, ending-reads}
+use Rattle.paper.proofs.Markers.{ReadTraits, traits-reads, ending-reads, ReadOpened, opened-reads}
+use Rattle.paper.proofs.Concepts.{ReadHead, head-reads}
+use Rattle.modes.specs.Table.{modesOf}
 use Rattle.text.proofs.Stretch.{Stretch, behind-at}
 use Rattle.entries.specs.Laid.{lay, slotUnder, Fits}
 use Rattle.entries.specs.declared.Slot.{Slot}
@@ -37,37 +40,40 @@ use Rattle.lines.proofs.Crossing.{FoundAt, found-at, refused-then, makes-refuse
 use Rattle.lines.proofs.Closing.{part-length}
 use Rattle.lines.proofs.ReadAt.{DueAt, part-is}
 use Rattle.sheets.specs.Traits.{traitsOf}
-use Rattle.sheets.specs.Opening.{Marked, headOf, heldOf, namedOf, markedOf, blockForm, formIn, partOf, madeBy, traitsIn, enteredBy, Opens}
+use Rattle.sheets.specs.Opening.{heldOf, blockForm, formIn, partOf, madeBy, traitsIn, enteredBy, Opens, ReadsOpening, ReadsNamed, ReadsMarker}
 use Rattle.sheets.specs.declared.opening.Opening.{Opening}
 use Rattle.sheets.specs.declared.opening.Opening.the-variants.{Opened, Refused}
-use Rattle.sheets.proofs.Marked.{ReadHead, head-reads}
 
 -- ---- an answer: refused, or read
 
-module _ (deeper : ℕ) (s : List ℕ) (start : ℕ) (cells : List ℕ) (slot : Slot) (x : Found Marked) (r : Opening) (after : List ℕ) where
-  opens-refused : (why : Refusal) (place : ℕ) → r ≡ Refused why place → Makes madeBy traitsIn (enteredBy (slot .next) start) s cells (slot .next + 1) x (partOf r) after → Opens deeper s start cells slot x r after
+module _ (deeper : ℕ) (forms : List ℕ → ℕ) (s : List ℕ) (start : ℕ) (cells : List ℕ) (slot : Slot) (x : Found Marked) (r : Opening) (after : List ℕ) where
+  opens-refused : (why : Refusal) (place : ℕ) → r ≡ Refused why place
+      → Makes madeBy traitsIn (enteredBy (slot .next) start) s cells (slot .next + 1) x (partOf r) after → Opens deeper forms s start cells slot x r after
   opens-refused why place q k = record { makes = k; says = λ form to end made own inside g. let z : _≡_ {A = ℕ} 0 1 = cc in absurd (omega arith) }
 
   -- a fault at a place, and one that whatever reads on keeps
-  opens-fault : (why : Refusal) (at : ℕ) → r ≡ Refused why at → at ≤ length s → x ≡ fault (numberOf why) (drop at s) → Opens deeper s start cells slot x r after
+  opens-fault : (why : Refusal) (at : ℕ) → r ≡ Refused why at → at ≤ length s → x ≡ fault (numberOf why) (drop at s)
+      → Opens deeper forms s start cells slot x r after
   opens-fault why at q h f = opens-refused why at q (makes-refused _ _ _ _ _ _ x (partOf r) after why at (ap partOf q) h f)
 
-  opens-passed : {B : Type 0} (many mine : B → ℕ) (outer : Found B → Found Marked) → ((n : ℕ) (left : List ℕ) → outer (fault n left) ≡ fault n left) → (y : Found B) (t : Part) (why : Refusal) (place : ℕ)
-      → seen t ≡ seenOf many mine s y → t ≡ Part.Refused why place → r ≡ Refused why place → x ≡ outer y → Opens deeper s start cells slot x r after
+  opens-passed : {B : Type 0} (many mine : B → ℕ) (outer : Found B → Found Marked) → ((n : ℕ) (left : List ℕ) → outer (fault n left) ≡ fault n left)
+      → (y : Found B) (t : Part) (why : Refusal) (place : ℕ)
+      → seen t ≡ seenOf many mine s y → t ≡ Part.Refused why place → r ≡ Refused why place → x ≡ outer y → Opens deeper forms s start cells slot x r after
   opens-passed many mine outer keeps y t why place e p q f =
       opens-refused why place q (makes-passed _ _ _ _ _ _ x (partOf r) after many mine outer keeps y why place (ap seen (ap partOf q ∙ sym p) ∙ e) (ap partOf q) f)
 
-  opens-read : (k : Marked) (form to end made own : ℕ) (inside : Nesting) → r ≡ Opened form to end made own inside → end ≤ length s → x ≡ found k (drop end s)
-      → made ≡ madeBy k → own ≡ traitsIn k → after ≡ lay cells (slot .next + 1) (enteredBy (slot .next) start k)
-      → (form ≡ formIn (k .mode) (k .opened .ends)) × (to ≡ start + length (k .opened .marker .name)) × (suc (inside .left) ≡ deeper) → Opens deeper s start cells slot x r after
-  opens-read k form to end made own inside q i f m o l h =
+  opens-read : (o : Marked) (form to end made own : ℕ) (inside : Nesting) → r ≡ Opened form to end made own inside → end ≤ length s → x ≡ found o (drop end s)
+      → made ≡ madeBy o → own ≡ traitsIn o → after ≡ lay cells (slot .next + 1) (enteredBy (slot .next) start o)
+      → (form ≡ formIn (forms (o .marker .name)) (o .ends)) × (to ≡ start + length (o .marker .name)) × (suc (inside .left) ≡ deeper)
+      → Opens deeper forms s start cells slot x r after
+  opens-read o form to end made own inside q i f m n l h =
       record {
-        makes = makes-read _ _ _ _ _ _ x (partOf r) after k end made own (ap partOf q) i f m o l;
+        makes = makes-read _ _ _ _ _ _ x (partOf r) after o end made own (ap partOf q) i f m n l;
         says = λ shape stop last more mine within g j rest e.
             let a : form ≡ shape = cc in
             let b : to ≡ stop = cc in
             let n : inside ≡ within = cc in
-            let i : k ≡ j = cc in
+            let i : o ≡ j = cc in
             rw (← a, ← b, ← n, ← i) h;
       }
 
@@ -117,20 +123,21 @@ end-found s mark h a says e end q =
 -- ---- behind a name that is admitted: an entry for the Concept, traits behind it, white space, the ending
 
 -- traits that are read up to an end
-traits-at : (of : List Trait → List Entry) (s cells : List ℕ) (n room to : ℕ) (m : Modes) (t : Part) (after : List ℕ) (end made own : ℕ)
-    → to ≤ length s → Makes traitsSize length of s cells n (traitsOf m room (drop to s)) t after → t ≡ Read end made own
-    → FoundAt traitsSize length (ReadTraits (boundsOf m) room (drop to s)) s to (traitsOf m room (drop to s)) end made own
-traits-at of s cells n room to m t after end made own h k q =
-    found-at traitsSize length s t (ReadTraits (boundsOf m) room (drop to s)) to (traitsOf m room (drop to s)) end made own (k .says) (traits-reads (boundsOf m) room (drop to s)) h q
+traits-at : (of : List Trait → List Entry) (s cells : List ℕ) (n room to : ℕ) (t : Part) (after : List ℕ) (end made own : ℕ)
+    → to ≤ length s → Makes traitsSize length of s cells n (traitsOf room (drop to s)) t after → t ≡ Read end made own
+    → FoundAt traitsSize length (ReadTraits bounds room (drop to s)) s to (traitsOf room (drop to s)) end made own
+traits-at of s cells n room to t after end made own h k q =
+    found-at traitsSize length s t (ReadTraits bounds room (drop to s)) to (traitsOf room (drop to s)) end made own (k .says)
+    (traits-reads bounds room (drop to s)) h q
 
 -- what a marker makes of its ending
-abbrev markedBy : Marker → Mode → Found Ends → Found Marked
-markedBy k mode x = andThen (andThen x (λ e left. found (record { marker = k; ends = e }) left)) (λ o end. found (record { mode = mode; opened = o }) end)
+abbrev markedBy : Marker → Found Ends → Found Marked
+markedBy k x = andThen x (λ e left. found (record { marker = k; ends = e }) left)
 
 -- a marker that is read up to its ending, which is due at a mark, and its traits are entered
-pub record TraitsAt (s : List ℕ) (start to : ℕ) (cells : List ℕ) (slot : Slot) (m : Modes) (mode : Mode) (after : List ℕ) (mark made own : ℕ) : Type 0 where
+pub record TraitsAt (s : List ℕ) (start to : ℕ) (cells : List ℕ) (slot : Slot) (after : List ℕ) (mark made own : ℕ) : Type 0 where
   pub it : Marker
-  pub finds : heldOf m mode (slot .room - slot .next) (drop start s) (part s start to) (drop to s) ≡ markedBy it mode (ending (drop mark s))
+  pub finds : heldOf (slot .room - slot .next) (drop start s) (part s start to) (drop to s) ≡ markedBy it (ending (drop mark s))
   pub wide : to ≡ start + length (it .name)
   pub many : traitsSize (it .traits) ≡ made
   pub owned : length (it .traits) ≡ own
@@ -138,52 +145,56 @@ pub record TraitsAt (s : List ℕ) (start to : ℕ) (cells : List ℕ) (slot : S
   pub laid : after ≡ lay cells (slot .next + 1) (traitEntries (slot .next) (slot .next + 1) (start + length (it .name)) (it .traits))
 
 -- a name stands from `start` to `to`; the Concept that it is of may stand here, and so many may be opened in it
-abbrev Holds : List ℕ → ℕ → ℕ → List ℕ → Slot → Modes → Mode → Nesting → Opening → List ℕ → Type 0
-Holds s start to cells slot m mode inside r after = Opens (suc (inside .left)) s start cells slot (heldOf m mode (slot .room - slot .next) (drop start s) (part s start to) (drop to s)) r after
+abbrev Holds : List ℕ → ℕ → ℕ → ℕ → Nesting → List ℕ → Slot → Opening → List ℕ → Type 0
+Holds s start to form inside cells slot r after = ReadsMarker s start to form (suc (inside .left)) cells slot r after
 
 module _ {s : List ℕ} {to : ℕ} (place : In s to) {cells : List ℕ} {slot : Slot} (fits : Fits cells slot) where
   pub traits-inside : (under : Slot) {t : Part} {after : List ℕ}
-      → ((m : Modes) → Makes traitsSize length (traitEntries (under .parent) (under .next) to) s cells (under .next) (traitsOf m (under .room - under .next) (drop to s)) t after)
+      → Makes traitsSize length (traitEntries (under .parent) (under .next) to) s cells (under .next) (traitsOf (under .room - under .next) (drop to s)) t after
       → {end made own : ℕ} → t ≡ Read end made own → end ≤ length s
   traits-inside under {t} {after} k {end} {made} {own} q =
-      let m : Modes = record { children = []; content = [] } in
-      traits-at _ s cells (under .next) (under .room - under .next) to m t after end made own (place .inside) (k m) q .inside
+      traits-at _ s cells (under .next) (under .room - under .next) to t after end made own (place .inside) k q .inside
 
-  module _ {start : ℕ} (ahead : start ≤ to) (m : Modes) (mode : Mode) where
+  module _ {start : ℕ} (ahead : start ≤ to) (form : ℕ) where
     abbrev held : Found Marked
-    held = heldOf m mode (slot .room - slot .next) (drop start s) (part s start to) (drop to s)
+    held = heldOf (slot .room - slot .next) (drop start s) (part s start to) (drop to s)
 
     module _ {o : Bool} (asked : o ≡ leb (slot .room) (slot .next)) where
-      pub no-room : o ≡ true → {inside : Nesting} {r : Opening} → r ≡ Refused NoEntryLeft start → Holds s start to cells slot m mode inside r cells
+      pub no-room : o ≡ true → {inside : Nesting} {r : Opening} → r ≡ Refused NoEntryLeft start → Holds s start to form inside cells slot r cells
       unfolding makes
       no-room t {inside} {r} q =
           let none : slot .room - slot .next ≡ 0 = omega (arith, leb-true (slot .room) (slot .next) (sym asked ∙ t)) in
-          opens-fault _ _ _ _ _ held r cells NoEntryLeft start q (omega (arith, place .inside)) (rw none)
+          opens-fault _ _ _ _ _ _ held r cells NoEntryLeft start q (omega (arith, place .inside)) (rw none)
 
       module _ (f : o ≡ false) {under : Slot} (b : under ≡ slotUnder slot) {t : Part} {after : List ℕ}
-          (k : Makes traitsSize length (traitEntries (under .parent) (under .next) to) s cells (under .next) (traitsOf m (under .room - under .next) (drop to s)) t after) where
+          (k : Makes traitsSize length (traitEntries (under .parent) (under .next) to) s cells (under .next)
+          (traitsOf (under .room - under .next) (drop to s)) t after) where
         -- the traits, and what the marker makes of them
         abbrev traits : Found (List Trait)
-        traits = traitsOf m (slot .room - slot .next - 1) (drop to s)
+        traits = traitsOf (slot .room - slot .next - 1) (drop to s)
 
         abbrev of-traits : Found (List Trait) → Found Marked
         of-traits y =
-            andThen (andThen y (λ ts left. andThen (ending (behind isWhite left)) (λ e end. found (record { marker = record { name = part s start to; traits = ts; white = front isWhite left }; ends = e }) end)))
-            (λ o end. found (record { mode = mode; opened = o }) end)
+            andThen y (λ ts left. andThen (ending (behind isWhite left)) (λ e end.
+            found (record { marker = record { name = part s start to; traits = ts; white = front isWhite left }; ends = e }) end))
 
         by-traits : held ≡ of-traits traits
         unfolding opened
-        by-traits = rw (makes-complete (slot .room - slot .next) (drop start s) mode (drop to s) (omega (arith, leb-false (slot .room) (slot .next) (sym asked ∙ f))))
+        by-traits = rw (makes-complete (slot .room - slot .next) (drop start s) (part s start to) (drop to s)
+            (omega (arith, leb-false (slot .room) (slot .next) (sym asked ∙ f))))
 
         made-traits : Makes traitsSize length (traitEntries (slot .next) (slot .next + 1) to) s cells (slot .next + 1) traits t after
         made-traits = let n : slot .room - (slot .next + 1) ≡ slot .room - slot .next - 1 = omega arith in rw (← n) (rw b at k)
 
-        pub traits-refused : {why : Refusal} {at : ℕ} → t ≡ Part.Refused why at → {inside : Nesting} {r : Opening} → r ≡ Refused why at → Holds s start to cells slot m mode inside r after
-        traits-refused {why} {at} p {inside} {r} q = opens-passed _ _ _ _ _ held r after traitsSize length of-traits (λ n left. refl) traits t why at (made-traits .says) p q by-traits
+        pub traits-refused : {why : Refusal} {at : ℕ} → t ≡ Part.Refused why at → {inside : Nesting} {r : Opening} → r ≡ Refused why at
+            → Holds s start to form inside cells slot r after
+        traits-refused {why} {at} p {inside} {r} q = opens-passed _ _ _ _ _ _ held r after traitsSize length of-traits (λ n left. refl) traits t why at
+            (made-traits .says) p q by-traits
 
-        pub marker-traits : {end made own : ℕ} → t ≡ Read end made own → {mark : ℕ} → Stretch isWhite s end mark → TraitsAt s start to cells slot m mode after mark made own
+        pub marker-traits : {end made own : ℕ} → t ≡ Read end made own → {mark : ℕ} → Stretch isWhite s end mark
+            → TraitsAt s start to cells slot after mark made own
         marker-traits {end} {made} {own} p {mark} white =
-            let f = traits-at _ s cells (slot .next + 1) (slot .room - slot .next - 1) to m t after end made own (place .inside) made-traits p in
+            let f = traits-at _ s cells (slot .next + 1) (slot .room - slot .next - 1) to t after end made own (place .inside) made-traits p in
             let wide : to ≡ start + length (part s start to) = omega (arith, part-length s start to ahead (place .inside)) in
             record {
               it = record { name = part s start to; traits = f .it; white = front isWhite (drop end s) };
@@ -196,77 +207,124 @@ module _ {s : List ℕ} {to : ℕ} (place : In s to) {cells : List ℕ} {slot : 
             }
 
 -- its ending
-module _ {s : List ℕ} {start to : ℕ} {cells : List ℕ} {slot : Slot} {m : Modes} {mode : Mode} {after : List ℕ} {mark made own : ℕ} (known : TraitsAt s start to cells slot m mode after mark made own)
-    (a : Ending) (says : ended a ≡ endedOf s (ending (drop mark s))) where
-  pub ending-refused : {why : Refusal} {at : ℕ} → a ≡ Ending.Refused why at → {inside : Nesting} {r : Opening} → r ≡ Refused why at → Holds s start to cells slot m mode inside r after
+module _ {s : List ℕ} {start to : ℕ} {cells : List ℕ} {slot : Slot} {after : List ℕ} {mark made own : ℕ}
+    (known : TraitsAt s start to cells slot after mark made own)
+    (form : ℕ) (a : Ending) (says : ended a ≡ endedOf s (ending (drop mark s))) where
+  pub ending-refused : {why : Refusal} {at : ℕ} → a ≡ Ending.Refused why at → {inside : Nesting} {r : Opening} → r ≡ Refused why at
+      → Holds s start to form inside cells slot r after
   ending-refused {why} {at} g {inside} {r} q =
-      opens-passed _ _ _ _ _ _ r after (λ e. 0) (λ e. 0) (markedBy (known .it) mode) (λ n left. refl) (ending (drop mark s)) (endPart a) why at (end-passed s a (ending (drop mark s)) says) (ap endPart g) q (known .finds)
+      opens-passed _ _ _ _ _ _ _ r after (λ e. 0) (λ e. 0) (markedBy (known .it)) (λ n left. refl) (ending (drop mark s)) (endPart a) why at
+      (end-passed s a (ending (drop mark s)) says) (ap endPart g) q (known .finds)
 
-  pub marker-read : (e : Ends) {form last : ℕ} → a ≡ endAs e last → form ≡ formIn mode e → {inside : Nesting} {r : Opening} → r ≡ Opened form to last made own inside → Holds s start to cells slot m mode inside r after
-  marker-read e {form} {last} g u {inside} {r} q =
+  pub marker-read : (e : Ends) {kind last : ℕ} → a ≡ endAs e last → kind ≡ formIn form e → {inside : Nesting} {r : Opening}
+      → r ≡ Opened kind to last made own inside
+      → Holds s start to form inside cells slot r after
+  marker-read e {kind} {last} g u {inside} {r} q =
       let at = end-found s mark (known .inside) a says e last g in
-      opens-read _ _ _ _ _ _ r after (record { mode = mode; opened = record { marker = known .it; ends = e } }) form to last made own inside q (at .1) (known .finds ∙ ap (markedBy (known .it) mode) (at .0))
+      opens-read _ _ _ _ _ _ _ r after (record { marker = known .it; ends = e }) kind to last made own inside q (at .1)
+      (known .finds ∙ ap (markedBy (known .it)) (at .0))
       (sym (known .many)) (sym (known .owned)) (known .laid) (u, known .wide, refl)
 
 -- ---- a name that is judged by nesting, table and room
 
-module _ {s : List ℕ} {at to : ℕ} (place : In s to) (ahead : at < to) {cells : List ℕ} {slot : Slot} (fits : Fits cells slot) (m : Modes) (deeper : ℕ) where
-  abbrev named : Found Marked
-  named = namedOf m deeper (slot .room - slot .next) (drop at s) (part s (at + 1) to) (drop to s)
+-- a name that the table lists, and the form of its blocks
+module _ (m : Modes) (w : List ℕ) where
+  pub in-children : Children ≡ modeOf m w → (inMode Absent m w ≡ false) × (blockForm m w ≡ 2)
+  unfolding inMode
+  in-children e = (rw (sym e, inMode), rw (sym e, blockForm, inMode))
+
+  pub in-content : Content ≡ modeOf m w → (inMode Absent m w ≡ false) × (blockForm m w ≡ 3)
+  unfolding inMode
+  in-content e = (rw (sym e, inMode), rw (sym e, blockForm, inMode))
+
+-- a marker that is found behind a name has that name
+held-named : (room : ℕ) (at w left : List ℕ) (o : Marked) (end : List ℕ) → heldOf room at w left ≡ found o end → o .marker .name ≡ w
+unfolding makes
+held-named zero at w left o end e = let z : _≡_ {A = ℕ} 0 1 = cc in absurd (omega arith)
+held-named (suc room) at w left o end e =
+    subst (Reads left (λ o rest. ReadOpened bounds (suc room - 1) w left o rest)) e (opened-reads bounds (suc room - 1) w left) .1 .named
+
+module _ (table : List ℕ) {s : List ℕ} {at to : ℕ} (place : In s to) (ahead : at < to) {cells : List ℕ} {slot : Slot} (fits : Fits cells slot)
+    (deeper : ℕ) where
+  abbrev w : List ℕ
+  w = part s (at + 1) to
 
   abbrev Names : Opening → List ℕ → Type 0
-  Names r after = Opens deeper s (at + 1) cells slot named r after
+  Names r after = ReadsNamed table s at to deeper cells slot r after
 
   pub too-deep : deeper ≡ 0 → {r : Opening} → r ≡ Refused TooDeep at → Names r cells
   unfolding admitted
-  too-deep d {r} q = opens-fault deeper s (at + 1) cells slot named r cells TooDeep at q (omega (arith, place .inside)) (rw d)
+  too-deep d {r} q = opens-fault _ _ _ _ _ _ _ r cells TooDeep at q (omega (arith, place .inside)) (rw d)
 
   module _ {inside : Nesting} (d : deeper ≡ suc (inside .left)) where
-    pub unlisted : Absent ≡ modeOf m (part s (at + 1) to) → {r : Opening} → r ≡ Refused Unlisted (at + 1) → Names r cells
-    unfolding admitted
-    unlisted e {r} q = opens-fault deeper s (at + 1) cells slot named r cells Unlisted (at + 1) q (omega (arith, place .inside)) (rw (d, admitted, ← e, drop-drop 1 at s))
+    pub unlisted : Absent ≡ modeOf (modesOf table) w → {r : Opening} → r ≡ Refused Unlisted (at + 1) → Names r cells
+    unfolding admitted inMode
+    unlisted e {r} q =
+        let i : inMode Absent (modesOf table) w ≡ true = rw (sym e, inMode) in
+        opens-fault _ _ _ _ _ _ _ r cells Unlisted (at + 1) q (omega (arith, place .inside)) (rw (d, admitted, i, drop-drop 1 at s))
 
-    by-mode : (mode : Mode) → 0 < blockForm mode → mode ≡ modeOf m (part s (at + 1) to) → named ≡ heldOf m mode (slot .room - slot .next) (drop (at + 1) s) (part s (at + 1) to) (drop to s)
+    pub listed : {form : ℕ} → (inMode Absent (modesOf table) w ≡ false) × (blockForm (modesOf table) w ≡ form) → {r : Opening} {after : List ℕ}
+        → ReadsMarker s (at + 1) to form (suc (inside .left)) cells slot r after → Names r after
     unfolding admitted
-    by-mode Children f e = rw (d, admitted, ← e, drop-drop 1 at s)
-    by-mode Content f e = rw (d, admitted, ← e, drop-drop 1 at s)
-    by-mode Absent f e = absurd (omega arith)
-
-    pub listed : (mode : Mode) → 0 < blockForm mode → mode ≡ modeOf m (part s (at + 1) to) → {r : Opening} {after : List ℕ}
-        → Opens (suc (inside .left)) s (at + 1) cells slot (heldOf m mode (slot .room - slot .next) (drop (at + 1) s) (part s (at + 1) to) (drop to s)) r after → Names r after
-    listed mode f e h = rw (by-mode mode f e, d) h
+    listed {form} i {r} {after} h =
+        let room = slot .room - slot .next in
+        let is : named (modesOf table) bounds deeper room (drop at s) w (drop to s) ≡ heldOf room (drop (at + 1) s) w (drop to s) = rw
+        (d, admitted, i .0, drop-drop 1 at s) in
+        record {
+          makes = rw is (h .makes);
+          says = λ kind stop end made own within q o left e.
+              let f = sym is ∙ e in
+              let x = h .says kind stop end made own within q o left f in
+              let n : blockForm (modesOf table) (o .marker .name) ≡ form = ap (blockForm (modesOf table))
+              (held-named room (drop (at + 1) s) w (drop to s) o left f) ∙ i .1 in
+              (x .0 ∙ ap (λ (k : ℕ). formIn k (o .ends)) (sym n), x .1, x .2 ∙ sym d);
+        }
 
 -- ---- "<" and the name, and the whole marker behind them
 
 module _ (s : List ℕ) (at : ℕ) (r : Part) where
-  pub no-mark : {why : Refusal} {place : ℕ} → seen r ≡ passed s (due (byte "<") (drop at s)) → r ≡ Part.Refused why place → seen r ≡ passed s (headOf (drop at s))
+  pub no-mark : {why : Refusal} {place : ℕ} → seen r ≡ passed s (due (byte "<") (drop at s)) → r ≡ Part.Refused why place
+      → seen r ≡ passed s (head bounds (drop at s))
   no-mark {why} {place} e q = refused-then (λ b. 0) (λ b. 0) s r (λ w. 0) (λ w. 0) (λ b named. name isConceptName named) (due (byte "<") (drop at s)) why place e q
 
-  pub mark-named : {start : ℕ} → DueAt (byte "<") s at start → seen r ≡ passed s (name isConceptName (drop start s)) → seen r ≡ passed s (headOf (drop at s))
+  pub mark-named : {start : ℕ} → DueAt (byte "<") s at start → seen r ≡ passed s (name isConceptName (drop start s))
+      → seen r ≡ passed s (head bounds (drop at s))
   mark-named mark e = rw (mark .finds) e
 
-module _ {s : List ℕ} {at : ℕ} (place : In s at) (a : Part) (says : seen a ≡ passed s (headOf (drop at s))) where
+module _ {s : List ℕ} {at : ℕ} (place : In s at) (a : Part) (says : seen a ≡ passed s (head bounds (drop at s))) where
   module _ {to made own : ℕ} (p : a ≡ Read to made own) where
-    head : FoundAt (λ w. 0) (λ w. 0) (λ w left. ReadHead (drop at s) w left) s at (headOf (drop at s)) to made own
-    head = found-at (λ w. 0) (λ w. 0) s a _ at (headOf (drop at s)) to made own says (head-reads (drop at s)) (place .inside) p
+    begun : FoundAt (λ w. 0) (λ w. 0) (λ w left. ReadHead bounds (drop at s) w left) s at (head bounds (drop at s)) to made own
+    begun = found-at (λ w. 0) (λ w. 0) s a _ at (head bounds (drop at s)) to made own says (head-reads bounds (drop at s)) (place .inside) p
 
     -- the name stands behind the "<" up to there
-    covers : drop (at + 1) s ≡ head .it ++ drop to s
-    covers = sym (drop-drop 1 at s) ∙ head .holds .named .covers
+    covers : drop (at + 1) s ≡ begun .it ++ drop to s
+    covers = sym (drop-drop 1 at s) ∙ begun .holds .named .covers
 
-    long : to ≡ at + 1 + length (head .it)
-    long = omega (arith, ap length (head .holds .marked), length-drop 1 (drop at s), ap length (head .holds .named .covers), length-append (head .it) (drop to s), length-drop at s, length-drop to s, place .inside, head .inside)
+    long : to ≡ at + 1 + length (begun .it)
+    long = omega (
+      arith,
+      ap length (begun .holds .marked),
+      length-drop 1 (drop at s),
+      ap length (begun .holds .named .covers),
+      length-append (begun .it)
+          (drop to s),
+      length-drop at s,
+      length-drop to s,
+      place .inside,
+      begun .inside,
+    )
 
     pub name-ends : In s to × (at < to)
-    name-ends = (record { within = place .within; inside = head .inside }, omega (arith, long))
+    name-ends = (record { within = place .within; inside = begun .inside }, omega (arith, long))
 
-  module _ {cells : List ℕ} {slot : Slot} (fits : Fits cells slot) (m : Modes) (deeper : ℕ) where
-    abbrev whole : Found Marked
-    whole = markedOf m deeper (slot .room - slot .next) (drop at s)
-
-    pub head-refused : {why : Refusal} {place : ℕ} → a ≡ Part.Refused why place → {r : Opening} → r ≡ Refused why place → Opens deeper s (at + 1) cells slot whole r cells
-    head-refused {why} {place} p {r} q = opens-passed _ _ _ _ _ whole r cells (λ w. 0) (λ w. 0) (λ y. andThen y (namedOf m deeper (slot .room - slot .next) (drop at s))) (λ n left. refl) (headOf (drop at s)) a why place says p q refl
+  module _ (table : List ℕ) {cells : List ℕ} {slot : Slot} (fits : Fits cells slot) (deeper : ℕ) where
+    pub head-refused : {why : Refusal} {place : ℕ} → a ≡ Part.Refused why place → {r : Opening} → r ≡ Refused why place
+        → ReadsOpening table s at deeper cells slot r cells
+    head-refused {why} {place} p {r} q =
+        opens-passed _ _ _ _ _ _ _ r cells (λ w. 0) (λ w. 0) (λ y. andThen y (named (modesOf table) bounds deeper (slot .room - slot .next) (drop at s)))
+        (λ n left. refl)
+        (head bounds (drop at s)) a why place says p q refl
 
     pub head-read : {to made own : ℕ} → a ≡ Read to made own → {r : Opening} {after : List ℕ}
-        → Opens deeper s (at + 1) cells slot (namedOf m deeper (slot .room - slot .next) (drop at s) (part s (at + 1) to) (drop to s)) r after → Opens deeper s (at + 1) cells slot whole r after
-    head-read {to} p k = rw (head p .finds, ← part-is s (head p .it) (drop to s) (at + 1) to (covers p) (long p)) k
+        → ReadsNamed table s at to deeper cells slot r after → ReadsOpening table s at deeper cells slot r after
+    head-read {to} p k = rw (begun p .finds, ← part-is s (begun p .it) (drop to s) (at + 1) to (covers p) (long p)) k

@@ -10,13 +10,15 @@ use lib.ListN.{length, drop, length-drop}
 use borrow.Author.Tests.{not-true, not-false}
 use Rattle.paper.specs.declared.Refusal.{Refusal}
 use Rattle.paper.specs.Found.{Found, found, andThen}
-use Rattle.paper.specs.Bytes.{bytes, behind, startsWith}
+use Rattle.paper.specs.Bytes.{behind}
 use Rattle.paper.specs.Modes.{Modes}
-use Rattle.paper.specs.Tree.{Blank, Body, done, blankLine, element}
+use Rattle.paper.specs.Tree.{Blank, Body, done, Annotated, BodyPiece, blankPiece, elementPiece, before}
 use Rattle.paper.specs.Grammar.{annotationsOnto, bodyOnto}
 use Rattle.paper.specs.Entries.{Entry, annotationEntries, conceptEntry, insideEntries, conceptSize, bodySize, bodyCount, bodyEntries}
-use Rattle.paper.specs.Reading.{lineRest, isBlankLine, isTab, tabsOnly, bodyOf, boundsOf}
+use Rattle.paper.specs.Reading.{lineRest, isBlankLine, isTab, tabsOnly, isClosing, bodyOf, annotatedOf, pieceOf, bounds}
+use Rattle.paper.proofs.Tests.{when-true, when-false}
 use Rattle.paper.proofs.Lines.{only-reads}
+use Rattle.paper.proofs.Concepts.{annotated-reads, ReadPiece, piece-reads}
 use Rattle.paper.proofs.Sizes.{body-size}
 use Rattle.modes.specs.Table.{modesOf}
 use Rattle.entries.specs.Laid.{lay, slotAfter}
@@ -28,76 +30,87 @@ use Rattle.lines.specs.declared.part.Part.the-variants.{Read, Refused}
 use Rattle.lines.proofs.Crossing.{further, FoundAt, found-at, makes-passed, makes-read, makes-same}
 use Rattle.lines.proofs.Ends.{RestAt}
 use Rattle.lines.proofs.Turns.{makes-behind}
-use Rattle.sheets.specs.Concepts.{Stands, Annotated, annotatedOf, annotatedSize, annotatedCount, annotatedEntries, pieceOf}
+use Rattle.sheets.specs.Concepts.{Ready, annotatedSize, annotatedCount, annotatedEntries, ReadsAnnotated, ReadsChildren, pieceSize, pieceCount, pieceEntries, ReadsPiece}
 use Rattle.sheets.proofs.Lengths.{body-long, body-few}
-use Rattle.sheets.proofs.AnnotatedLaws.{ReadAnnotated, annotated-reads}
-use Rattle.sheets.proofs.Bodies.{joined, joined-size, joined-count, joined-entries, body-over, body-on, onward, ofTabs, piece-blank, piece-line, ReadPiece, piece-reads}
+use Rattle.sheets.proofs.Bodies.{before-size, before-count, before-entries, onward, body-over, body-on}
 
 -- ---- a piece at a place
 
-abbrev PieceAt : Modes → ℕ → List ℕ → ℕ → List ℕ → Slot → Part → List ℕ → Type 0
-PieceAt m deeper s at cells slot r after = Makes bodySize bodyCount (bodyEntries (slot .parent) (slot .next) at) s cells (slot .next) (pieceOf m deeper (slot .room - slot .next) (drop at s)) r after
-
 -- a Concept with its annotations that is read to an end, and entered; the rest of its line is due there
-pub record ConceptAt (m : Modes) (deeper : ℕ) (s : List ℕ) (at : ℕ) (cells : List ℕ) (slot : Slot) (after : List ℕ) (end made own : ℕ) : Type 0 where
+pub record ConceptAt (table s : List ℕ) (at deeper : ℕ) (cells : List ℕ) (slot : Slot) (after : List ℕ) (end made own : ℕ) : Type 0 where
   pub it : Annotated
-  pub finds : pieceOf m deeper (slot .room - slot .next) (drop at s) ≡ andThen (lineRest (drop end s)) (λ rest left. found (element (it .notes) (it .tabs) (it .concept) rest done) left)
+  pub finds : pieceOf (modesOf table) bounds deeper (slot .room - slot .next) (drop at s) ≡ andThen (lineRest (drop end s))
+      (λ rest left. found (elementPiece it rest) left)
   pub many : annotatedSize it ≡ made
   pub owned : annotatedCount it ≡ own
   pub inside : end ≤ length s
   pub laid : after ≡ lay cells (slot .next) (annotatedEntries (slot .parent) (slot .next) at it)
 
-module _ {table s : List ℕ} {at : ℕ} {cells : List ℕ} {slot : Slot} (h : Stands table s at cells slot) (deeper : ℕ) where
+module _ {table s : List ℕ} {at : ℕ} {cells : List ℕ} {slot : Slot} (h : Ready table s at cells slot) (deeper : ℕ) where
   abbrev room : ℕ
   room = slot .room - slot .next
 
   abbrev Piece : Part → List ℕ → Type 0
-  Piece r after = PieceAt (modesOf table) deeper s at cells slot r after
+  Piece r after = ReadsPiece table s at deeper cells slot r after
 
   module _ {o : Bool} (asked : o ≡ isBlankLine (drop at s)) where
     pub blank-made : o ≡ true → (r : Part) → seen r ≡ passed s (lineRest (drop at s)) → Piece r cells
     unfolding conceptSize bodyCount insideEntries
     blank-made t r e =
-        makes-behind (λ b. blankLine b done) bodySize bodyCount (bodyEntries (slot .parent) (slot .next) at) (λ b. []) [] s cells cells (slot .next) (lineRest (drop at s)) _ r cells
-        (piece-blank (modesOf table) deeper room (drop at s) (sym asked ∙ t)) (λ b. refl) (sym (lay-none cells (slot .next))) (record { says = e; laid = λ b left f. sym (lay-none cells (slot .next + 0)) })
+        makes-behind blankPiece pieceSize pieceCount (pieceEntries (slot .parent) (slot .next) at) (λ b. []) [] s cells cells (slot .next)
+        (lineRest (drop at s)) _ r cells
+        (when-true (isBlankLine (drop at s)) _ _ (sym asked ∙ t)) (λ b. refl) (sym (lay-none cells (slot .next)))
+        (record { says = e; laid = λ b left f. sym (lay-none cells (slot .next + 0)) })
 
     module _ (f : o ≡ false) (tabs : Part) (told : seen tabs ≡ passed s (tabsOnly (drop at s))) where
-      by-tabs : pieceOf (modesOf table) deeper room (drop at s) ≡ ofTabs (modesOf table) deeper room (drop at s) (tabsOnly (drop at s))
-      by-tabs = piece-line (modesOf table) deeper room (drop at s) (sym asked ∙ f)
+      abbrev ofTabs : Found ℕ → Found BodyPiece
+      ofTabs x = andThen x (λ n mark. andThen (annotatedOf (modesOf table) bounds deeper room (drop at s))
+          (λ a left. andThen (lineRest left) (λ rest end. found (elementPiece a rest) end)))
+
+      by-tabs : pieceOf (modesOf table) bounds deeper room (drop at s) ≡ ofTabs (tabsOnly (drop at s))
+      by-tabs = when-false (isBlankLine (drop at s)) _ _ (sym asked ∙ f)
 
       pub tabs-refused : {why : Refusal} {place : ℕ} → tabs ≡ Refused why place → Piece tabs cells
-      tabs-refused {why} {place} q = makes-passed _ _ _ _ _ _ _ tabs cells (λ n. 0) (λ n. 0) (ofTabs (modesOf table) deeper room (drop at s)) (λ k left. refl) (tabsOnly (drop at s)) why place told q by-tabs
+      tabs-refused {why} {place} q = makes-passed _ _ _ _ _ _ _ tabs cells (λ n. 0) (λ n. 0) ofTabs (λ k left. refl)
+          (tabsOnly (drop at s)) why place told q by-tabs
 
       -- tabs only: annotations, a Concept, and the rest of its line
       module _ {line none no : ℕ} (passes : tabs ≡ Read line none no) {r : Part} {after : List ℕ}
-          (one : Makes annotatedSize annotatedCount (annotatedEntries (slot .parent) (slot .next) at) s cells (slot .next) (annotatedOf (modesOf table) deeper room (drop at s)) r after) where
-        abbrev ofConcept : Found Annotated → Found Body
-        ofConcept x = andThen x (λ a left. andThen (lineRest left) (λ rest end. found (element (a .notes) (a .tabs) (a .concept) rest done) end))
+          (one : ReadsAnnotated table s at deeper cells slot r after) where
+        abbrev noted : Found Annotated
+        noted = annotatedOf (modesOf table) bounds deeper room (drop at s)
 
-        by-concept : pieceOf (modesOf table) deeper room (drop at s) ≡ ofConcept (annotatedOf (modesOf table) deeper room (drop at s))
+        abbrev ofConcept : Found Annotated → Found BodyPiece
+        ofConcept x = andThen x (λ a left. andThen (lineRest left) (λ rest end. found (elementPiece a rest) end))
+
+        by-concept : pieceOf (modesOf table) bounds deeper room (drop at s) ≡ ofConcept noted
         by-concept =
             let t = found-at (λ n. 0) (λ n. 0) s tabs (λ n mark. mark ≡ behind isTab (drop at s)) at (tabsOnly (drop at s)) line none no told (only-reads (drop at s)) (h .in-sheet .inside) passes in
-            by-tabs ∙ ap (ofTabs (modesOf table) deeper room (drop at s)) (t .finds)
+            by-tabs ∙ ap ofTabs (t .finds)
 
         pub concept-refused : {why : Refusal} {place : ℕ} → r ≡ Refused why place → Piece r after
-        concept-refused {why} {place} q = makes-passed _ _ _ _ _ _ _ r after annotatedSize annotatedCount ofConcept (λ k left. refl) (annotatedOf (modesOf table) deeper room (drop at s)) why place (one .says) q by-concept
+        concept-refused {why} {place} q = makes-passed _ _ _ _ _ _ _ r after annotatedSize annotatedCount ofConcept (λ k left. refl) noted why place
+            (one .says) q by-concept
 
-        pub concept-at : {end made own : ℕ} → r ≡ Read end made own → ConceptAt (modesOf table) deeper s at cells slot after end made own
+        pub concept-at : {end made own : ℕ} → r ≡ Read end made own → ConceptAt table s at deeper cells slot after end made own
         concept-at {end} {made} {own} q =
-            let f = found-at annotatedSize annotatedCount s r (λ a left. ReadAnnotated room (drop at s) a left) at (annotatedOf (modesOf table) deeper room (drop at s)) end made own (one .says) (annotated-reads (modesOf table) deeper room (drop at s)) (h .in-sheet .inside) q in
+            let f = found-at annotatedSize annotatedCount s r _ at noted end made own (one .says)
+            (annotated-reads (modesOf table) bounds deeper room (drop at s)) (h .in-sheet .inside) q in
             record { it = f .it; finds = by-concept ∙ ap ofConcept (f .finds); many = f .many; owned = f .owned; inside = f .inside; laid = one .laid (f .it) (drop end s) (f .finds) }
 
-module _ {m : Modes} {deeper : ℕ} {s : List ℕ} {at : ℕ} {cells : List ℕ} {slot : Slot} {after : List ℕ} {end made own : ℕ} (concept : ConceptAt m deeper s at cells slot after end made own) where
-  abbrev ended : Blank → Body
-  ended rest = element (concept .it .notes) (concept .it .tabs) (concept .it .concept) rest done
+module _ {table s : List ℕ} {at deeper : ℕ} {cells : List ℕ} {slot : Slot} {after : List ℕ} {end made own : ℕ}
+    (concept : ConceptAt table s at deeper cells slot after end made own) where
+  abbrev ended : Blank → BodyPiece
+  ended rest = elementPiece (concept .it) rest
 
-  abbrev ofRest : Found Blank → Found Body
+  abbrev ofRest : Found Blank → Found BodyPiece
   ofRest x = andThen x (λ rest left. found (ended rest) left)
 
-  pub rest-refused : (rest : Part) → seen rest ≡ passed s (lineRest (drop end s)) → {why : Refusal} {place : ℕ} → rest ≡ Refused why place → PieceAt m deeper s at cells slot rest after
+  pub rest-refused : (rest : Part) → seen rest ≡ passed s (lineRest (drop end s)) → {why : Refusal} {place : ℕ} → rest ≡ Refused why place
+      → ReadsPiece table s at deeper cells slot rest after
   rest-refused rest e {why} {place} q = makes-passed _ _ _ _ _ _ _ rest after (λ b. 0) (λ b. 0) ofRest (λ n left. refl) (lineRest (drop end s)) why place e q (concept .finds)
 
-  same-entries : (rest : Blank) → annotatedEntries (slot .parent) (slot .next) at (concept .it) ≡ bodyEntries (slot .parent) (slot .next) at (ended rest)
+  same-entries : (rest : Blank) → annotatedEntries (slot .parent) (slot .next) at (concept .it) ≡ pieceEntries (slot .parent) (slot .next) at (ended rest)
   unfolding insideEntries
   same-entries rest =
       let a = concept .it in
@@ -105,7 +118,7 @@ module _ {m : Modes} {deeper : ℕ} {s : List ℕ} {at : ℕ} {cells : List ℕ}
       ap (λ (es : List Entry). annotationEntries (slot .parent) at (a .notes) ++ (conceptEntry (slot .parent) start (a .tabs) (a .concept) ∷ es))
       (sym (append-nil (insideEntries (slot .next + length (a .notes)) start (a .tabs) (a .concept))))
 
-  pub piece-made : {next : ℕ} → RestAt s end next → PieceAt m deeper s at cells slot (Read next made own) after
+  pub piece-made : {next : ℕ} → RestAt s end next → ReadsPiece table s at deeper cells slot (Read next made own) after
   unfolding conceptSize bodyCount
   piece-made {next} rest =
       makes-read _ _ _ _ _ _ _ (Read next made own) after (ended (rest .it)) next made own refl (rest .inside) (concept .finds ∙ ap ofRest (rest .finds))
@@ -113,92 +126,114 @@ module _ {m : Modes} {deeper : ℕ} {s : List ℕ} {at : ℕ} {cells : List ℕ}
 
 -- ---- the pieces of a body, one after another
 
--- the body from i on, where so many entries are made already; and all of it
+-- the body from i on, where so many entries are made already
 abbrev Rest : Modes → ℕ → List ℕ → Slot → List ℕ → ℕ → ℕ → ℕ → Part → List ℕ → Type 0
 Rest m deeper s slot cells i made own r after =
     Makes (λ b. made + bodySize b) (λ b. own + bodyCount b) (bodyEntries (slot .parent) (slot .next + made) i) s cells (slot .next + made)
-    (bodyOf (boundsOf m) deeper (slot .room - (slot .next + made)) (drop i s)) r after
-
-abbrev All : Modes → ℕ → List ℕ → ℕ → List ℕ → Slot → Part → List ℕ → Type 0
-All m deeper s at cells slot r after = Makes bodySize bodyCount (bodyEntries (slot .parent) (slot .next) at) s cells (slot .next) (bodyOf (boundsOf m) deeper (slot .room - slot .next) (drop at s)) r after
+    (bodyOf m bounds deeper (slot .room - (slot .next + made)) (drop i s)) r after
 
 -- what the turns so far leave
-pub record Pieces (m : Modes) (deeper : ℕ) (s : List ℕ) (at : ℕ) (lent : List ℕ) (slot : Slot) (cells : List ℕ) (i made own : ℕ) : Type 0 where
+pub record Pieces (table s : List ℕ) (at deeper : ℕ) (lent : List ℕ) (slot : Slot) (cells : List ℕ) (i made own : ℕ) : Type 0 where
   pub ahead : at ≤ i
   pub inside : i ≤ length s
   pub few : slot .next + made ≤ slot .room
   pub fewer : own ≤ made
   pub held : length cells ≡ length lent
-  pub goes-on : (r : Part) (after : List ℕ) → Rest m deeper s slot cells i made own r after → All m deeper s at lent slot r after
+  pub goes-on : (r : Part) (after : List ℕ) → Rest (modesOf table) deeper s slot cells i made own r after → ReadsChildren table s at deeper lent slot r after
 
-pub pieces-begin : (m : Modes) (deeper : ℕ) (s : List ℕ) (at : ℕ) (cells : List ℕ) (slot : Slot) → at ≤ length s → slot .next ≤ slot .room → Pieces m deeper s at cells slot cells at 0 0
-pieces-begin m deeper s at cells slot h f = record {
+pub pieces-begin : (table s : List ℕ) (at deeper : ℕ) (cells : List ℕ) (slot : Slot) → at ≤ length s → slot .next ≤ slot .room
+    → Pieces table s at deeper cells slot cells at 0 0
+pieces-begin table s at deeper cells slot h f = record {
   ahead = omega arith;
   inside = h;
   few = omega arith;
   fewer = omega arith;
   held = refl;
   goes-on = λ r after k.
-      makes-same (λ b. 0 + bodySize b) (λ b. 0 + bodyCount b) bodySize bodyCount (bodyEntries (slot .parent) (slot .next) at) s cells (slot .next) (bodyOf (boundsOf m) deeper (slot .room - slot .next) (drop at s)) r after
+      makes-same (λ b. 0 + bodySize b) (λ b. 0 + bodyCount b) bodySize bodyCount (bodyEntries (slot .parent) (slot .next) at) s cells (slot .next)
+      (bodyOf (modesOf table) bounds deeper (slot .room - slot .next) (drop at s)) r after
       (λ b. zero-add (bodySize b)) (λ b. zero-add (bodyCount b)) (rw (add-zero (slot .next)) at k);
 }
 
-module _ {m : Modes} {deeper : ℕ} {s : List ℕ} {at : ℕ} {lent : List ℕ} {slot : Slot} {cells : List ℕ} {i made own : ℕ} (so-far : Pieces m deeper s at lent slot cells i made own)
-    {o : Bool} (asked : o ≡ startsWith (bytes "</") (behind isTab (drop i s))) where
+module _ {table s : List ℕ} {at deeper : ℕ} {lent : List ℕ} {slot : Slot} {cells : List ℕ} {i made own : ℕ}
+    (so-far : Pieces table s at deeper lent slot cells i made own)
+    {o : Bool} (asked : o ≡ isClosing (drop i s)) where
+  abbrev m : Modes
+  m = modesOf table
+
   abbrev left : ℕ
   left = slot .room - (slot .next + made)
 
   abbrev reading : Found Body
-  reading = bodyOf (boundsOf m) deeper left (drop i s)
+  reading = bodyOf m bounds deeper left (drop i s)
 
-  pub pieces-over : not o ≡ false → All m deeper s at lent slot (Read i made own) cells
+  pub pieces-over : not o ≡ false → ReadsChildren table s at deeper lent slot (Read i made own) cells
   unfolding conceptSize bodyCount insideEntries
   pieces-over n =
       so-far .goes-on (Read i made own) cells
       (makes-read _ _ _ _ _ _ reading (Read i made own) cells done i made own refl (so-far .inside) (body-over m deeper left (drop i s) (sym asked ∙ not-false o n)) (sym (add-zero made)) (sym (add-zero own)) (sym (lay-none cells (slot .next + made))))
 
   module _ (n : not o ≡ true) where
-    by-piece : reading ≡ andThen (pieceOf m deeper left (drop i s)) (onward m deeper left)
+    by-piece : reading ≡ andThen (pieceOf m bounds deeper left (drop i s)) (onward m deeper left)
     by-piece = body-on m deeper left (drop i s) (sym asked ∙ not-true o n)
 
     -- one more
-    module _ {next : Slot} (lends : next ≡ slotAfter slot made) {r : Part} {after : List ℕ} (one : PieceAt m deeper s i cells next r after) where
+    module _ {next : Slot} (lends : next ≡ slotAfter slot made) {r : Part} {after : List ℕ} (one : ReadsPiece table s i deeper cells next r after) where
       abbrev start : ℕ
       start = slot .next + made
 
-      found-one : Makes bodySize bodyCount (bodyEntries (slot .parent) start i) s cells start (pieceOf m deeper left (drop i s)) r after
+      found-one : Makes pieceSize pieceCount (pieceEntries (slot .parent) start i) s cells start (pieceOf m bounds deeper left (drop i s)) r after
       found-one = rw lends at one
 
-      pub pieces-refused : {why : Refusal} {place : ℕ} → r ≡ Refused why place → All m deeper s at lent slot r after
+      pub pieces-refused : {why : Refusal} {place : ℕ} → r ≡ Refused why place → ReadsChildren table s at deeper lent slot r after
       pieces-refused {why} {place} q =
           so-far .goes-on r after
-          (makes-passed _ _ _ _ _ _ reading r after bodySize bodyCount (λ x. andThen x (onward m deeper left)) (λ k rest. refl) (pieceOf m deeper left (drop i s)) why place (found-one .says) q by-piece)
+          (makes-passed _ _ _ _ _ _ reading r after pieceSize pieceCount (λ x. andThen x (onward m deeper left)) (λ k rest. refl)
+          (pieceOf m bounds deeper left (drop i s)) why place (found-one .says) q by-piece)
 
       module _ {end more mine : ℕ} (q : r ≡ Read end more mine) where
-        piece : FoundAt bodySize bodyCount (λ p rest. ReadPiece left (drop i s) p rest) s i (pieceOf m deeper left (drop i s)) end more mine
-        piece = found-at bodySize bodyCount s r (λ p rest. ReadPiece left (drop i s) p rest) i (pieceOf m deeper left (drop i s)) end more mine (found-one .says) (piece-reads m deeper left (drop i s)) (so-far .inside) q
+        piece : FoundAt pieceSize pieceCount (λ p rest. ReadPiece m bounds deeper left (drop i s) p rest) s i
+            (pieceOf m bounds deeper left (drop i s)) end more mine
+        piece = found-at pieceSize pieceCount s r _ i (pieceOf m bounds deeper left (drop i s)) end more mine (found-one .says)
+            (piece-reads m bounds deeper left (drop i s)) (so-far .inside) q
 
         pub piece-ahead : (i < end) × (end ≤ length s) × (start + more ≤ slot .room) × (mine ≤ more)
-        piece-ahead = (further s i end (piece .holds .shorter), piece .inside, omega (arith, piece .many, piece .holds .fits, so-far .few), omega (arith, piece .many, piece .owned, body-few (piece .it)))
+        piece-ahead = (
+          further s i end (piece .holds .shorter),
+          piece .inside,
+          omega (arith, piece .many, piece .holds .it .fits, so-far .few),
+          omega
+              (arith, piece .many, piece .owned, body-few (before (piece .it) done)),
+        )
 
         abbrev first : List Entry
-        first = bodyEntries (slot .parent) start i (piece .it)
+        first = pieceEntries (slot .parent) start i (piece .it)
 
-        ends : i + length (bodyOnto (piece .it) []) ≡ end
-        ends = omega (arith, ap length (piece .holds .covers), body-long (piece .it) (drop end s), length-drop i s, length-drop end s, so-far .inside, piece .inside)
+        ends : i + length (bodyOnto (before (piece .it) done) []) ≡ end
+        ends = omega (
+          arith,
+          ap length (piece .holds .it .covers),
+          body-long (before (piece .it) done)
+              (drop end s),
+          length-drop i s,
+          length-drop end s,
+          so-far .inside,
+          piece .inside,
+        )
 
-        entered : (b : Body) → bodyEntries (slot .parent) start i (joined (piece .it) b) ≡ first ++ bodyEntries (slot .parent) (start + length first) end b
+        entered : (b : Body) → bodyEntries (slot .parent) start i (before (piece .it) b) ≡ first ++ bodyEntries (slot .parent) (start + length first) end b
         entered b =
-            joined-entries (piece .it) b (slot .parent) start i
-            ∙ ap (λ (k : ℕ). first ++ bodyEntries (slot .parent) (start + k) (i + length (bodyOnto (piece .it) [])) b) (sym (body-size (piece .it) (slot .parent) start i))
+            before-entries (piece .it) b (slot .parent) start i
+            ∙ ap (λ (k : ℕ). first ++ bodyEntries (slot .parent) (start + k) (i + length (bodyOnto (before (piece .it) done) [])) b)
+            (sym (body-size (before (piece .it) done) (slot .parent) start i))
             ∙ ap (λ (k : ℕ). first ++ bodyEntries (slot .parent) (start + length first) k b) ends
 
-        pub pieces-on : length after ≡ length cells → Pieces m deeper s at lent slot after end (made + more) (own + mine)
+        pub pieces-on : length after ≡ length cells → Pieces table s at deeper lent slot after end (made + more) (own + mine)
         pieces-on h =
             let on = piece-ahead in
-            let long = body-size (piece .it) (slot .parent) start i in
+            let long = body-size (before (piece .it) done) (slot .parent) start i in
             let number : slot .next + (made + more) ≡ start + length first = omega (arith, piece .many) in
-            let less : slot .room - (start + length first) ≡ left - bodySize (piece .it) = omega (arith, long) in
+            let less : slot .room - (start + length first) ≡ left - pieceSize (piece .it) = omega (arith, long) in
             record {
               ahead = omega (arith, so-far .ahead, on .0);
               inside = on .1;
@@ -207,10 +242,14 @@ module _ {m : Modes} {deeper : ℕ} {s : List ℕ} {at : ℕ} {lent : List ℕ} 
               held = h ∙ so-far .held;
               goes-on = λ other cells′ k.
                   so-far .goes-on other cells′
-                  (makes-behind (joined (piece .it)) (λ b. made + bodySize b) (λ b. own + bodyCount b) (bodyEntries (slot .parent) start i) (bodyEntries (slot .parent) (start + length first) end) first s cells after start
-                  (bodyOf (boundsOf m) deeper (left - bodySize (piece .it)) (drop end s)) reading other cells′
-                  (by-piece ∙ ap (λ (x : Found Body). andThen x (onward m deeper left)) (piece .finds))
+                  (makes-behind (before (piece .it)) (λ b. made + bodySize b) (λ b. own + bodyCount b) (bodyEntries (slot .parent) start i)
+                  (bodyEntries (slot .parent) (start + length first) end) first s cells after start
+                  (bodyOf m bounds deeper (left - pieceSize (piece .it)) (drop end s)) reading other cells′
+                  (by-piece ∙ ap (λ (x : Found BodyPiece). andThen x (onward m deeper left)) (piece .finds))
                   entered (found-one .laid (piece .it) (drop end s) (piece .finds))
-                  (makes-same (λ b. made + more + bodySize b) (λ b. own + mine + bodyCount b) _ _ (bodyEntries (slot .parent) (start + length first) end) s after (start + length first) (bodyOf (boundsOf m) deeper (left - bodySize (piece .it)) (drop end s)) other cells′
-                  (λ b. omega (arith, joined-size (piece .it) b, piece .many)) (λ b. omega (arith, joined-count (piece .it) b, piece .owned)) (rw (number, less) at k)));
+                  (makes-same (λ b. made + more + bodySize b) (λ b. own + mine + bodyCount b) _ _
+                  (bodyEntries (slot .parent) (start + length first) end) s after (start + length first)
+                  (bodyOf m bounds deeper (left - pieceSize (piece .it)) (drop end s)) other cells′
+                  (λ b. omega (arith, before-size (piece .it) b, piece .many)) (λ b. omega (arith, before-count (piece .it) b, piece .owned))
+                  (rw (number, less) at k)));
             }

@@ -12,17 +12,18 @@ use Rattle.paper.specs.declared.Answer.{Answer}
 use Rattle.paper.specs.declared.Refusal.{Refusal}
 use Rattle.paper.specs.Answer.{Told, accepted, refused, numberOf, told}
 use Rattle.paper.specs.Found.{Found, found, fault, andThen, placeIn}
-use Rattle.paper.specs.Bytes.{isBlank, lengthIn, front, behind, sheetBytes}
+use Rattle.paper.specs.Bytes.{isBlank, front, behind, sheetBytes}
 use Rattle.paper.specs.Modes.{Modes, modeTable, readTable}
 use Rattle.paper.specs.Limits.{sheetLimit, conceptLimit}
-use Rattle.paper.specs.Tree.{Blank, Sheet}
+use Rattle.paper.specs.Tree.{Blank, Annotated, Sheet}
 use Rattle.paper.specs.Grammar.{blanksOnto}
 use Rattle.paper.specs.Entries.{noParent, entryCells, sheetSize, entries, filled, allCells}
-use Rattle.paper.specs.Reading.{blankLines, isTab, tabsOnly, annotations, conceptOf, lastBlanks, sheetTree, roomOf, sheetOf, Reading, reading, boundsOf}
+use Rattle.paper.specs.Reading.{blankLines, isTab, tabsOnly, annotatedOf, lastBlanks, sheetTree, roomOf, sheetOf, Reading, reading, bounds}
 use Rattle.paper.proofs.Told.{number-positive}
 use Rattle.paper.proofs.Tests.{split}
-use Rattle.paper.proofs.Finds.{Finds, Reads as ReadsIn, then-then, then-alike}
+use Rattle.paper.proofs.Finds.{Finds, Reads as ReadsIn}
 use Rattle.paper.proofs.Lines.{ReadBlanks, blanks-reads, only-reads}
+use Rattle.paper.proofs.Concepts.{annotated-reads}
 use Rattle.paper.proofs.Sheets.{ReadSheet, sheet-reads}
 use Rattle.paper.proofs.Before.{Only, bytes-only}
 use Rattle.paper.proofs.Sizes.{entries-size}
@@ -38,14 +39,13 @@ use Rattle.lines.specs.declared.part.Part.{Part}
 use Rattle.lines.specs.declared.part.Part.the-variants.{Read, Refused}
 use Rattle.lines.proofs.Crossing.{seen-map, FoundAt, found-at, fault-at, refused-then, makes-passed, makes-read}
 use Rattle.lines.proofs.Lengths.{blanks-long}
-use Rattle.sheets.specs.Concepts.{Stands, Annotated, annotatedOf, annotatedSize, annotatedCount, annotatedEntries}
-use Rattle.sheets.specs.Sheets.{toldOf, Reads, rootCount, restOf}
-use Rattle.sheets.proofs.AnnotatedLaws.{ReadAnnotated, annotated-reads}
+use Rattle.sheets.specs.Concepts.{Ready, annotatedSize, annotatedCount, annotatedEntries}
+use Rattle.sheets.specs.Sheets.{answerOf, Reads, rootCount, behindRoot}
 
 -- ---- blank lines, by their place
 
 module _ (s : List ℕ) (at : ℕ) (r : Part) (e : seen r ≡ passed s (blankLines (drop at s))) where
-  pub blanks-refused : (why : Refusal) (place : ℕ) → r ≡ Refused why place → seen r ≡ passed s (restOf (drop at s))
+  pub blanks-refused : (why : Refusal) (place : ℕ) → r ≡ Refused why place → seen r ≡ passed s (behindRoot (drop at s))
   blanks-refused why place q =
       refused-then (λ b. 0) (λ b. 0) s r (λ b. 0) (λ b. 0) (λ after left. lastBlanks (front isBlank left) (behind isBlank left)) (blankLines (drop at s)) why place e q
 
@@ -56,7 +56,8 @@ module _ (s : List ℕ) (at : ℕ) (r : Part) (e : seen r ≡ passed s (blankLin
     pub blanks-inside : end ≤ length s
     blanks-inside = blanks-found .inside
 
-    pub blanks-last : (t : Part) → seen t ≡ passed s (lastBlanks (front isBlank (drop end s)) (behind isBlank (drop end s))) → seen t ≡ passed s (restOf (drop at s))
+    pub blanks-last : (t : Part) → seen t ≡ passed s (lastBlanks (front isBlank (drop end s)) (behind isBlank (drop end s)))
+        → seen t ≡ passed s (behindRoot (drop at s))
     blanks-last t g = rw (blanks-found .finds) g
 
 -- ---- the root of a sheet, and what is read behind it
@@ -72,7 +73,7 @@ module _ (before : List Blank) (a : Annotated) where
   ended left = andThen (blankLines left) (λ after left. closed after (lastBlanks (front isBlank left) (behind isBlank left)))
 
   -- the blanks are passed alike, whether the sheet is made or not
-  rest-alike : (s left : List ℕ) → passed s (restOf left) ≡ passed s (ended left)
+  rest-alike : (s left : List ℕ) → passed s (behindRoot left) ≡ passed s (ended left)
   rest-alike s left = by-lines (blankLines left)
     where
       by-lines : (x : Found (List Blank))
@@ -106,25 +107,21 @@ module _ (before : List Blank) (a : Annotated) where
 
 module _ (m : Modes) (s cells : List ℕ) where
   abbrev tree : Found Sheet
-  tree = sheetTree (boundsOf m) conceptLimit (roomOf (length cells)) s
+  tree = sheetTree m bounds conceptLimit (roomOf (length cells)) s
 
   abbrev Grows : Part → List ℕ → Type 0
   Grows r after = Makes sheetSize rootCount entries s cells 0 tree r after
 
   -- what is read behind the blank lines before the root, and behind its tabs
   abbrev rooted : List Blank → List ℕ → Found Sheet
-  rooted before first = andThen (annotatedOf m conceptLimit (roomOf (length cells)) first) (ended before)
+  rooted before first = andThen (annotatedOf m bounds conceptLimit (roomOf (length cells)) first) (ended before)
 
   abbrev led : List Blank → List ℕ → Found Sheet
   led before first = andThen (tabsOnly first) (λ tabs mark. rooted before first)
 
   by-blanks : tree ≡ andThen (blankLines s) led
-  unfolding sheetTree annotatedOf
-  by-blanks =
-      then-alike (blankLines s) _ _ (λ before first. then-alike (tabsOnly first) _ _ (λ tabs mark.
-      then-alike (annotations (roomOf (length cells)) first) _ _ (λ notes line.
-      sym (then-then (conceptOf (boundsOf m) conceptLimit (roomOf (length cells) - length notes) (lengthIn isTab line) (behind isTab line)) (λ c left. found (record { notes = notes; tabs = lengthIn isTab line; concept = c }) left) (ended before)))
-      ∙ sym (then-then (annotations (roomOf (length cells)) first) _ (ended before))))
+  unfolding sheetTree
+  by-blanks = refl
 
   -- the root is due at a place, behind blank lines
   pub record Led (first : ℕ) : Type 0 where
@@ -170,9 +167,10 @@ module _ (m : Modes) (s cells : List ℕ) where
     pub laid : after ≡ lay cells 0 (annotatedEntries noParent 0 (length (blanksOnto before [])) root)
 
   module _ (first : ℕ) (l : Led first) (deeper room : ℕ) (deep : deeper ≡ conceptLimit) (lent : room ≡ roomOf (length cells)) (r : Part) (after : List ℕ)
-      (g : Makes annotatedSize annotatedCount (annotatedEntries noParent 0 first) s cells 0 (annotatedOf m deeper (room - 0) (drop first s)) r after) where
+      (g : Makes annotatedSize annotatedCount (annotatedEntries noParent 0 first) s cells 0
+      (annotatedOf m bounds deeper (room - 0) (drop first s)) r after) where
     abbrev reads : Found Annotated
-    reads = annotatedOf m conceptLimit (roomOf (length cells)) (drop first s)
+    reads = annotatedOf m bounds conceptLimit (roomOf (length cells)) (drop first s)
 
     roots : Makes annotatedSize annotatedCount (annotatedEntries noParent 0 first) s cells 0 reads r after
     roots = let n : room - 0 ≡ roomOf (length cells) = omega arith in rw (deep, n) at g
@@ -183,7 +181,8 @@ module _ (m : Modes) (s cells : List ℕ) where
 
     pub root-read : (end made own : ℕ) → r ≡ Read end made own → RootAt end made own after
     root-read end made own q =
-        let t = found-at annotatedSize annotatedCount s r (λ a left. ReadAnnotated (roomOf (length cells)) (drop first s) a left) first reads end made own (roots .says) (annotated-reads m conceptLimit (roomOf (length cells)) (drop first s)) (l .inside) q in
+        let t = found-at annotatedSize annotatedCount s r _ first reads end made own (roots .says)
+        (annotated-reads m bounds conceptLimit (roomOf (length cells)) (drop first s)) (l .inside) q in
         record {
           before = l .before;
           root = t .it;
@@ -194,7 +193,7 @@ module _ (m : Modes) (s cells : List ℕ) where
           laid = roots .laid (t .it) (drop end s) (t .finds) ∙ ap (λ (k : ℕ). lay cells 0 (annotatedEntries noParent 0 k (t .it))) (l .starts);
         }
 
-  module _ (end made own : ℕ) (after : List ℕ) (root : RootAt end made own after) (r : Part) (e : seen r ≡ passed s (restOf (drop end s))) where
+  module _ (end made own : ℕ) (after : List ℕ) (root : RootAt end made own after) (r : Part) (e : seen r ≡ passed s (behindRoot (drop end s))) where
     rests : seen r ≡ passed s tree
     rests = e ∙ rest-alike (root .before) (root .root) s (drop end s) ∙ ap (passed s) (sym (root .same))
 
@@ -203,13 +202,15 @@ module _ (m : Modes) (s cells : List ℕ) where
 
     pub tree-read : (last some mine : ℕ) → r ≡ Read last some mine → Grows (Read last made own) after
     tree-read last some mine q =
-        let t = found-at (λ t. 0) (λ t. 0) s r (λ t left. ReadSheet (boundsOf m) conceptLimit (roomOf (length cells)) s t left) 0 tree last some mine rests (sheet-reads (boundsOf m) conceptLimit (roomOf (length cells)) s) (omega arith) q in
+        let t = found-at (λ t. 0) (λ t. 0) s r (λ t left. ReadSheet m bounds conceptLimit (roomOf (length cells)) s t left) 0 tree last some mine rests
+        (sheet-reads m bounds conceptLimit (roomOf (length cells)) s) (omega arith) q in
         let of = ended-rooted (root .before) (root .root) (drop end s) (t .it) (drop last s) (sym (root .same) ∙ t .finds) in
         makes-read sheetSize rootCount entries s cells 0 tree (Read last made own) after (t .it) last made own refl (t .inside) (t .finds) (root .size ∙ sym (of .size)) (root .count ∙ sym (of .count))
         (root .laid ∙ ap (lay cells 0) (sym (of .are)))
 
 -- the root is read with the room that the cells have
-pub root-stands : (table s cells : List ℕ) (first room : ℕ) → Valid table → length s ≤ sheetLimit → first ≤ length s → room ≡ roomOf (length cells) → Stands table s first cells (record { next = 0; room = room; parent = noParent })
+pub root-stands : (table s cells : List ℕ) (first room : ℕ) → Valid table → length s ≤ sheetLimit → first ≤ length s → room ≡ roomOf (length cells)
+    → Ready table s first cells (record { next = 0; room = room; parent = noParent })
 root-stands table s cells first room v l h e =
     record {
       valid = v;
@@ -224,12 +225,12 @@ finds-fits : (m : Modes) (room : ℕ) (s : List ℕ) → Finds (λ t left. lengt
 unfolding sheetOf
 finds-fits m room s = split (ltb sheetLimit (length s)) (λ e. rw (e, sheetOf) tt) (λ e. rw (e, sheetOf) (by-bytes (sheetBytes s)))
   where
-    by-tree : (x : Found Sheet) → ReadsIn s (λ t left. ReadSheet (boundsOf m) conceptLimit room s t left) x → Finds (λ t left. length (entries t) ≤ room) x
+    by-tree : (x : Found Sheet) → ReadsIn s (λ t left. ReadSheet m bounds conceptLimit room s t left) x → Finds (λ t left. length (entries t) ≤ room) x
     by-tree (found t left) h = omega (arith, h .1 .fits, entries-size t)
     by-tree (fault n left) h = tt
 
-    by-bytes : (x : Found (List ℕ)) → Finds (λ t left. length (entries t) ≤ room) (andThen x (λ vs left. sheetTree (boundsOf m) conceptLimit room s))
-    by-bytes (found vs left) = by-tree (sheetTree (boundsOf m) conceptLimit room s) (sheet-reads (boundsOf m) conceptLimit room s)
+    by-bytes : (x : Found (List ℕ)) → Finds (λ t left. length (entries t) ≤ room) (andThen x (λ vs left. sheetTree m bounds conceptLimit room s))
+    by-bytes (found vs left) = by-tree (sheetTree m bounds conceptLimit room s) (sheet-reads m bounds conceptLimit room s)
     by-bytes (fault n left) = tt
 
 module _ (m : Modes) (s cells : List ℕ) where
@@ -237,7 +238,7 @@ module _ (m : Modes) (s cells : List ℕ) where
   sheet = sheetOf m (roomOf (length cells)) s
 
   faulty : (answer : Told) (after : List ℕ) (n : ℕ) (left : List ℕ) → sheet ≡ fault n left → answer ≡ refused n (placeIn s left) → Reads s cells sheet answer after
-  faulty answer after n left f e = record { says = e ∙ ap (toldOf s) (sym f); laid = λ t end g. let z : _≡_ {A = ℕ} 0 1 = cc in absurd (omega arith) }
+  faulty answer after n left f e = record { says = e ∙ ap (answerOf s) (sym f); laid = λ t end g. let z : _≡_ {A = ℕ} 0 1 = cc in absurd (omega arith) }
 
   pub sheet-long : (after : List ℕ) → sheetLimit < length s → Reads s cells sheet (refused 2 sheetLimit) after
   unfolding sheetOf
@@ -277,10 +278,11 @@ module _ (m : Modes) (s cells : List ℕ) where
         -- nothing is left behind a sheet: it ends at its length
         pub sheet-read : (end made own : ℕ) → r ≡ Read end made own → Reads s cells sheet (accepted end made) after
         sheet-read end made own q =
-            let t = found-at sheetSize rootCount s r (λ t left. ReadSheet (boundsOf m) conceptLimit (roomOf (length cells)) s t left) 0 (tree m s cells) end made own (g .says) (sheet-reads (boundsOf m) conceptLimit (roomOf (length cells)) s) (omega arith) q in
+            let t = found-at sheetSize rootCount s r (λ t left. ReadSheet m bounds conceptLimit (roomOf (length cells)) s t left) 0
+            (tree m s cells) end made own (g .says) (sheet-reads m bounds conceptLimit (roomOf (length cells)) s) (omega arith) q in
             let l : end ≡ length s = omega (arith, ap length (t .holds .over), length-drop end s, t .inside) in
             let n : made ≡ length (entries (t .it)) = sym (t .many) ∙ sym (entries-size (t .it)) in
-            record { says = ap₂ accepted l n ∙ ap (toldOf s) (sym (t .finds) ∙ sym by-tree); laid = λ a left k. g .laid a left (sym by-tree ∙ k) }
+            record { says = ap₂ accepted l n ∙ ap (answerOf s) (sym (t .finds) ∙ sym by-tree); laid = λ a left k. g .laid a left (sym by-tree ∙ k) }
 
 -- ---- the whole reading
 
@@ -307,7 +309,7 @@ module _ (table s cells : List ℕ) where
     pub count-fits : count * entryCells ≤ length mid
     count-fits = go (sheet (modesOf table) s cells) (finds-fits (modesOf table) (roomOf (length cells)) s) (g .says)
       where
-        go : (x : Found Sheet) → Finds (λ t left. length (entries t) ≤ roomOf (length cells)) x → told r ≡ toldOf s x → count * entryCells ≤ length mid
+        go : (x : Found Sheet) → Finds (λ t left. length (entries t) ≤ roomOf (length cells)) x → told r ≡ answerOf s x → count * entryCells ≤ length mid
         go (found t left) h e = omega (arith, h, ap (λ (a : Told). a .count) e)
         go (fault k left) h e = omega (arith, ap (λ (a : Told). a .count) e)
 
@@ -319,7 +321,7 @@ module _ (table s cells : List ℕ) where
             → sets mid (count * entryCells) (replicate (length mid - count * entryCells) 0) ≡ sets (lay cells 0 (entries t)) (length (entries t) * entryCells) (replicate (length cells - length (entries t) * entryCells) 0)
         cleared t l many = rw (same, l, many)
 
-        go : (x : Found Sheet) → sheet (modesOf table) s cells ≡ x → told r ≡ toldOf s x → answers (told r) after ≡ reading table s (length cells)
+        go : (x : Found Sheet) → sheet (modesOf table) s cells ≡ x → told r ≡ answerOf s x → answers (told r) after ≡ reading table s (length cells)
         go (found t left) f e =
             let many : count ≡ length (entries t) = n ∙ ap (λ (a : Told). a .count) e in
             rw (v, reading, f) (ap₂ answers e (z ∙ cleared t (g .laid t left f) many ∙ lay-filled cells (entries t) (omega (arith, count-fits))))

@@ -4,8 +4,8 @@ use mathlib.Core.List.{List}
 use lib.ListN.{length}
 use Rattle.entries.specs.Laid.{Fits}
 use Rattle.entries.specs.declared.Slot.{Slot}
-use Rattle.sheets.specs.Concepts.{Stands}
+use Rattle.sheets.specs.Concepts.{Ready}
 
 -- another place of the sheet, and a slot that fits
-pub stands-on : {table s lent cells : List ℕ} {at end : ℕ} {slot next : Slot} → Stands table s at lent slot → end ≤ length s → Fits cells next → Stands table s end cells next
+pub stands-on : {table s lent cells : List ℕ} {at end : ℕ} {slot next : Slot} → Ready table s at lent slot → end ≤ length s → Fits cells next → Ready table s end cells next
 stands-on h inside fits = record { valid = h .valid; in-sheet = record { within = h .in-sheet .within; inside = inside }; fits = fits }

@@ -17,10 +17,9 @@ use Rattle.paper.specs.Values.{Value, leaf, emptyList, list, More, close, comma
 use Rattle.paper.specs.Tree.{Trait}
 use Rattle.paper.specs.ReadingValues.{valueOf, wholeValue}
 use Rattle.paper.specs.Entries.{Entry, valueWidth, itemsOf, itemSize, itemEntry, itemEntries, moreEntries, traitSize}
-use Rattle.paper.specs.Reading.{enters, name, due, trait, boundsOf}
+use Rattle.paper.specs.Reading.{enters, name, due, trait, bounds}
 use Rattle.paper.specs.Bytes.{byte}
 use Rattle.paper.specs.Names.{isTraitName}
-use Rattle.paper.specs.Modes.{Modes}
 use Rattle.paper.proofs.Tests.{upTo}
 use Rattle.paper.proofs.Sizes.{item-size}
 use Rattle.paper.proofs.ReadValues.{ReadValue, value-length, whole-fault, whole-found, whole-reads}
@@ -242,7 +241,7 @@ module _ {s : List ℕ} {at : ℕ} (place : In s at) {cells : List ℕ} {slot : 
   pub behind-equals : {to end : ℕ} → DueAt (byte "=") s to end → In s (to + 1)
   behind-equals equals = record { within = place .within; inside = omega (arith, equals .next, equals .inside) }
 
-  module _ (m : Modes) (white : List ℕ) where
+  module _ (white : List ℕ) where
     -- what the trait makes of its name, and of the "=" behind it
     abbrev of-equals : List ℕ → Found ℕ → Found Trait
     of-equals w x = andThen x (λ b valued. valueIn (leftOf slot) (drop at s) white w valued)
@@ -250,18 +249,18 @@ module _ {s : List ℕ} {at : ℕ} (place : In s at) {cells : List ℕ} {slot : 
     abbrev of-name : Found (List ℕ) → Found Trait
     of-name x = andThen x (λ w left. of-equals w (due (byte "=") left))
 
-    by-name : trait (boundsOf m) (leftOf slot) white (drop at s) ≡ of-name (name isTraitName (drop at s))
+    by-name : trait bounds (leftOf slot) white (drop at s) ≡ of-name (name isTraitName (drop at s))
     unfolding trait
     by-name = refl
 
     abbrev Traited : Part → List ℕ → Type 0
-    Traited r after = Makes traitSize (λ t. 1) (oneTrait (slot .parent) (slot .next) at) s cells (slot .next) (trait (boundsOf m) (leftOf slot) white (drop at s)) r after
+    Traited r after = Makes traitSize (λ t. 1) (oneTrait (slot .parent) (slot .next) at) s cells (slot .next) (trait bounds (leftOf slot) white (drop at s)) r after
 
     pub no-name : (r : Part) → seen r ≡ passed s (name isTraitName (drop at s)) → {why : Refusal} {place : ℕ} → r ≡ Refused why place → Traited r cells
     no-name r e {why} {place} q = makes-passed _ _ _ _ _ _ _ r cells (λ w. 0) (λ w. 0) of-name (λ k left. refl) (name isTraitName (drop at s)) why place e q by-name
 
     module _ {to : ℕ} (named : NameAt isTraitName s at to) where
-      by-equals : trait (boundsOf m) (leftOf slot) white (drop at s) ≡ of-equals (named .it) (due (byte "=") (drop to s))
+      by-equals : trait bounds (leftOf slot) white (drop at s) ≡ of-equals (named .it) (due (byte "=") (drop to s))
       by-equals = by-name ∙ ap of-name (named .finds)
 
       pub no-equals : (r : Part) → seen r ≡ passed s (due (byte "=") (drop to s)) → {why : Refusal} {place : ℕ} → r ≡ Refused why place → Traited r cells
@@ -271,6 +270,6 @@ module _ {s : List ℕ} {at : ℕ} (place : In s at) {cells : List ℕ} {slot : 
           → ((white w : List ℕ) → length w ≡ to - at → Makes traitSize (λ t. 1) (oneTrait (slot .parent) (slot .next) at) s cells (slot .next) (valueIn (leftOf slot) (drop at s) white w (drop (to + 1) s)) r after)
           → Traited r after
       trait-entered equals k =
-          let by-value : trait (boundsOf m) (leftOf slot) white (drop at s) ≡ valueIn (leftOf slot) (drop at s) white (named .it) (drop (to + 1) s) =
+          let by-value : trait bounds (leftOf slot) white (drop at s) ≡ valueIn (leftOf slot) (drop at s) white (named .it) (drop (to + 1) s) =
           by-equals ∙ ap (of-equals (named .it)) (equals .finds) ∙ ap (λ (n : ℕ). valueIn (leftOf slot) (drop at s) white (named .it) (drop n s)) (equals .next) in
           rw by-value (k white (named .it) (named .long))

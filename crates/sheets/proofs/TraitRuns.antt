@@ -13,12 +13,11 @@ use Rattle.paper.specs.declared.Refusal.{Refusal}
 use Rattle.paper.specs.declared.Refusal.the-variants.{Cut, Due}
 use Rattle.paper.specs.Found.{Found, fault, over, stop, turnOf}
 use Rattle.paper.specs.Bytes.{byte, bytes, isWhite, elem, front}
-use Rattle.paper.specs.Modes.{Modes}
 use Rattle.paper.specs.Values.{valueOnto}
 use Rattle.paper.specs.Tree.{Trait}
 use Rattle.paper.specs.Grammar.{traitOnto}
 use Rattle.paper.specs.Entries.{Entry, traitSize, traitsSize, traitEntries}
-use Rattle.paper.specs.Reading.{Bounds, trait, traitDue, traitTurn, boundsOf}
+use Rattle.paper.specs.Reading.{Bounds, trait, traitDue, traitTurn, bounds}
 use Rattle.paper.proofs.ReadValues.{value-length}
 use Rattle.paper.proofs.Markers.{ReadTrait, trait-reads, trait-shorter}
 use Rattle.paper.proofs.Sizes.{item-size}
@@ -42,12 +41,12 @@ made-with made ts = made + traitsSize ts
 abbrev own-with : ℕ → List Trait → ℕ
 own-with own ts = own + length ts
 
-abbrev Rest : Modes → List ℕ → Slot → List ℕ → ℕ → ℕ → ℕ → Part → List ℕ → Type 0
-Rest m s slot cells i made own r after =
-    Makes (made-with made) (own-with own) (traitEntries (slot .parent) (slot .next + made) i) s cells (slot .next + made) (traitsOf m (slot .room - (slot .next + made)) (drop i s)) r after
+abbrev Rest : List ℕ → Slot → List ℕ → ℕ → ℕ → ℕ → Part → List ℕ → Type 0
+Rest s slot cells i made own r after =
+    Makes (made-with made) (own-with own) (traitEntries (slot .parent) (slot .next + made) i) s cells (slot .next + made) (traitsOf (slot .room - (slot .next + made)) (drop i s)) r after
 
-abbrev All : Modes → List ℕ → ℕ → List ℕ → Slot → Part → List ℕ → Type 0
-All m s at cells slot r after = Makes traitsSize length (traitEntries (slot .parent) (slot .next) at) s cells (slot .next) (traitsOf m (slot .room - slot .next) (drop at s)) r after
+abbrev All : List ℕ → ℕ → List ℕ → Slot → Part → List ℕ → Type 0
+All s at cells slot r after = Makes traitsSize length (traitEntries (slot .parent) (slot .next) at) s cells (slot .next) (traitsOf (slot .room - slot .next) (drop at s)) r after
 
 -- what the turns so far leave
 pub record Traits (s : List ℕ) (at : ℕ) (lent : List ℕ) (slot : Slot) (cells : List ℕ) (i made own : ℕ) : Type 0 where
@@ -55,7 +54,7 @@ pub record Traits (s : List ℕ) (at : ℕ) (lent : List ℕ) (slot : Slot) (cel
   pub few : slot .next + made ≤ slot .room
   pub some : own ≤ made
   pub held : length cells ≡ length lent
-  pub onward : (m : Modes) (r : Part) (after : List ℕ) → Rest m s slot cells i made own r after → All m s at lent slot r after
+  pub onward : (r : Part) (after : List ℕ) → Rest s slot cells i made own r after → All s at lent slot r after
 
 pub traits-begin : (s : List ℕ) (at : ℕ) (cells : List ℕ) (slot : Slot) → at ≤ length s → slot .next ≤ slot .room → Traits s at cells slot cells at 0 0
 traits-begin s at cells slot h f = record {
@@ -63,8 +62,8 @@ traits-begin s at cells slot h f = record {
   few = omega arith;
   some = omega arith;
   held = refl;
-  onward = λ m r after k.
-      makes-same (made-with 0) (own-with 0) traitsSize length (traitEntries (slot .parent) (slot .next) at) s cells (slot .next) (traitsOf m (slot .room - slot .next) (drop at s)) r after
+  onward = λ r after k.
+      makes-same (made-with 0) (own-with 0) traitsSize length (traitEntries (slot .parent) (slot .next) at) s cells (slot .next) (traitsOf (slot .room - slot .next) (drop at s)) r after
       (λ ts. zero-add (traitsSize ts)) (λ ts. zero-add (length ts)) (rw (add-zero (slot .next)) at k);
 }
 
@@ -100,112 +99,107 @@ module _ {s : List ℕ} {at : ℕ} {lent : List ℕ} {slot : Slot} {cells : List
   white = front isWhite (drop i s)
 
   -- a fault that the turn meets is that of the whole run
-  stopped : (m : Modes) (x : Found Trait) → traitTurn (boundsOf m) left (drop i s) ≡ turnOf x → (r : Part) (why : Refusal) (place : ℕ) (after : List ℕ) → r ≡ Refused why place
-      → (many mine : Trait → ℕ) → seen r ≡ seenOf many mine s x → All m s at lent slot r after
-  stopped m x t r why place after q many mine e =
-      so-far .onward m r after
-      (makes-stop traitSize (traitTurn (boundsOf m)) (trait-shorter (boundsOf m)) left (drop i s) many mine turnOf (λ k rest. refl) (made-with made) (own-with own) (traitEntries (slot .parent) (slot .next + made) i) s cells (slot .next + made) x r after
+  stopped : (x : Found Trait) → traitTurn bounds left (drop i s) ≡ turnOf x → (r : Part) (why : Refusal) (place : ℕ) (after : List ℕ) → r ≡ Refused why place
+      → (many mine : Trait → ℕ) → seen r ≡ seenOf many mine s x → All s at lent slot r after
+  stopped x t r why place after q many mine e =
+      so-far .onward r after
+      (makes-stop traitSize (traitTurn bounds) (trait-shorter bounds) left (drop i s) many mine turnOf (λ k rest. refl) (made-with made) (own-with own) (traitEntries (slot .parent) (slot .next + made) i) s cells (slot .next + made) x r after
       why place e q t)
 
   module _ {mark : ℕ} (run : Stretch isWhite s i mark) where
-    pub traits-cut : mark ≡ length s → (m : Modes) {r : Part} → r ≡ Refused Cut (length s) → All m s at lent slot r cells
+    pub traits-cut : mark ≡ length s → {r : Part} → r ≡ Refused Cut (length s) → All s at lent slot r cells
     unfolding traitTurn traitDue
-    traits-cut h m {r} q =
-        stopped m (fault 9 []) (rw (behind-none isWhite s i mark run (omega arith))) r Cut (length s) cells q (λ t. 0) (λ t. 0) (says-cut {A = Trait} (λ t. 0) (λ t. 0) s (fault 9 []) r q refl)
+    traits-cut h {r} q =
+        stopped (fault 9 []) (rw (behind-none isWhite s i mark run (omega arith))) r Cut (length s) cells q (λ t. 0) (λ t. 0) (says-cut {A = Trait} (λ t. 0) (λ t. 0) s (fault 9 []) r q refl)
 
     module _ (h : mark < length s) where
-      by-mark : (m : Modes) → traitTurn (boundsOf m) left (drop i s) ≡ traitDue (boundsOf m) left (drop i s) white (getD s mark 0 ∷ drop (mark + 1) s)
+      by-mark : traitTurn bounds left (drop i s) ≡ traitDue bounds left (drop i s) white (getD s mark 0 ∷ drop (mark + 1) s)
       unfolding traitTurn
-      by-mark m = ap (traitDue (boundsOf m) left (drop i s) white) (behind-some isWhite s i mark run h)
+      by-mark = ap (traitDue bounds left (drop i s) white) (behind-some isWhite s i mark run h)
 
       white-long : length white ≡ mark - i
       white-long = ap length (front-at isWhite s i mark run) ∙ part-length s i mark (run .1) (run .2)
 
-      pub traits-over : elem (getD s mark 0) (bytes ">/") ≡ true → (m : Modes) {r : Part} → r ≡ Read i made own → All m s at lent slot r cells
+      pub traits-over : elem (getD s mark 0) (bytes ">/") ≡ true → {r : Part} → r ≡ Read i made own → All s at lent slot r cells
       unfolding traitEntries traitsSize
-      traits-over e m {r} q =
-          so-far .onward m r cells
-          (makes-over traitSize (traitTurn (boundsOf m)) (trait-shorter (boundsOf m)) left (drop i s) (made-with made) (own-with own) (traitEntries (slot .parent) (slot .next + made) i) s cells (slot .next + made) r i made own
-          (by-mark m ∙ ends-marker (boundsOf m) left (drop i s) white (getD s mark 0) (drop (mark + 1) s) e) q (so-far .inside) (sym (add-zero made)) (sym (add-zero own)) refl)
+      traits-over e {r} q =
+          so-far .onward r cells
+          (makes-over traitSize (traitTurn bounds) (trait-shorter bounds) left (drop i s) (made-with made) (own-with own) (traitEntries (slot .parent) (slot .next + made) i) s cells (slot .next + made) r i made own
+          (by-mark ∙ ends-marker bounds left (drop i s) white (getD s mark 0) (drop (mark + 1) s) e) q (so-far .inside) (sym (add-zero made)) (sym (add-zero own)) refl)
 
       module _ (e : elem (getD s mark 0) (bytes ">/") ≡ false) where
-        pub traits-due : mark ≡ i → (m : Modes) {r : Part} → r ≡ Refused Due mark → All m s at lent slot r cells
-        traits-due n m {r} q =
+        pub traits-due : mark ≡ i → {r : Part} → r ≡ Refused Due mark → All s at lent slot r cells
+        traits-due n {r} q =
             let none : leb 1 (length white) ≡ false = lt-leb 1 (length white) (omega (arith, white-long)) in
-            let turn = by-mark m ∙ no-white (boundsOf m) left (drop i s) white (getD s mark 0) (drop (mark + 1) s) e none ∙ ap (stop 7) (sym (here s mark h)) in
-            stopped m (fault 7 (drop mark s)) turn r Due mark cells q (λ t. 0) (λ t. 0) (says-refused {A = Trait} (λ t. 0) (λ t. 0) s (fault 7 (drop mark s)) r Due mark q (run .2) refl)
+            let turn = by-mark ∙ no-white bounds left (drop i s) white (getD s mark 0) (drop (mark + 1) s) e none ∙ ap (stop 7) (sym (here s mark h)) in
+            stopped (fault 7 (drop mark s)) turn r Due mark cells q (λ t. 0) (λ t. 0) (says-refused {A = Trait} (λ t. 0) (λ t. 0) s (fault 7 (drop mark s)) r Due mark q (run .2) refl)
 
-        a-trait : i < mark → (m : Modes) → traitTurn (boundsOf m) left (drop i s) ≡ turnOf (trait (boundsOf m) left white (drop mark s))
-        a-trait w m =
+        a-trait : i < mark → traitTurn bounds left (drop i s) ≡ turnOf (trait bounds left white (drop mark s))
+        a-trait w =
             let some : leb 1 (length white) ≡ true = le-leb 1 (length white) (omega (arith, white-long)) in
-            by-mark m ∙ some-white (boundsOf m) left (drop i s) white (getD s mark 0) (drop (mark + 1) s) e some ∙ ap (λ (l : List ℕ). turnOf (trait (boundsOf m) left white l)) (sym (here s mark h))
+            by-mark ∙ some-white bounds left (drop i s) white (getD s mark 0) (drop (mark + 1) s) e some ∙ ap (λ (l : List ℕ). turnOf (trait bounds left white l)) (sym (here s mark h))
 
     -- one more
     module _ (due : Begins s i mark) {next : Slot} (lends : next ≡ slotAfter slot made) {r : Part} {after : List ℕ}
-        (one : (m : Modes) (w : List ℕ) → Makes traitSize (λ t. 1) (oneTrait (next .parent) (next .next) mark) s cells (next .next) (trait (boundsOf m) (next .room - next .next) w (drop mark s)) r after) where
+        (one : (w : List ℕ) → Makes traitSize (λ t. 1) (oneTrait (next .parent) (next .next) mark) s cells (next .next) (trait bounds (next .room - next .next) w (drop mark s)) r after) where
       abbrev number : ℕ
       number = slot .next + made
 
-      abbrev reading : Modes → Found Trait
-      reading m = trait (boundsOf m) left white (drop mark s)
+      abbrev reading : Found Trait
+      reading = trait bounds left white (drop mark s)
 
-      turn : (m : Modes) → traitTurn (boundsOf m) left (drop i s) ≡ turnOf (reading m)
+      turn : traitTurn bounds left (drop i s) ≡ turnOf reading
       turn = a-trait (due .inside) (due .goes-on) (due .some)
 
-      entered : (m : Modes) → Makes traitSize (λ t. 1) (oneTrait (slot .parent) number mark) s cells number (reading m) r after
-      entered m = rw lends at (one m white)
+      entered : Makes traitSize (λ t. 1) (oneTrait (slot .parent) number mark) s cells number reading r after
+      entered = rw lends at (one white)
 
-      pub traits-refused : {why : Refusal} {place : ℕ} → r ≡ Refused why place → (m : Modes) → All m s at lent slot r after
-      traits-refused {why} {place} q m = stopped m (reading m) (turn m) r why place after q traitSize (λ t. 1) (entered m .says)
+      pub traits-refused : {why : Refusal} {place : ℕ} → r ≡ Refused why place → All s at lent slot r after
+      traits-refused {why} {place} q = stopped reading turn r why place after q traitSize (λ t. 1) (entered .says)
 
       module _ {end more mine : ℕ} (q : r ≡ Read end more mine) where
-        it : (m : Modes) → FoundAt traitSize (λ t. 1) (λ t rest. ReadTrait (boundsOf m) left white (drop mark s) t rest) s mark (reading m) end more mine
-        it m = found-at traitSize (λ t. 1) s r _ mark (reading m) end more mine (entered m .says) (trait-reads (boundsOf m) left white (drop mark s)) (run .2) q
-
-        -- what holds under any modes
-        abbrev any : FoundAt traitSize (λ t. 1) (λ t rest. ReadTrait (boundsOf (record { children = []; content = [] })) left white (drop mark s) t rest) s mark (reading (record { children = []; content = [] })) end more mine
-        any = it (record { children = []; content = [] })
+        it : FoundAt traitSize (λ t. 1) (λ t rest. ReadTrait bounds left white (drop mark s) t rest) s mark reading end more mine
+        it = found-at traitSize (λ t. 1) s r _ mark reading end more mine (entered .says) (trait-reads bounds left white (drop mark s)) (run .2) q
 
         pub trait-ahead : (i < end) × (end ≤ length s) × (number + more ≤ slot .room)
-        trait-ahead = (omega (arith, any .ahead, due .some), any .inside, omega (arith, any .many, any .holds .fits, so-far .few))
+        trait-ahead = (omega (arith, it .ahead, due .some), it .inside, omega (arith, it .many, it .holds .fits, so-far .few))
 
-        module _ (m : Modes) where
-          abbrev one-more : Trait
-          one-more = it m .it
+        abbrev one-more : Trait
+        one-more = it .it
 
-          abbrev entries-of : List Entry
-          entries-of = oneTrait (slot .parent) number mark one-more
+        abbrev entries-of : List Entry
+        entries-of = oneTrait (slot .parent) number mark one-more
 
-          long : length entries-of ≡ traitSize one-more
-          long = ap suc (item-size (one-more .value) number (number + 1) (mark + length (one-more .name) + 1))
+        long : length entries-of ≡ traitSize one-more
+        long = ap suc (item-size (one-more .value) number (number + 1) (mark + length (one-more .name) + 1))
 
-          starts : i + length (one-more .white) ≡ mark
-          starts = omega (arith, ap length (it m .holds .is-white), white-long (due .inside), due .some)
+        starts : i + length (one-more .white) ≡ mark
+        starts = omega (arith, ap length (it .holds .is-white), white-long (due .inside), due .some)
 
-          ends : i + length (traitOnto one-more []) ≡ end
-          ends =
-              let v = one-more .value in
-              omega (arith, starts, trait-long one-more [], ap length (it m .holds .covers), length-append (one-more .name) (byte "=" ∷ valueOnto v (drop end s)), value-length v (drop end s), length-drop mark s, length-drop end s, run .2, any .inside)
+        ends : i + length (traitOnto one-more []) ≡ end
+        ends =
+            let v = one-more .value in
+            omega (arith, starts, trait-long one-more [], ap length (it .holds .covers), length-append (one-more .name) (byte "=" ∷ valueOnto v (drop end s)), value-length v (drop end s), length-drop mark s, length-drop end s, run .2, it .inside)
 
-          laid-as : (ts : List Trait) → traitEntries (slot .parent) number i (one-more ∷ ts) ≡ entries-of ++ traitEntries (slot .parent) (number + length entries-of) end ts
-          unfolding traitEntries
-          laid-as ts = rw (starts, ends, long)
+        laid-as : (ts : List Trait) → traitEntries (slot .parent) number i (one-more ∷ ts) ≡ entries-of ++ traitEntries (slot .parent) (number + length entries-of) end ts
+        unfolding traitEntries
+        laid-as ts = rw (starts, ends, long)
 
         pub traits-on : length after ≡ length cells → Traits s at lent slot after end (made + more) (own + 1)
         unfolding traitsSize
         traits-on h = record {
-          inside = any .inside;
+          inside = it .inside;
           few = omega (arith, trait-ahead .2);
-          some = omega (arith, any .many, so-far .some);
+          some = omega (arith, it .many, so-far .some);
           held = h ∙ so-far .held;
-          onward = λ m other cells′ k.
-              let wide = number + length (entries-of m) in
-              let same : slot .next + (made + more) ≡ wide = omega (arith, long m, it m .many) in
-              let fewer : slot .room - wide ≡ left - traitSize (one-more m) = omega (arith, long m) in
-              so-far .onward m other cells′
-              (makes-more traitSize (traitTurn (boundsOf m)) (trait-shorter (boundsOf m)) left (drop i s) (made-with made) (own-with own) (traitEntries (slot .parent) number i) (traitEntries (slot .parent) wide end)
-              (entries-of m) s cells after number (one-more m) (drop end s) other cells′ (turn m ∙ ap turnOf (it m .finds)) (laid-as m) (entered m .laid (one-more m) (drop end s) (it m .finds))
-              (makes-same (made-with (made + more)) (own-with (own + 1)) _ _ (traitEntries (slot .parent) wide end) s after wide (traitsOf m (left - traitSize (one-more m)) (drop end s)) other cells′
-              (λ ts. omega (arith, it m .many)) (λ ts. omega arith)
+          onward = λ other cells′ k.
+              let wide = number + length entries-of in
+              let same : slot .next + (made + more) ≡ wide = omega (arith, long, it .many) in
+              let fewer : slot .room - wide ≡ left - traitSize one-more = omega (arith, long) in
+              so-far .onward other cells′
+              (makes-more traitSize (traitTurn bounds) (trait-shorter bounds) left (drop i s) (made-with made) (own-with own) (traitEntries (slot .parent) number i) (traitEntries (slot .parent) wide end)
+              entries-of s cells after number one-more (drop end s) other cells′ (turn ∙ ap turnOf (it .finds)) laid-as (entered .laid one-more (drop end s) (it .finds))
+              (makes-same (made-with (made + more)) (own-with (own + 1)) _ _ (traitEntries (slot .parent) wide end) s after wide (traitsOf (left - traitSize one-more) (drop end s)) other cells′
+              (λ ts. omega (arith, it .many)) (λ ts. omega arith)
               (rw (same, fewer) at k)));
         }

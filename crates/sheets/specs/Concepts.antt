@@ -1,27 +1,26 @@
--- Concepts and the bodies of blocks: pieces of the paper's reading, and the entries of each piece by its place.
+-- Concepts and the bodies of blocks: what reading each at a place answers and writes.
 -- Document 01, "The grammar", Lines, Markers and Content, and "Entries".
 use Prim.Native.Nat.{ℕ, _+_, _-_, _≤_, _<_}
 use mathlib.Core.Path.{_≡_}
 use mathlib.Core.Bool.{true, false}
 use mathlib.Core.List.{List, [], _∷_, _++_}
-use lib.ListN.{length}
+use lib.ListN.{length, drop}
 use lib.Dec.{eqb}
-use Rattle.paper.specs.Found.{Found, found, andThen}
-use Rattle.paper.specs.Bytes.{lengthIn, behind}
+use Rattle.paper.specs.Found.{Found, found}
 use Rattle.paper.specs.Modes.{Modes}
 use Rattle.paper.specs.Limits.{sheetLimit}
-use Rattle.paper.specs.Tree.{Annotation, Marker, Concept, selfClosed, children, content, Body, done, blankLine, element}
+use Rattle.paper.specs.Tree.{Marker, Concept, selfClosed, children, content, done, Annotated, BodyPiece, before}
 use Rattle.paper.specs.Grammar.{blankOnto, annotationsOnto}
 use Rattle.paper.specs.Entries.{Entry, annotationEntries, conceptSize, conceptEntry, insideEntries, bodySize, bodyCount, bodyEntries}
-use Rattle.paper.specs.Reading.{isBlankLine, isTab, tabsOnly, lineRest, annotations, contentOf, conceptOf, blockOf, boundsOf}
-use Rattle.modes.specs.Table.{Valid}
+use Rattle.paper.specs.Reading.{contentOf, conceptOf, blockOf, bodyOf, annotatedOf, pieceOf, bounds}
+use Rattle.modes.specs.Table.{Valid, modesOf}
 use Rattle.entries.specs.Laid.{lay, Fits}
 use Rattle.entries.specs.declared.Slot.{Slot}
-use Rattle.lines.specs.Parts.{In, contentEntries}
+use Rattle.lines.specs.Parts.{Makes, In, part, contentEntries}
 use Rattle.lines.specs.declared.part.Part.{Part}
 
 -- a place of a sheet that is read under a valid table, and a slot of the cells
-pub record Stands (table s : List ℕ) (at : ℕ) (cells : List ℕ) (slot : Slot) : Type 0 where
+pub record Ready (table s : List ℕ) (at : ℕ) (cells : List ℕ) (slot : Slot) : Type 0 where
   pub valid : Valid table
   pub in-sheet : In s at
   pub fits : Fits cells slot
@@ -31,6 +30,11 @@ pub record Stands (table s : List ℕ) (at : ℕ) (cells : List ℕ) (slot : Slo
 -- its own entry, whose number is `own`, and those that follow it
 abbrev pub wholeConcept : ℕ → ℕ → ℕ → ℕ → Concept → List Entry
 wholeConcept parent own at tabs c = conceptEntry parent at tabs c ∷ insideEntries own at tabs c
+
+abbrev pub ReadsConcept : List ℕ → List ℕ → ℕ → ℕ → ℕ → List ℕ → Slot → Part → List ℕ → Type 0
+ReadsConcept table s at tabs deeper cells slot r after =
+    Makes conceptSize (λ c. 1) (wholeConcept (slot .parent) (slot .next) at tabs) s cells (slot .next)
+    (conceptOf (modesOf table) bounds deeper (slot .room - slot .next) tabs (drop at s)) r after
 
 -- what the body of a Concept is ended with: its answer counts the Concept too, and its entry stands before those of its traits and its body
 abbrev pub endedBy : Part → ℕ → Part
@@ -46,15 +50,18 @@ cellsEnded cells slot (Part.Refused why place) form at to traits = cells
 -- it ends in a sheet, and there is room for its entry
 pub record Ends (cells : List ℕ) (slot : Slot) (body : Part) (at to made own : ℕ) : Type 0 where
   pub fits : Fits cells slot
-  pub room : (end inside count : ℕ) → body ≡ Part.Read end inside count → (slot .next + 1 + made + inside ≤ slot .room) × (own ≤ made) × (count ≤ inside) × (end ≤ sheetLimit)
+  pub room : (end inside count : ℕ) → body ≡ Part.Read end inside count
+      → (slot .next + 1 + made + inside ≤ slot .room) × (own ≤ made) × (count ≤ inside) × (end ≤ sheetLimit)
   pub named : (at < to) × (to ≤ sheetLimit)
 
--- what follows a marker of a form that ends in front of s
+-- ---- what follows an opening marker
+
+-- by the form that the marker gives: nothing, children or Content
 unfoldable pub insideOf : ℕ → Modes → ℕ → ℕ → ℕ → Marker → List ℕ → Found Concept
 insideOf form m deeper room tabs k s =
     elim (eqb form 1) [
       | true ↦ found (selfClosed k) s
-      | false ↦ elim (eqb form 2) [ true ↦ blockOf (boundsOf m) deeper room k s | false ↦ contentOf tabs room k s ]
+      | false ↦ elim (eqb form 2) [ true ↦ blockOf m bounds deeper room k s | false ↦ contentOf tabs room k s ]
     ]
 
 -- how many entries follow those of a Concept's traits, and how many of them name it as parent
@@ -74,18 +81,22 @@ bodyOfConcept parent next tabs at (selfClosed k) = []
 bodyOfConcept parent next tabs at (children k rest body back) = bodyEntries parent next (at + length (blankOnto rest [])) body
 bodyOfConcept parent next tabs at (content k rest lines) = contentEntries parent tabs at (content k rest lines)
 
+-- the Concept is found as x
+abbrev pub InsideAt : List ℕ → ℕ → ℕ → List ℕ → Slot → Found Concept → Part → List ℕ → Type 0
+InsideAt s at tabs cells slot x r after = Makes insideSize insideCount (bodyOfConcept (slot .parent) (slot .next) tabs at) s cells (slot .next) x r after
+
+-- whatever the marker holds beside the name that stands from `from` to `to`
+abbrev pub ReadsInside : List ℕ → List ℕ → ℕ → ℕ → ℕ → ℕ → ℕ → ℕ → List ℕ → Slot → Part → List ℕ → Type 0
+ReadsInside table s at form tabs from to deeper cells slot r after =
+    (k : Marker) → k .name ≡ part s from to
+    → InsideAt s at tabs cells slot (insideOf form (modesOf table) deeper (slot .room - slot .next) tabs k (drop at s)) r after
+
+abbrev pub ReadsBlock : List ℕ → List ℕ → ℕ → ℕ → ℕ → ℕ → List ℕ → Slot → Part → List ℕ → Type 0
+ReadsBlock table s at from to deeper cells slot r after =
+    (k : Marker) (tabs : ℕ) → k .name ≡ part s from to
+    → InsideAt s at tabs cells slot (blockOf (modesOf table) bounds deeper (slot .room - slot .next) k (drop at s)) r after
+
 -- ---- a Concept with its annotations
-
-pub record Annotated : Type 0 where
-  pub notes : List Annotation
-  pub tabs : ℕ
-  pub concept : Concept
-
-unfoldable pub annotatedOf : Modes → ℕ → ℕ → List ℕ → Found Annotated
-annotatedOf m deeper room s =
-    andThen (annotations room s) (λ notes line.
-    andThen (conceptOf (boundsOf m) deeper (room - length notes) (lengthIn isTab line) (behind isTab line)) (λ c left.
-    found (record { notes = notes; tabs = lengthIn isTab line; concept = c }) left))
 
 abbrev pub annotatedSize : Annotated → ℕ
 annotatedSize a = length (a .notes) + conceptSize (a .concept)
@@ -98,13 +109,29 @@ annotatedEntries parent next at a =
     annotationEntries parent at (a .notes)
     ++ wholeConcept parent (next + length (a .notes)) (at + length (annotationsOnto (a .notes) []) + a .tabs) (a .tabs) (a .concept)
 
+abbrev pub ReadsAnnotated : List ℕ → List ℕ → ℕ → ℕ → List ℕ → Slot → Part → List ℕ → Type 0
+ReadsAnnotated table s at deeper cells slot r after =
+    Makes annotatedSize annotatedCount (annotatedEntries (slot .parent) (slot .next) at) s cells (slot .next)
+    (annotatedOf (modesOf table) bounds deeper (slot .room - slot .next) (drop at s)) r after
+
 -- ---- a body, piece by piece
 
--- a blank line, or a Concept with its annotations and the rest of its line, as a body of its own
-unfoldable pub pieceOf : Modes → ℕ → ℕ → List ℕ → Found Body
-pieceOf m deeper room s =
-    elim (isBlankLine s) [
-      | true ↦ andThen (lineRest s) (λ b left. found (blankLine b done) left)
-      | false ↦ andThen (tabsOnly s) (λ tabs mark. andThen (annotatedOf m deeper room s) (λ a left.
-          andThen (lineRest left) (λ rest end. found (element (a .notes) (a .tabs) (a .concept) rest done) end)))
-    ]
+abbrev pub ReadsChildren : List ℕ → List ℕ → ℕ → ℕ → List ℕ → Slot → Part → List ℕ → Type 0
+ReadsChildren table s at deeper cells slot r after =
+    Makes bodySize bodyCount (bodyEntries (slot .parent) (slot .next) at) s cells (slot .next)
+    (bodyOf (modesOf table) bounds deeper (slot .room - slot .next) (drop at s)) r after
+
+-- a piece counts as a body of its own
+abbrev pub pieceSize : BodyPiece → ℕ
+pieceSize p = bodySize (before p done)
+
+abbrev pub pieceCount : BodyPiece → ℕ
+pieceCount p = bodyCount (before p done)
+
+abbrev pub pieceEntries : ℕ → ℕ → ℕ → BodyPiece → List Entry
+pieceEntries parent next at p = bodyEntries parent next at (before p done)
+
+abbrev pub ReadsPiece : List ℕ → List ℕ → ℕ → ℕ → List ℕ → Slot → Part → List ℕ → Type 0
+ReadsPiece table s at deeper cells slot r after =
+    Makes pieceSize pieceCount (pieceEntries (slot .parent) (slot .next) at) s cells (slot .next)
+    (pieceOf (modesOf table) bounds deeper (slot .room - slot .next) (drop at s)) r after

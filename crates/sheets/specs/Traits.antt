@@ -5,16 +5,15 @@ use mathlib.Core.List.{List, _∷_}
 use lib.ListN.{length}
 use Rattle.paper.specs.Found.{Found, andThen, manyOf}
 use Rattle.paper.specs.Limits.{listLimit}
-use Rattle.paper.specs.Modes.{Modes}
 use Rattle.paper.specs.Values.{valueForm}
 use Rattle.paper.specs.Tree.{Trait}
 use Rattle.paper.specs.ReadingValues.{wholeValue}
 use Rattle.paper.specs.Entries.{Entry, valueWidth, itemsOf, itemEntries, traitSize}
-use Rattle.paper.specs.Reading.{boundsOf, enters, traitTurn}
+use Rattle.paper.specs.Reading.{bounds, enters, traitTurn}
 
 -- the traits of a marker
-abbrev pub traitsOf : Modes → ℕ → List ℕ → Found (List Trait)
-traitsOf m room s = manyOf traitSize (traitTurn (boundsOf m)) room s
+abbrev pub traitsOf : ℕ → List ℕ → Found (List Trait)
+traitsOf room s = manyOf traitSize (traitTurn bounds) room s
 
 -- a trait from its value on, which is due in front of s; `named` is the list from its name on
 abbrev pub valueIn : ℕ → List ℕ → List ℕ → List ℕ → List ℕ → Found Trait

@@ -21,15 +21,11 @@ use text::runs;
 use text::runs::Class;
 use values::nesting::Nesting;
 ghost use mathlib.Core.Path.{_≡_};
-ghost use Prim.Native.Nat.{ℕ, _+_, _-_, _≤_, _<_};
+ghost use Prim.Native.Nat.{_≤_};
 ghost use lib.ListN.{length, drop};
-ghost use Rattle.paper.specs.Bytes.{bytes, behind, startsWith};
-ghost use Rattle.paper.specs.Tree.{Marker};
-ghost use Rattle.paper.specs.Entries.{conceptSize, bodySize, bodyCount, bodyEntries};
-ghost use Rattle.paper.specs.Reading.{isTab, conceptOf, blockOf, bodyOf, boundsOf};
-ghost use Rattle.modes.specs.Table.{modesOf};
-ghost use Rattle.lines.specs.Parts.{Makes, part};
-ghost use Rattle.sheets.specs.Concepts.{Stands, wholeConcept, insideOf, insideSize, insideCount, bodyOfConcept, annotatedOf, annotatedSize, annotatedCount, annotatedEntries, pieceOf, endedBy, cellsEnded, Ends};
+ghost use Rattle.paper.specs.Reading.{isClosing};
+ghost use Rattle.sheets.specs.Concepts.{Ready, Ends, endedBy, cellsEnded};
+ghost use Rattle.sheets.specs.Concepts.{ReadsConcept, ReadsInside, ReadsBlock, ReadsChildren, ReadsPiece, ReadsAnnotated};
 
 // Reads the Concept whose "<" is due at `at`, on a line of so many tabs, and enters it with what it holds.
 fn read_concept(
@@ -41,8 +37,9 @@ fn read_concept(
     cells: &mut [u32],
     slot: Slot,
 ) -> Part
-    requires { ⌜ Stands (now table) (now s) at (now cells) slot ⌝ }
-    ensures { λ r. ⌜ Makes conceptSize (λ c. 1) (wholeConcept (slot .parent) (slot .next) at tabs) (now (s .entry)) (now (cells .entry)) (slot .next) (conceptOf (boundsOf (modesOf (now (table .entry)))) (nesting .left) (slot .room - slot .next) tabs (drop at (now (s .entry)))) r (now (cells .exit)) ⌝ }
+    requires { ⌜ Ready (now table) (now s) at (now cells) slot ⌝ }
+    ensures { λ r.
+        ⌜ ReadsConcept (now (table .entry)) (now (s .entry)) at tabs (nesting .left) (now (cells .entry)) slot r (now (cells .exit)) ⌝ }
 {
     match read_opening(table, s, at, nesting, cells, slot) {
         Opening::Refused { refusal, place } => refused(refusal, place),
@@ -118,8 +115,10 @@ fn read_inside(
     cells: &mut [u32],
     slot: Slot,
 ) -> Part
-    requires { ⌜ Stands (now table) (now s) at (now cells) slot × (from ≤ to) × (to ≤ length (now s)) ⌝ }
-    ensures { λ r. ⌜ ((k : Marker) → k .name ≡ part (now (s .entry)) from to → Makes insideSize insideCount (bodyOfConcept (slot .parent) (slot .next) tabs at) (now (s .entry)) (now (cells .entry)) (slot .next) (insideOf form (modesOf (now (table .entry))) (nesting .left) (slot .room - slot .next) tabs k (drop at (now (s .entry)))) r (now (cells .exit))) ⌝ }
+    requires { ⌜ Ready (now table) (now s) at (now cells) slot × (from ≤ to) × (to ≤ length (now s)) ⌝ }
+    ensures { λ r.
+        ⌜ ReadsInside (now (table .entry)) (now (s .entry)) at form tabs from to (nesting .left) (now (cells .entry)) slot r
+        (now (cells .exit)) ⌝ }
 {
     match form {
         forms::SELF_CLOSED => past(at),
@@ -139,16 +138,12 @@ fn read_block(
     cells: &mut [u32],
     slot: Slot,
 ) -> Part
-    requires { ⌜ Stands (now table) (now s) at (now cells) slot × (from ≤ to) × (to ≤ length (now s)) ⌝ }
-    ensures { λ r. ⌜ ((k : Marker) (tabs : ℕ) → k .name ≡ part (now (s .entry)) from to → Makes insideSize insideCount (bodyOfConcept (slot .parent) (slot .next) tabs at) (now (s .entry)) (now (cells .entry)) (slot .next) (blockOf (boundsOf (modesOf (now (table .entry)))) (nesting .left) (slot .room - slot .next) k (drop at (now (s .entry)))) r (now (cells .exit))) ⌝ }
+    requires { ⌜ Ready (now table) (now s) at (now cells) slot × (from ≤ to) × (to ≤ length (now s)) ⌝ }
+    ensures { λ r.
+        ⌜ ReadsBlock (now (table .entry)) (now (s .entry)) at from to (nesting .left) (now (cells .entry)) slot r (now (cells .exit)) ⌝ }
 {
     let rest = line_rest(s, at);
-    let Part::Read {
-        end: start,
-        made: _,
-        own: _,
-    } = rest
-    else {
+    let Part::Read { end: start, .. } = rest else {
         return rest;
     };
     let body = read_children(table, s, start, nesting, cells, slot);
@@ -161,12 +156,7 @@ fn read_block(
         return body;
     };
     let closing = read_closing(s, runs::end(s, line, Class::Tab), from, to);
-    let Part::Read {
-        end,
-        made: _,
-        own: _,
-    } = closing
-    else {
+    let Part::Read { end, .. } = closing else {
         return closing;
     };
     Part::Read { end, made, own }
@@ -181,8 +171,9 @@ fn read_children(
     cells: &mut [u32],
     slot: Slot,
 ) -> Part
-    requires { ⌜ Stands (now table) (now s) at (now cells) slot ⌝ }
-    ensures { λ r. ⌜ Makes bodySize bodyCount (bodyEntries (slot .parent) (slot .next) at) (now (s .entry)) (now (cells .entry)) (slot .next) (bodyOf (boundsOf (modesOf (now (table .entry)))) (nesting .left) (slot .room - slot .next) (drop at (now (s .entry)))) r (now (cells .exit)) ⌝ }
+    requires { ⌜ Ready (now table) (now s) at (now cells) slot ⌝ }
+    ensures { λ r.
+        ⌜ ReadsChildren (now (table .entry)) (now (s .entry)) at (nesting .left) (now (cells .entry)) slot r (now (cells .exit)) ⌝ }
 {
     let mut i = at;
     let mut made = 0;
@@ -207,7 +198,7 @@ fn read_children(
 // Whether the line at `at` is that of a closing marker.
 fn is_closing(s: &[u8], at: usize) -> bool
     requires { ⌜ at ≤ length (now s) ⌝ }
-    ensures { λ r. ⌜ r ≡ startsWith (bytes "</") (behind isTab (drop at (now (s .entry)))) ⌝ }
+    ensures { λ r. ⌜ r ≡ isClosing (drop at (now (s .entry))) ⌝ }
 {
     starts_with(s, runs::end(s, at, Class::Tab), b"</")
 }
@@ -221,19 +212,15 @@ fn read_piece(
     cells: &mut [u32],
     slot: Slot,
 ) -> Part
-    requires { ⌜ Stands (now table) (now s) at (now cells) slot ⌝ }
-    ensures { λ r. ⌜ Makes bodySize bodyCount (bodyEntries (slot .parent) (slot .next) at) (now (s .entry)) (now (cells .entry)) (slot .next) (pieceOf (modesOf (now (table .entry))) (nesting .left) (slot .room - slot .next) (drop at (now (s .entry)))) r (now (cells .exit)) ⌝ }
+    requires { ⌜ Ready (now table) (now s) at (now cells) slot ⌝ }
+    ensures { λ r.
+        ⌜ ReadsPiece (now (table .entry)) (now (s .entry)) at (nesting .left) (now (cells .entry)) slot r (now (cells .exit)) ⌝ }
 {
     if is_blank_line(s, at) {
         return line_rest(s, at);
     }
     let tabs = tabs_only(s, at);
-    let Part::Read {
-        end: _,
-        made: _,
-        own: _,
-    } = tabs
-    else {
+    let Part::Read { .. } = tabs else {
         return tabs;
     };
     let concept = read_annotated(table, s, at, nesting, cells, slot);
@@ -241,12 +228,7 @@ fn read_piece(
         return concept;
     };
     let rest = line_rest(s, end);
-    let Part::Read {
-        end: next,
-        made: _,
-        own: _,
-    } = rest
-    else {
+    let Part::Read { end: next, .. } = rest else {
         return rest;
     };
     Part::Read {
@@ -265,14 +247,15 @@ pub fn read_annotated(
     cells: &mut [u32],
     slot: Slot,
 ) -> Part
-    requires { ⌜ Stands (now table) (now s) at (now cells) slot ⌝ }
-    ensures { λ r. ⌜ Makes annotatedSize annotatedCount (annotatedEntries (slot .parent) (slot .next) at) (now (s .entry)) (now (cells .entry)) (slot .next) (annotatedOf (modesOf (now (table .entry))) (nesting .left) (slot .room - slot .next) (drop at (now (s .entry)))) r (now (cells .exit)) ⌝ }
+    requires { ⌜ Ready (now table) (now s) at (now cells) slot ⌝ }
+    ensures { λ r.
+        ⌜ ReadsAnnotated (now (table .entry)) (now (s .entry)) at (nesting .left) (now (cells .entry)) slot r (now (cells .exit)) ⌝ }
 {
     let notes = annotations::read_all(s, at, cells, slot);
     let Part::Read {
         end: line,
         made,
-        own: _,
+        ..
     } = notes
     else {
         return notes;
@@ -290,7 +273,7 @@ pub fn read_annotated(
     let Part::Read {
         end,
         made: inside,
-        own: _,
+        ..
     } = concept
     else {
         return concept;

@@ -1,8 +1,8 @@
 // Sheets: reading one under a mode table, and the part of it that an entry's span names.
 // Document 01, "Entries", "Refusal numbers" and "Order".
-pub mod concepts;
-pub mod opening;
-pub mod traits;
+mod concepts;
+mod opening;
+mod traits;
 
 use concepts::read_annotated;
 use entries::CELLS;
@@ -25,21 +25,22 @@ ghost use mathlib.Core.Path.{_≡_};
 ghost use Prim.Native.Nat.{_≤_};
 ghost use lib.ListN.{length, drop};
 ghost use Rattle.paper.specs.Answer.{told};
-ghost use Rattle.paper.specs.Limits.{sheetLimit, conceptLimit};
-ghost use Rattle.paper.specs.Entries.{sheetSize, entries};
-ghost use Rattle.paper.specs.Reading.{sheetTree, sheetOf, reading, roomOf, boundsOf};
+ghost use Rattle.paper.specs.Limits.{sheetLimit};
+ghost use Rattle.paper.specs.Reading.{reading};
 ghost use Rattle.paper.specs.View.{viewed, viewAnswer};
-ghost use Rattle.modes.specs.Table.{Valid, modesOf};
-ghost use Rattle.lines.specs.Parts.{seen, passed, Makes};
-ghost use Rattle.sheets.specs.Sheets.{Reads, rootCount, restOf, spanOf};
+ghost use Rattle.modes.specs.Table.{Valid};
+ghost use Rattle.lines.specs.Parts.{seen, passed};
+ghost use Rattle.sheets.specs.Sheets.{ReadsUnder, ReadsTree, behindRoot, spanOf};
 
 // Reads a sheet. An acceptance has its length and how many entries it made; the cells behind them are zero.
 // A refusal leaves every cell zero.
 pub fn read(table: &[u8], sheet: &[u8], cells: &mut [u32]) -> Answer
-    ensures { λ r. ⌜ record { answer = told r; cells = now (cells .exit) } ≡ reading (now (table .entry)) (now (sheet .entry)) (length (now (cells .entry))) ⌝ }
+    ensures { λ r.
+        ⌜ record { answer = told r; cells = now (cells .exit) }
+        ≡ reading (now (table .entry)) (now (sheet .entry)) (length (now (cells .entry))) ⌝ }
 {
     let modes = modes::read(table);
-    let Answer::Accepted { place: _, count: _ } = modes else {
+    let Answer::Accepted { .. } = modes else {
         zero_from(cells, 0);
         return modes;
     };
@@ -52,7 +53,7 @@ pub fn read(table: &[u8], sheet: &[u8], cells: &mut [u32]) -> Answer
 // leaves is not told.
 pub fn read_under(table: &[u8], sheet: &[u8], cells: &mut [u32]) -> Answer
     requires { ⌜ Valid (now table) ⌝ }
-    ensures { λ r. ⌜ Reads (now (sheet .entry)) (now (cells .entry)) (sheetOf (modesOf (now (table .entry))) (roomOf (length (now (cells .entry)))) (now (sheet .entry))) (told r) (now (cells .exit)) ⌝ }
+    ensures { λ r. ⌜ ReadsUnder (now (table .entry)) (now (sheet .entry)) (now (cells .entry)) (told r) (now (cells .exit)) ⌝ }
 {
     if Cursor::LIMIT < sheet.len() {
         return Answer::Refused {
@@ -67,7 +68,7 @@ pub fn read_under(table: &[u8], sheet: &[u8], cells: &mut [u32]) -> Answer
         },
         Checked::Sound => match read_tree(table, sheet, cells) {
             Part::Refused { refusal, place } => Answer::Refused { refusal, place },
-            Part::Read { end, made, own: _ } => Answer::Accepted {
+            Part::Read { end, made, .. } => Answer::Accepted {
                 place: end,
                 count: made,
             },
@@ -78,24 +79,14 @@ pub fn read_under(table: &[u8], sheet: &[u8], cells: &mut [u32]) -> Answer
 // Reads the root with its annotations and the blank lines around them, and enters it from the first cell on.
 fn read_tree(table: &[u8], s: &[u8], cells: &mut [u32]) -> Part
     requires { ⌜ Valid (now table) × (length (now s) ≤ sheetLimit) ⌝ }
-    ensures { λ r. ⌜ Makes sheetSize rootCount entries (now (s .entry)) (now (cells .entry)) 0 (sheetTree (boundsOf (modesOf (now (table .entry)))) conceptLimit (roomOf (length (now (cells .entry)))) (now (s .entry))) r (now (cells .exit)) ⌝ }
+    ensures { λ r. ⌜ ReadsTree (now (table .entry)) (now (s .entry)) (now (cells .entry)) r (now (cells .exit)) ⌝ }
 {
     let blanks = blank_lines(s, 0);
-    let Part::Read {
-        end: first,
-        made: _,
-        own: _,
-    } = blanks
-    else {
+    let Part::Read { end: first, .. } = blanks else {
         return blanks;
     };
     let tabs = tabs_only(s, first);
-    let Part::Read {
-        end: _,
-        made: _,
-        own: _,
-    } = tabs
-    else {
+    let Part::Read { .. } = tabs else {
         return tabs;
     };
     let slot = Slot {
@@ -115,12 +106,7 @@ fn read_tree(table: &[u8], s: &[u8], cells: &mut [u32]) -> Part
         return root;
     };
     let rest = read_rest(s, end);
-    let Part::Read {
-        end: last,
-        made: _,
-        own: _,
-    } = rest
-    else {
+    let Part::Read { end: last, .. } = rest else {
         return rest;
     };
     Part::Read {
@@ -133,15 +119,10 @@ fn read_tree(table: &[u8], s: &[u8], cells: &mut [u32]) -> Part
 // Past the blank lines behind the root, up to the end of input.
 fn read_rest(s: &[u8], at: usize) -> Part
     requires { ⌜ at ≤ length (now s) ⌝ }
-    ensures { λ r. ⌜ seen r ≡ passed (now (s .entry)) (restOf (drop at (now (s .entry)))) ⌝ }
+    ensures { λ r. ⌜ seen r ≡ passed (now (s .entry)) (behindRoot (drop at (now (s .entry)))) ⌝ }
 {
     let blanks = blank_lines(s, at);
-    let Part::Read {
-        end,
-        made: _,
-        own: _,
-    } = blanks
-    else {
+    let Part::Read { end, .. } = blanks else {
         return blanks;
     };
     last_blanks(s, end)

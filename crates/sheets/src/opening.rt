@@ -17,14 +17,13 @@ use text::runs::Class;
 use values::nesting::Deeper;
 use values::nesting::Nesting;
 ghost use mathlib.Core.Path.{_≡_};
-ghost use Prim.Native.Nat.{suc, _+_, _-_, _≤_, _<_};
+ghost use Prim.Native.Nat.{suc, _≤_, _<_};
 ghost use lib.ListN.{length, drop};
-ghost use Rattle.paper.specs.declared.Mode.{Mode};
-ghost use Rattle.paper.specs.Modes.{Modes};
-ghost use Rattle.modes.specs.Table.{Valid, modesOf};
+ghost use Rattle.paper.specs.Reading.{head, bounds};
+ghost use Rattle.modes.specs.Table.{Valid};
 ghost use Rattle.entries.specs.Laid.{Fits};
-ghost use Rattle.lines.specs.Parts.{seen, passed, In, part};
-ghost use Rattle.sheets.specs.Opening.{headOf, markedOf, namedOf, heldOf, blockForm, Opens};
+ghost use Rattle.lines.specs.Parts.{seen, passed, In};
+ghost use Rattle.sheets.specs.Opening.{ReadsOpening, ReadsNamed, ReadsMarker};
 
 // What an opening marker says: the Concept's form, where its name and the marker itself end, how many entries its traits made,
 // how many of them are traits, and how many Concepts may still be opened inside. Or it is refused.
@@ -53,30 +52,22 @@ pub fn read_opening(
     slot: Slot,
 ) -> Opening
     requires { ⌜ Valid (now table) × In (now s) at × Fits (now cells) slot ⌝ }
-    ensures { λ r. ⌜ Opens (nesting .left) (now (s .entry)) (at + 1) (now (cells .entry)) slot (markedOf (modesOf (now (table .entry))) (nesting .left) (slot .room - slot .next) (drop at (now (s .entry)))) r (now (cells .exit)) ⌝ }
+    ensures { λ r.
+        ⌜ ReadsOpening (now (table .entry)) (now (s .entry)) at (nesting .left) (now (cells .entry)) slot r (now (cells .exit)) ⌝ }
 {
     match read_head(s, at) {
         Part::Refused { refusal, place } => Opening::Refused { refusal, place },
-        Part::Read {
-            end: to,
-            made: _,
-            own: _,
-        } => read_named(table, s, at, to, nesting, cells, slot),
+        Part::Read { end: to, .. } => read_named(table, s, at, to, nesting, cells, slot),
     }
 }
 
 // Past the "<" that is due at `at`, and the name of a Concept.
 fn read_head(s: &[u8], at: usize) -> Part
     requires { ⌜ at ≤ length (now s) ⌝ }
-    ensures { λ r. ⌜ seen r ≡ passed (now (s .entry)) (headOf (drop at (now (s .entry)))) ⌝ }
+    ensures { λ r. ⌜ seen r ≡ passed (now (s .entry)) (head bounds (drop at (now (s .entry)))) ⌝ }
 {
     let mark = byte_due(s, at, b'<');
-    let Part::Read {
-        end: start,
-        made: _,
-        own: _,
-    } = mark
-    else {
+    let Part::Read { end: start, .. } = mark else {
         return mark;
     };
     name_end(s, start, Whose::Concepts)
@@ -93,7 +84,8 @@ fn read_named(
     slot: Slot,
 ) -> Opening
     requires { ⌜ Valid (now table) × In (now s) to × (at < to) × Fits (now cells) slot ⌝ }
-    ensures { λ r. ⌜ Opens (nesting .left) (now (s .entry)) (at + 1) (now (cells .entry)) slot (namedOf (modesOf (now (table .entry))) (nesting .left) (slot .room - slot .next) (drop at (now (s .entry))) (part (now (s .entry)) (at + 1) to) (drop to (now (s .entry)))) r (now (cells .exit)) ⌝ }
+    ensures { λ r.
+        ⌜ ReadsNamed (now (table .entry)) (now (s .entry)) at to (nesting .left) (now (cells .entry)) slot r (now (cells .exit)) ⌝ }
 {
     let start = at + 1;
     let Deeper::Inside(inside) = nesting.step() else {
@@ -106,7 +98,8 @@ fn read_named(
     }
 }
 
-// Goes on behind the name that stands from `start` to `to`, which is of a Concept that may stand here; if a block opens, its form is `block`.
+// Goes on behind the name that stands from `start` to `to`, which is of a Concept that may stand here;
+// if a block opens, its form is `block`.
 fn read_marker(
     s: &[u8],
     start: usize,
@@ -117,7 +110,8 @@ fn read_marker(
     slot: Slot,
 ) -> Opening
     requires { ⌜ In (now s) to × (start ≤ to) × Fits (now cells) slot ⌝ }
-    ensures { λ r. ⌜ ((m : Modes) (mode : Mode) → block ≡ blockForm mode → Opens (suc (inside .left)) (now (s .entry)) start (now (cells .entry)) slot (heldOf m mode (slot .room - slot .next) (drop start (now (s .entry))) (part (now (s .entry)) start to) (drop to (now (s .entry)))) r (now (cells .exit))) ⌝ }
+    ensures { λ r.
+        ⌜ ReadsMarker (now (s .entry)) start to block (suc (inside .left)) (now (cells .entry)) slot r (now (cells .exit)) ⌝ }
 {
     if slot.is_full() {
         return unopened(Refusal::NoEntryLeft, start);

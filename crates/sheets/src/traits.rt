@@ -25,10 +25,9 @@ ghost use mathlib.Core.List.{List};
 ghost use Prim.Native.Nat.{ℕ, _+_, _-_, _≤_};
 ghost use lib.ListN.{length, drop};
 ghost use Rattle.paper.specs.Limits.{listLimit};
-ghost use Rattle.paper.specs.Modes.{Modes};
 ghost use Rattle.paper.specs.ReadingValues.{wholeValue};
 ghost use Rattle.paper.specs.Entries.{traitSize, traitsSize, traitEntries};
-ghost use Rattle.paper.specs.Reading.{trait, boundsOf};
+ghost use Rattle.paper.specs.Reading.{trait, bounds};
 ghost use Rattle.entries.specs.Laid.{Fits};
 ghost use Rattle.lines.specs.Parts.{seen, passed, Makes, In};
 ghost use Rattle.sheets.specs.Traits.{traitsOf, valueIn, oneTrait};
@@ -105,7 +104,7 @@ fn enter_trait(s: &[u8], from: usize, to: usize, cells: &mut [u32], slot: Slot) 
 // Reads the trait whose name stands at `at`, and enters it.
 fn read_trait(s: &[u8], at: usize, cells: &mut [u32], slot: Slot) -> Part
     requires { ⌜ In (now s) at × Fits (now cells) slot ⌝ }
-    ensures { λ r. ⌜ ((m : Modes) (white : List ℕ) → Makes traitSize (λ t. 1) (oneTrait (slot .parent) (slot .next) at) (now (s .entry)) (now (cells .entry)) (slot .next) (trait (boundsOf m) (slot .room - slot .next) white (drop at (now (s .entry)))) r (now (cells .exit))) ⌝ }
+    ensures { λ r. ⌜ ((white : List ℕ) → Makes traitSize (λ t. 1) (oneTrait (slot .parent) (slot .next) at) (now (s .entry)) (now (cells .entry)) (slot .next) (trait bounds (slot .room - slot .next) white (drop at (now (s .entry)))) r (now (cells .exit))) ⌝ }
 {
     let name = name_end(s, at, Whose::Traits);
     let Part::Read {
@@ -131,7 +130,7 @@ fn read_trait(s: &[u8], at: usize, cells: &mut [u32], slot: Slot) -> Part
 // Reads the traits that stand at `at`, each after white space, up to where the marker's end is due, and enters them.
 pub fn read_traits(s: &[u8], at: usize, cells: &mut [u32], slot: Slot) -> Part
     requires { ⌜ In (now s) at × Fits (now cells) slot ⌝ }
-    ensures { λ r. ⌜ ((m : Modes) → Makes traitsSize length (traitEntries (slot .parent) (slot .next) at) (now (s .entry)) (now (cells .entry)) (slot .next) (traitsOf m (slot .room - slot .next) (drop at (now (s .entry)))) r (now (cells .exit))) ⌝ }
+    ensures { λ r. ⌜ Makes traitsSize length (traitEntries (slot .parent) (slot .next) at) (now (s .entry)) (now (cells .entry)) (slot .next) (traitsOf (slot .room - slot .next) (drop at (now (s .entry)))) r (now (cells .exit)) ⌝ }
 {
     let mut i = at;
     let mut made = 0;

@@ -4,7 +4,6 @@ use mathlib.Core.Path.{ap, _∙_}
 use native.Mathlib.Omega.{arith}
 use lib.ListN.{length}
 use borrow.Author.Needs.{needs}
-use Rattle.paper.specs.Reading.{boundsOf}
 use Rattle.modes.specs.Table.{modesOf}
 use Rattle.entries.specs.declared.Slot.{Slot}
 use Rattle.entries.proofs.Slots.{fits-after}
@@ -178,7 +177,7 @@ read-annotated-same-length : (t : ℕ) → read-annotated-lts.Need-same-length (
 read-annotated-same-length t c = search needs
 
 read-annotated-returns : (t : ℕ) → read-annotated-lts.Need-returns (read-annotated-calls t) (read-annotated-at t) read-annotated.Post
-read-annotated-returns t c = annotated.notes-refused (c .before .before .before .before .before .before .before .before .before .pre .1) (c .before .before .before .before .read-all .ensures) _ _ (c .enum-told .given .1)
+read-annotated-returns t c = annotated.notes-refused (c .before .before .before .before .before .before .before .before .before .pre .1) (c .before .before .before .before .read-all .ensures) _ (c .enum-told .given .1)
 
 read-annotated-end-requires : (t : ℕ) → read-annotated-lts.Need-end-requires (read-annotated-calls t) (read-annotated-at t) read-annotated.Post
 read-annotated-end-requires t c κs = annotated-notes t (c .before) .inside
@@ -206,13 +205,13 @@ read-annotated-same-length-2 t c = search needs
 read-annotated-returns-2 : (t : ℕ) → read-annotated-lts.Need-returns-2 (read-annotated-calls t) (read-annotated-at t) read-annotated.Post
 read-annotated-returns-2 t c =
     let at-read-concept = c .before .before .before .before in
-    annotated.concept-refused (annotated-notes t (at-read-concept .before .before .before .before .before)) (at-read-concept .before .before .before .end .ensures) (at-read-concept .before .after .ensures) _ _ (at-read-concept .read-concept .ensures) (c .enum-told2 .given .1)
+    annotated.concept-refused (annotated-notes t (at-read-concept .before .before .before .before .before)) (at-read-concept .before .before .before .end .ensures) (at-read-concept .before .after .ensures) _ (at-read-concept .read-concept .ensures) (c .enum-told2 .given .1)
 
 read-annotated-add-t17 : (t : ℕ) → read-annotated-lts.Need-add-t17 (read-annotated-calls t) (read-annotated-at t) read-annotated.Post
 read-annotated-add-t17 t c =
     let at-read-concept = c .before .before .before .before .before in
     let notes = annotated-notes t (at-read-concept .before .before .before .before .before) in
-    omega (arith, annotated.all-few notes (at-read-concept .before .before .before .end .ensures) (at-read-concept .before .after .ensures) _ _ (at-read-concept .read-concept .ensures) (c .before .concept .given .1), notes .stands .fits .few)
+    omega (arith, annotated.all-few notes (at-read-concept .before .before .before .end .ensures) (at-read-concept .before .after .ensures) _ (at-read-concept .read-concept .ensures) (c .before .concept .given .1), notes .stands .fits .few)
 
 read-annotated-add-t21 : (t : ℕ) → read-annotated-lts.Need-add-t21 (read-annotated-calls t) (read-annotated-at t) read-annotated.Post
 read-annotated-add-t21 t c = let notes = annotated-notes t (c .before .before .before .before .before .before .before .before .before .before) in omega (arith, notes .few, notes .stands .fits .few)
@@ -223,7 +222,7 @@ read-annotated-same-length-3 t c = search needs
 read-annotated-returns-3 : (t : ℕ) → read-annotated-lts.Need-returns-3 (read-annotated-calls t) (read-annotated-at t) read-annotated.Post
 read-annotated-returns-3 t c =
     let at-read-concept = c .before .before .before .before .before in
-    annotated.annotated-read (annotated-notes t (at-read-concept .before .before .before .before .before)) (at-read-concept .before .before .before .end .ensures) (at-read-concept .before .after .ensures) _ _ (at-read-concept .read-concept .ensures) (c .before .concept .given .1)
+    annotated.annotated-read (annotated-notes t (at-read-concept .before .before .before .before .before)) (at-read-concept .before .before .before .end .ensures) (at-read-concept .before .after .ensures) _ (at-read-concept .read-concept .ensures) (c .before .concept .given .1)
 
 -- ---- read_block: the rest of the line, the children, the closing marker
 
@@ -234,7 +233,7 @@ block-rest t c = rest-at _ _ _ _ _ _ (c .before .before .before .before .before 
 block-body : (t : ℕ) (c : read-block-lts.After-body (read-block-calls t) (read-block-at t) read-block.Post)
     → let start = c .before .before .before .before .before .before .before .before .before .before .before .before .before .args in
     let read = c .body .given .0 in
-    block.BodyAt (start .s .now) (start .at) (start .cells .now) (start .slot) (boundsOf (modesOf (start .table .now))) (start .nesting .left) (c .before .before .before .before .read-children .last .1 .1 .1 .1 .0) (read .0) (read .1 .0) (read .1 .1 .0)
+    block.BodyAt (start .s .now) (start .at) (start .cells .now) (start .slot) (modesOf (start .table .now)) (start .nesting .left) (c .before .before .before .before .read-children .last .1 .1 .1 .1 .0) (read .0) (read .1 .0) (read .1 .1 .0)
 block-body t c = block.body-at (c .before .before .before .before .before .before .before .before .before .before .before .before .before .pre .1 .0) _ _ (block-rest t (c .before .before .before .before .before .before .before)) (c .before .before .before .before .read-children .ensures) (c .body .given .1)
 
 read-block-line-rest-requires : (t : ℕ) → read-block-lts.Need-line-rest-requires (read-block-calls t) (read-block-at t) read-block.Post
@@ -295,7 +294,7 @@ read-block-returns-4 t c = λ k tabs named. block.block-read (block-body t (c .b
 -- ---- read_children: what the pieces from `i` on make, those from `at` on make; what is left of the slice falls
 
 abbrev read-children-Inv-loop : read-children-lts.InvT-loop
-read-children-Inv-loop table s at nesting cells₀ slot i₀ made₀ own₀ cells i made own = Pieces (modesOf table) (nesting .left) s at cells₀ slot cells i made own
+read-children-Inv-loop table s at nesting cells₀ slot i₀ made₀ own₀ cells i made own = Pieces table s at (nesting .left) cells₀ slot cells i made own
 
 abbrev read-children-μ-loop : read-children-lts.MeasureT-loop
 read-children-μ-loop table s at nesting cells₀ slot i₀ made₀ own₀ cells i made own = length s - i
@@ -453,7 +452,7 @@ read-inside-returns-3 t c = λ k named. inside-content (c .before .before .befor
 piece-concept : (t : ℕ) (c : read-piece-lts.After-concept (read-piece-calls t) (read-piece-at t) read-piece.Post)
     → let start = c .before .before .before .before .before .before .before .before .before .before .before .before .before .before .args in
     let read = c .concept .given .0 in
-    ConceptAt (modesOf (start .table .now)) (start .nesting .left) (start .s .now) (start .at) (start .cells .now) (start .slot) (c .before .before .before .before .read-annotated .last .1 .1 .1 .1 .0) (read .0) (read .1 .0) (read .1 .1 .0)
+    ConceptAt (start .table .now) (start .s .now) (start .at) (start .nesting .left) (start .cells .now) (start .slot) (c .before .before .before .before .read-annotated .last .1 .1 .1 .1 .0) (read .0) (read .1 .0) (read .1 .1 .0)
 piece-concept t c =
     let at-read-annotated = c .before .before .before .before in
     let at-tabs-only = at-read-annotated .before .before .before .before in

@@ -1,8 +1,6 @@
 -- A law for each way out: the room, the traits, the ending.
 use mathlib.Core.Path.{refl}
 use borrow.Author.Needs.{needs}
-use Rattle.paper.specs.declared.Mode.{Mode}
-use Rattle.paper.specs.Modes.{Modes}
 use Rattle.paper.specs.Tree.{block, self}
 use Rattle.entries.proofs.Slots.{fits-under}
 use Rattle.sheets.proofs.OpeningLaws.{traits-inside, no-room, traits-refused, TraitsAt, marker-traits, ending-refused, marker-read}
@@ -10,13 +8,13 @@ use Rattle.sheets.proofs.opening.read_marker.Statement.{statement}
 use Rattle.sheets.proofs.opening.read_marker.Tie as tie
 
 -- the marker up to its ending
-traits : (c : tie.After-read-ending) (m : Modes) (mode : Mode) → let start = c .before .before .before .before .before .before .before .before .before .before .before .before .before .before .args in
-    TraitsAt (start .s .now) (start .start) (start .to) (start .cells .now) (start .slot) m mode (c .before .before .before .before .before .before .before .read-traits .last .1 .1 .0) (c .before .end2 .result) (c .before .before .before .end .given .0 .1 .0) (c .before .before .before .end .given .0 .1 .1 .0)
-traits c m mode =
+traits : (c : tie.After-read-ending) → let start = c .before .before .before .before .before .before .before .before .before .before .before .before .before .before .args in
+    TraitsAt (start .s .now) (start .start) (start .to) (start .cells .now) (start .slot) (c .before .before .before .before .before .before .before .read-traits .last .1 .1 .0) (c .before .end2 .result) (c .before .before .before .end .given .0 .1 .0) (c .before .before .before .end .given .0 .1 .1 .0)
+traits c =
     let at-read-traits = c .before .before .before .before .before .before .before in
     let at-if = at-read-traits .before .before .before in
     let top = at-if .before .before .before .before in
-    marker-traits (top .pre .0) (top .pre .2) (top .pre .1) m mode (at-if .before .is-full .ensures) (at-if .if1 .left) (at-read-traits .before .under .ensures) (at-read-traits .read-traits .ensures m) (c .before .before .before .end .given .1) (c .before .end2 .ensures)
+    marker-traits (top .pre .0) (top .pre .2) (top .pre .1) (top .args .block) (at-if .before .is-full .ensures) (at-if .if1 .left) (at-read-traits .before .under .ensures) (at-read-traits .read-traits .ensures) (c .before .before .before .end .given .1) (c .before .end2 .ensures)
 
 is-full-requires : tie.Need-is-full-requires
 is-full-requires c κs = search needs
@@ -25,7 +23,7 @@ unopened-requires : tie.Need-unopened-requires
 unopened-requires c κs = search needs
 
 returns : tie.Need-returns
-returns c = λ m mode form. no-room (c .before .before .before .before .before .pre .0) (c .before .before .before .before .before .pre .2) (c .before .before .before .before .before .pre .1) m mode (c .before .before .is-full .ensures) (c .before .if1 .taken) (c .unopened .ensures)
+returns c = no-room (c .before .before .before .before .before .pre .0) (c .before .before .before .before .before .pre .2) (c .before .before .before .before .before .pre .1) _ (c .before .before .is-full .ensures) (c .before .if1 .taken) (c .unopened .ensures)
 
 under-requires : tie.Need-under-requires
 under-requires c κs = search needs
@@ -71,25 +69,25 @@ returns-2 c =
     let at-read-traits = c .before .before .before .before .before .before in
     let at-if = at-read-traits .before .before .before in
     let top = at-if .before .before .before .before in
-    λ m mode form. traits-refused (top .pre .0) (top .pre .2) (top .pre .1) m mode (at-if .before .is-full .ensures) (at-if .if1 .left) (at-read-traits .before .under .ensures) (at-read-traits .read-traits .ensures m) (c .before .before .refusal .given .1) (c .unopened2 .ensures)
+    traits-refused (top .pre .0) (top .pre .2) (top .pre .1) _ (at-if .before .is-full .ensures) (at-if .if1 .left) (at-read-traits .before .under .ensures) (at-read-traits .read-traits .ensures) (c .before .before .refusal .given .1) (c .unopened2 .ensures)
 
 same-length-2 : tie.Need-same-length-2
 same-length-2 c = search needs
 
 returns-3 : tie.Need-returns-3
-returns-3 c = λ m mode form. ending-refused (traits (c .before .before .before .before) m mode) _ (c .before .before .before .before .read-ending .ensures) (c .before .before .refusal2 .given .1) (c .unopened3 .ensures)
+returns-3 c = ending-refused (traits (c .before .before .before .before)) _ _ (c .before .before .before .before .read-ending .ensures) (c .before .before .refusal2 .given .1) (c .unopened3 .ensures)
 
 same-length-3 : tie.Need-same-length-3
 same-length-3 c = search needs
 
 returns-4 : tie.Need-returns-4
-returns-4 c = λ m mode form. marker-read (traits (c .before .before .before) m mode) _ (c .before .before .before .read-ending .ensures) self (c .before .end3 .given .1) refl refl
+returns-4 c = marker-read (traits (c .before .before .before)) _ _ (c .before .before .before .read-ending .ensures) self (c .before .end3 .given .1) refl refl
 
 same-length-4 : tie.Need-same-length-4
 same-length-4 c = search needs
 
 returns-5 : tie.Need-returns-5
-returns-5 c = λ m mode form. marker-read (traits (c .before .before .before) m mode) _ (c .before .before .before .read-ending .ensures) block (c .before .end4 .given .1) form refl
+returns-5 c = marker-read (traits (c .before .before .before)) _ _ (c .before .before .before .read-ending .ensures) block (c .before .end4 .given .1) refl refl
 
 pub read-marker-spec : {M : Type 1} → statement M
 read-marker-spec =

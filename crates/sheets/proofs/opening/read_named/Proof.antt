@@ -1,11 +1,10 @@
 -- A law for each way out: the nesting, the table, and what follows a name that is admitted.
 use Prim.Native.Nat.{suc}
-use mathlib.Core.Path.{_≡_, refl, sym, _∙_}
+use mathlib.Core.Path.{_≡_, sym, _∙_}
 use native.Mathlib.Omega.{arith}
 use borrow.Author.Needs.{needs}
-use Rattle.paper.specs.declared.Mode.the-variants.{Children, Content}
 use Rattle.values.proofs.Deepening.{one-less, no-less}
-use Rattle.sheets.proofs.OpeningLaws.{too-deep, unlisted, listed}
+use Rattle.sheets.proofs.OpeningLaws.{in-children, in-content, too-deep, unlisted, listed}
 use Rattle.sheets.proofs.opening.read_named.Statement.{statement}
 use Rattle.sheets.proofs.opening.read_named.Tie as tie
 
@@ -31,7 +30,7 @@ unopened-requires c κs = search needs
 returns : tie.Need-returns
 returns c =
     let top = c .before .before .before .before .before .before .before in
-    too-deep (top .pre .1) (top .pre .2) (top .pre .3) _ _ (no-less _ _ (c .before .before .before .step .ensures) (c .before .enum-told .given .1)) (c .unopened .ensures)
+    too-deep _ (top .pre .1) (top .pre .2) (top .pre .3) _ (no-less _ _ (c .before .before .before .step .ensures) (c .before .enum-told .given .1)) (c .unopened .ensures)
 
 sub-mode-of : tie.Need-sub-mode-of
 sub-mode-of c = search needs
@@ -71,7 +70,7 @@ returns-2 : tie.Need-returns-2
 returns-2 c =
     let at-mode-of = c .before .before .before in
     let top = at-mode-of .before .before .before .before .before .before .before .before .before in
-    unlisted (top .pre .1) (top .pre .2) (top .pre .3) _ _ (fewer (at-mode-of .before .before .before)) (sym (c .before .enum-told2 .given .1) ∙ at-mode-of .mode-of .ensures) (c .unopened2 .ensures)
+    unlisted _ (top .pre .1) (top .pre .2) (top .pre .3) _ (fewer (at-mode-of .before .before .before)) (sym (c .before .enum-told2 .given .1) ∙ at-mode-of .mode-of .ensures) (c .unopened2 .ensures)
 
 same-length : tie.Need-same-length
 same-length c = search needs
@@ -81,7 +80,7 @@ returns-3 c =
     let at-enum-told = c .before .before .before .before in
     let at-inside = at-enum-told .before .before .before .before .before in
     let top = at-inside .before .before .before .before .before .before in
-    listed (top .pre .1) (top .pre .2) (top .pre .3) _ _ (fewer at-inside) Children (omega arith) (sym (at-enum-told .enum-told3 .given .1) ∙ at-enum-told .before .before .mode-of .ensures) (c .before .before .read-marker .ensures _ Children refl)
+    listed _ (top .pre .1) (top .pre .2) (top .pre .3) _ (fewer at-inside) (in-children _ _ (sym (at-enum-told .enum-told3 .given .1) ∙ at-enum-told .before .before .mode-of .ensures)) (c .before .before .read-marker .ensures)
 
 same-length-2 : tie.Need-same-length-2
 same-length-2 c = search needs
@@ -91,7 +90,7 @@ returns-4 c =
     let at-enum-told = c .before .before .before .before in
     let at-inside = at-enum-told .before .before .before .before .before in
     let top = at-inside .before .before .before .before .before .before in
-    listed (top .pre .1) (top .pre .2) (top .pre .3) _ _ (fewer at-inside) Content (omega arith) (sym (at-enum-told .enum-told4 .given .1) ∙ at-enum-told .before .before .mode-of .ensures) (c .before .before .read-marker2 .ensures _ Content refl)
+    listed _ (top .pre .1) (top .pre .2) (top .pre .3) _ (fewer at-inside) (in-content _ _ (sym (at-enum-told .enum-told4 .given .1) ∙ at-enum-told .before .before .mode-of .ensures)) (c .before .before .read-marker2 .ensures)
 
 pub read-named-spec : {M : Type 1} → statement M
 read-named-spec =

@@ -20,7 +20,7 @@ read-named-requires c κs =
     let name = name-ends (top .pre .1) _ (c .before .before .before .before .read-head .ensures) (c .before .before .to .given .1) in (top .pre .0, name .0, name .1, top .pre .2)
 
 returns : tie.Need-returns
-returns c = head-refused (c .before .before .before .before .before .before .before .pre .1) _ (c .before .before .before .read-head .ensures) (c .before .before .before .before .before .before .before .pre .2) _ _ (c .before .refusal .given .1) refl
+returns c = head-refused (c .before .before .before .before .before .before .before .pre .1) _ (c .before .before .before .read-head .ensures) _ (c .before .before .before .before .before .before .before .pre .2) _ (c .before .refusal .given .1) refl
 
 same-length : tie.Need-same-length
 same-length c = search needs
@@ -29,7 +29,7 @@ returns-2 : tie.Need-returns-2
 returns-2 c =
     let at-to = c .before .before .before .before .before in
     let top = at-to .before .before .before .before .before .before in
-    head-read (top .pre .1) _ (at-to .before .before .read-head .ensures) (top .pre .2) _ _ (at-to .to .given .1) (c .before .before .read-named .ensures)
+    head-read (top .pre .1) _ (at-to .before .before .read-head .ensures) _ (top .pre .2) _ (at-to .to .given .1) (c .before .before .read-named .ensures)
 
 pub read-opening-spec : {M : Type 1} → statement M
 read-opening-spec =

@@ -48,7 +48,7 @@ same-length : tie.Need-same-length Inv-loop μ-loop
 same-length c = c .before .before .before .loop .inv .held
 
 returns : tie.Need-returns Inv-loop μ-loop
-returns c = λ m. traits-cut (c .before .before .before .loop .inv) (c .before .before .end .ensures) (c .before .if1 .taken) m (c .cut .ensures)
+returns c = traits-cut (c .before .before .before .loop .inv) (c .before .before .end .ensures) (c .before .if1 .taken) (c .cut .ensures)
 
 shared-slice-read-is-one-of : tie.Need-shared-slice-read-is-one-of Inv-loop μ-loop
 shared-slice-read-is-one-of c = stands (c .before)
@@ -63,7 +63,7 @@ same-length-2 : tie.Need-same-length-2 Inv-loop μ-loop
 same-length-2 c = c .before .before .before .before .before .before .loop .inv .held
 
 returns-2 : tie.Need-returns-2 Inv-loop μ-loop
-returns-2 c = λ m. traits-over (c .before .before .before .before .before .before .loop .inv) (c .before .before .before .before .before .end .ensures) (stands (c .before .before .before .before)) (sym (c .before .is-one-of .ensures) ∙ c .if2 .taken) m refl
+returns-2 c = traits-over (c .before .before .before .before .before .before .loop .inv) (c .before .before .before .before .before .end .ensures) (stands (c .before .before .before .before)) (sym (c .before .is-one-of .ensures) ∙ c .if2 .taken) refl
 
 refused-requires : tie.Need-refused-requires Inv-loop μ-loop
 refused-requires c κs = search needs
@@ -74,7 +74,7 @@ same-length-3 c = c .before .before .before .before .before .before .before .bef
 returns-3 : tie.Need-returns-3 Inv-loop μ-loop
 returns-3 c =
     let at-if = c .before .before .before .before .before .before in
-    λ m. traits-due (at-if .before .before .loop .inv) (at-if .before .end .ensures) (stands at-if) (sym (c .before .before .before .is-one-of .ensures) ∙ c .before .before .if2 .left) (c .before .if3 .taken) m (c .refused .ensures)
+    traits-due (at-if .before .before .loop .inv) (at-if .before .end .ensures) (stands at-if) (sym (c .before .before .before .is-one-of .ensures) ∙ c .before .before .if2 .left) (c .before .if3 .taken) (c .refused .ensures)
 
 after-requires : tie.Need-after-requires Inv-loop μ-loop
 after-requires c κs = omega (arith, c .before .before .before .before .before .before .before .before .loop .inv .few, c .before .before .before .before .before .before .before .before .before .before .before .pre .1 .few)
