@@ -172,20 +172,22 @@ module _ (m : Modes) (by : Bounds) (deeper room tabs : ℕ) (s : List ℕ) (o : 
       → Reads s (λ c end. ReadConcept m by deeper room tabs s c end) (insideBy m inner deeper room tabs o left)
   concept-made u inner h = ends (o .ends) refl
     where
+      k : Marker
+      k = o .marker
+
       x : Found Concept
-      x = inner (deeper - 1) (roomIn room o) (o .marker) left
+      x = inner (deeper - 1) (roomIn room o) k left
 
       y : Found Concept
-      y = contentOf tabs (roomIn room o) (o .marker) left
+      y = contentOf tabs (roomIn room o) k left
 
       ends : (e : Ending) → o .ends ≡ e
-          → Reads s (λ c end. ReadConcept m by deeper room tabs s c end)
-          (elim e [ self ↦ found (selfClosed (o .marker)) left | block ↦ elim (inMode Children m (o .marker .name)) [ true ↦ x | false ↦ y ] ])
+          → Reads s (λ c end. ReadConcept m by deeper room tabs s c end) (insideBy m inner deeper room tabs (record { marker = k; ends = e }) left)
       ends self e = (u, self-made e)
       ends block e =
-          split (inMode Children m (o .marker .name))
-          (λ i. rw i (reads-as s _ _ x (reads-in u _ x (h (deeper - 1) (roomIn room o) (o .marker) left)) (children-made e i)))
-          (λ i. rw i (reads-as s _ _ y (reads-in u _ y (content-reads tabs (roomIn room o) (o .marker) left)) (content-made e i)))
+          split (inMode Children m (k .name))
+          (λ i. rw (i, Reads) (reads-as s _ _ x (reads-in u _ x (h (deeper - 1) (roomIn room o) k left)) (children-made e i)))
+          (λ i. rw (i, Reads) (reads-as s _ _ y (reads-in u _ y (content-reads tabs (roomIn room o) k left)) (content-made e i)))
 
 -- four rules that hold together
 pub element-parts : (a b c d : Bool) → a && b && c && d ≡ true → (a ≡ true) × (b ≡ true) × (c ≡ true) × (d ≡ true)
@@ -225,8 +227,8 @@ module _ (m : Modes) (by : Bounds) (deeper : ℕ) (read : ℕ → ℕ → List �
       (λ c. record { notes = notes; tabs = tabs; concept = c })
       (read fewer tabs mark) (reads-in (tail-drop tabs line) _ (read fewer tabs mark) (h fewer tabs mark))
       (λ c left k.
-      let e : s ≡ annotationsOnto notes (tabsOnto tabs (conceptOnto tabs c left)) = n .covers
-      ∙ ap (annotationsOnto notes) (tabs-covers line ∙ ap (tabsOnto tabs) (k .covers)) in
+      let e : s ≡ annotationsOnto notes (tabsOnto tabs (conceptOnto tabs c left)) =
+      n .covers ∙ ap (annotationsOnto notes) (tabs-covers line ∙ ap (tabsOnto tabs) (k .covers)) in
       record {
         covers = e;
         notes-rule = n .rule;
@@ -239,8 +241,7 @@ module _ (m : Modes) (by : Bounds) (deeper : ℕ) (read : ℕ → ℕ → List �
           arith,
           ap length e,
           annotations-wide notes (tabsOnto tabs (conceptOnto tabs c left)),
-          tabs-wide tabs
-              (conceptOnto tabs c left),
+          tabs-wide tabs (conceptOnto tabs c left),
           concept-wide c tabs left,
         );
       }))
@@ -250,8 +251,7 @@ module _ (m : Modes) (by : Bounds) (deeper : ℕ) (read : ℕ → ℕ → List �
   blank-made b left r = record {
     it = record {
       covers = r .covers;
-      rule = and
-          (r .rule) refl;
+      rule = and (r .rule) refl;
       modes = refl;
       within = refl;
       depth = omega arith;
@@ -293,8 +293,7 @@ unfolding bodyOnto bodyRule bodyModes bodyFits bodyDepth bodySize
 body-made m by deeper room s (blankPiece b) next inner end r q =
     record {
       covers = r .covers ∙ ap (blankOnto b) (q .covers);
-      rule = and (both (blankRule b) true (r .rule) .0)
-          (q .rule);
+      rule = and (both (blankRule b) true (r .rule) .0) (q .rule);
       modes = q .modes;
       within = q .within;
       depth = q .depth;
@@ -367,7 +366,8 @@ mutual
 -- the same where the fuel is enough
 pub annotated-reads : (m : Modes) (by : Bounds) (deeper room : ℕ) (s : List ℕ)
     → Reads s (λ a left. ReadAnnotated m by deeper room s a left) (annotatedOf m by deeper room s)
-annotated-reads m by deeper room s = annotated-by m by deeper (conceptOf m by deeper)
+annotated-reads m by deeper room s =
+    annotated-by m by deeper (conceptOf m by deeper)
     (λ room tabs l. concept-reads m by (length l + 1) deeper room tabs l) room s
 
 pub piece-reads : (m : Modes) (by : Bounds) (deeper room : ℕ) (s : List ℕ)
@@ -436,8 +436,7 @@ opening-complete m by deeper room k e next p =
       due-complete (byte "<") (k .name ++ behind),
       name-found (isName isUpper (by .names)) (k .name) behind (q .0) (q .1) (and (n .0) (w .0))
           (some-behind k e next (n .1) (v .1)) (name-ends k e next (n .1) (v .1)),
-      admitted-complete m deeper room (byte "<" ∷ (k .name ++ behind))
-          (k .name) behind (p .deep) (omega (arith, p .fits)) (p .listed),
+      admitted-complete m deeper room (byte "<" ∷ (k .name ++ behind)) (k .name) behind (p .deep) (omega (arith, p .fits)) (p .listed),
       opened-complete by (room - 1) k e next (n .1) (w .1) (v .1) (p .opens) f,
     )
 
@@ -446,7 +445,8 @@ pub marker-complete : (m : Modes) (by : Bounds) (fuel deeper room tabs : ℕ) (k
     → concept m by (suc fuel) deeper room tabs (markerOnto k (endingOnto e next)) ≡ insideBy m (childrenOf m by fuel) deeper room tabs
     (record { marker = k; ends = e }) next
 unfolding concept
-marker-complete m by fuel deeper room tabs k e next p = ap (λ (x : Found Opened). andThen x (insideBy m (childrenOf m by fuel) deeper room tabs))
+marker-complete m by fuel deeper room tabs k e next p =
+    ap (λ (x : Found Opened). andThen x (insideBy m (childrenOf m by fuel) deeper room tabs))
     (opening-complete m by deeper room k e next p)
 
 -- what a mode's test says
@@ -487,8 +487,8 @@ blank-opens : (s : List ℕ) → isBlankLine s ≡ true → isClosing s ≡ fals
 unfolding isBlank isLineEnd
 blank-opens s b = split (isClosing s) (λ e.
     let rest = drop 1 (bytes "</") ++ drop 2 (behind isTab s) in
-    let line : s ≡ tabsOnto (lengthIn isTab s) (byte "<" ∷ rest) = tabs-covers s
-    ∙ ap (tabsOnto (lengthIn isTab s)) (starts-is (bytes "</") (behind isTab s) e) in
+    let line : s ≡ tabsOnto (lengthIn isTab s) (byte "<" ∷ rest) =
+    tabs-covers s ∙ ap (tabsOnto (lengthIn isTab s)) (starts-is (bytes "</") (behind isTab s) e) in
     true-false (sym b ∙ ap isBlankLine line ∙ marked-line (lengthIn isTab s) (byte "<") rest refl refl)) (λ e. e)
 
 -- a line that an element begins
@@ -507,8 +507,7 @@ begins tabs b rest n l t o =
       mark = b ∷ rest;
       filled = marked-line tabs b rest n l;
       only = only-complete tabs b rest n;
-      opens = ap (startsWith (bytes "</"))
-          (tabs-behind tabs (b ∷ rest) t) ∙ o;
+      opens = ap (startsWith (bytes "</")) (tabs-behind tabs (b ∷ rest) t) ∙ o;
     }
 
 name-front : (k : Marker) (rest : List ℕ) → markerRule k ≡ true → startsWith (bytes "/") (k .name ++ rest) ≡ false
@@ -562,8 +561,7 @@ pub annotated-complete : (read : ℕ → ℕ → List ℕ → Found Concept) (ro
     → annotatedBy read room (annotationsOnto notes (tabsOnto tabs (conceptOnto tabs c next))) ≡ found (record { notes = notes; tabs = tabs; concept = c }) next
 annotated-complete read room notes tabs c next n r f e =
     rw (
-      annotations-complete room notes (tabsOnto tabs (conceptOnto tabs c next)) n f
-          (no-annotation tabs c next r),
+      annotations-complete room notes (tabsOnto tabs (conceptOnto tabs c next)) n f (no-annotation tabs c next r),
       concept-behind tabs c next r,
       concept-tabs tabs c next r,
       e,
@@ -628,8 +626,7 @@ mutual
         rule = p .0;
         within = q .0;
         opens = λ q. p .1;
-        listed = listed-children m (k .name)
-            (mode-is Children m (k .name) (v .0));
+        listed = listed-children m (k .name) (mode-is Children m (k .name) (v .0));
         deep = omega arith;
         fits = omega arith;
       })
@@ -650,11 +647,9 @@ mutual
       let mark = closingOnto (k .name) next in
       rw (
         rest-complete rest (bodyOnto inner end) b,
-        body-complete m by inner fuel deeper room end r o w d f (closing-line back (k .name) next)
-            (omega (arith, blank-wide rest (bodyOnto inner end))),
+        body-complete m by inner fuel deeper room end r o w d f (closing-line back (k .name) next) (omega (arith, blank-wide rest (bodyOnto inner end))),
         tabs-behind back mark (closing-tab (k .name) next),
-        closing-complete (k .name) next (n .0)
-            (n .1),
+        closing-complete (k .name) next (n .0) (n .1),
         tabs-length back mark (closing-tab (k .name) next),
       )
 
@@ -669,8 +664,7 @@ mutual
       when-false (isClosing (blankOnto b left)) _ _ (blank-opens (blankOnto b left) (blank-line b left (p .0)))
       ∙ rw (
         blank-piece (concept m by fuel deeper) room b left (p .0),
-        body-complete m by inner fuel deeper (room - 0) next (p .1) o w d (omega arith) e
-            (omega (arith, blank-wide b left)),
+        body-complete m by inner fuel deeper (room - 0) next (p .1) o w d (omega arith) e (omega (arith, blank-wide b left)),
       )
   body-complete m by (element notes tabs c rest inner) (suc fuel) deeper room next r o w d f e l =
       let p = element-parts (all annotationRule notes) (conceptRule c) (blankRule rest) (bodyRule inner) r in
@@ -682,7 +676,12 @@ mutual
       let g = begins-element notes tabs c (blankOnto rest left) (p .1) in
       when-false (isClosing (annotationsOnto notes line)) _ _ (g .opens)
       ∙ rw (
-        element-piece (concept m by fuel deeper) room (record { notes = notes; tabs = tabs; concept = c }) rest left (p .0) (p .1) (p .2) (omega arith)
+        element-piece (concept m by fuel deeper) room (record {
+          notes =
+              notes;
+          tabs = tabs;
+          concept = c;
+        }) rest left (p .0) (p .1) (p .2) (omega arith)
             (concept-complete m by c fuel deeper (room - length notes) tabs (blankOnto rest left) (p .1) (v .0) (q .0) (omega arith) (omega arith)
             (blank-ends rest left (p .2)) (omega (arith, tabs-wide tabs start, annotations-wide notes line))),
         body-complete m by inner fuel deeper (room - (length notes + conceptSize c + 0)) next (p .3) (v .1) (q .1) (omega arith) (omega arith) e

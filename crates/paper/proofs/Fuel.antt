@@ -32,11 +32,9 @@ inside-alike : (m : Modes) (one other : ℕ → ℕ → Marker → List ℕ → 
     → ((deeper room : ℕ) (k : Marker) → one deeper room k left ≡ other deeper room k left)
     → insideBy m one deeper room tabs o left ≡ insideBy m other deeper room tabs o left
 inside-alike m one other deeper room tabs o left h =
-    ap (λ (x : Found Concept). elim
-    (o .ends) [
+    ap (λ (x : Found Concept). elim (o .ends) [
       | self ↦ found (selfClosed (o .marker)) left
-      | block ↦ elim
-          (inMode Children m (o .marker .name)) [ true ↦ x | false ↦ contentOf tabs (roomIn room o) (o .marker) left ]
+      | block ↦ elim (inMode Children m (o .marker .name)) [ true ↦ x | false ↦ contentOf tabs (roomIn room o) (o .marker) left ]
     ])
     (h (deeper - 1) (roomIn room o) (o .marker))
 

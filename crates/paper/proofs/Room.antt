@@ -73,7 +73,8 @@ module _ {A : Type 0} (size : A → ℕ) (turn : ℕ → List ℕ → Turn A) (h
   going-on : (fuel room wide : ℕ) → room ≤ wide
       → ((room wide : ℕ) (s : List ℕ) → room ≤ wide → Within (many size turn fuel room s) (many size turn fuel wide s)) → (t : Turn A)
       → Within (goOn (λ a left. many size turn fuel (room - size a) left) t) (goOn (λ a left. many size turn fuel (wide - size a) left) t)
-  going-on fuel room wide l again (more a left) = within-map _ _ (λ things end. found (a ∷ things) end)
+  going-on fuel room wide l again (more a left) =
+      within-map _ _ (λ things end. found (a ∷ things) end)
       (again (room - size a) (wide - size a) left (omega arith))
   going-on fuel room wide l again (over left) = inl refl
   going-on fuel room wide l again (stop n left) = inl refl
@@ -123,7 +124,8 @@ within-enters room wide at valued t left l =
 
 within-opened : (by : Bounds) (room wide : ℕ) (w s : List ℕ) → room ≤ wide → Within (opened by room w s) (opened by wide w s)
 unfolding opened trait traitTurn traitDue
-within-opened by room wide w s l = within-map _ _ _
+within-opened by room wide w s l =
+    within-map _ _ _
     (within-many traitSize (traitTurn by) (λ room wide s l. due-one room wide s (front isWhite s) (behind isWhite s) l) (suc (length s)) room wide s l)
   where
     one : (room wide : ℕ) (white s : List ℕ) → room ≤ wide → Within (trait by room white s) (trait by wide white s)
@@ -142,7 +144,8 @@ within-opened by room wide w s l = within-map _ _ _
 
 within-opening : (m : Modes) (by : Bounds) (deeper room wide : ℕ) (s : List ℕ) → room ≤ wide → Within (opening m by deeper room s) (opening m by deeper wide s)
 unfolding admitted
-within-opening m by deeper room wide s l = within-on (head by s) _ _
+within-opening m by deeper room wide s l =
+    within-on (head by s) _ _
     (λ w left. within-then _ _ _ _ (name-in deeper w left) (λ v start. within-opened by (room - 1) (wide - 1) v start (omega arith)))
   where
     name-in : (deeper : ℕ) (w left : List ℕ) → Within (admitted m deeper room s w left) (admitted m deeper wide s w left)
@@ -171,7 +174,8 @@ within-inside m inner deeper room wide tabs o left l h = ends (o .ends)
 module _ (read : ℕ → ℕ → List ℕ → Found Concept) (h : (room wide tabs : ℕ) (s : List ℕ) → room ≤ wide → Within (read room tabs s) (read wide tabs s))
     (room wide : ℕ) (s : List ℕ) (l : room ≤ wide) where
   within-annotated : Within (annotatedBy read room s) (annotatedBy read wide s)
-  within-annotated = within-then _ _ _ _ (within-annotations room wide s l)
+  within-annotated =
+      within-then _ _ _ _ (within-annotations room wide s l)
       (λ notes line. within-map _ _ _ (h (room - length notes) (wide - length notes) (lengthIn isTab line) (behind isTab line) (omega arith)))
 
   within-piece : Within (pieceBy read room s) (pieceBy read wide s)
@@ -191,7 +195,8 @@ mutual
   within-children : (m : Modes) (by : Bounds) (fuel deeper room wide : ℕ) (k : Marker) (s : List ℕ) → room ≤ wide
       → Within (childrenOf m by fuel deeper room k s) (childrenOf m by fuel deeper wide k s)
   within-children m by zero deeper room wide k s l = inl refl
-  within-children m by (suc fuel) deeper room wide k s l = within-on (lineRest s) _ _
+  within-children m by (suc fuel) deeper room wide k s l =
+      within-on (lineRest s) _ _
       (λ rest start. within-map _ _ _ (within-body m by fuel deeper room wide start l))
 
   within-body : (m : Modes) (by : Bounds) (fuel deeper room wide : ℕ) (s : List ℕ) → room ≤ wide

@@ -92,8 +92,7 @@ sheet-complete m by deeper room t k =
     rw (
       blanks-complete (t .before) first (q .0) (g .filled),
       g .only,
-      annotated-complete (conceptOf m by deeper) room (t .annotations) (t .tabs)
-          (t .root) left (q .1) (q .2) (omega (arith, k .fits))
+      annotated-complete (conceptOf m by deeper) room (t .annotations) (t .tabs) (t .root) left (q .1) (q .2) (omega (arith, k .fits))
           (concept-complete m by (t .root) (length s + 1) deeper (room - length (t .annotations)) (t .tabs) left (q .2) (k .modes) (k .within) (k .depth)
           (omega (arith, k .fits)) (ends-root (t .after) (t .last) (q .3) (p .1)) (omega arith)),
       blanks-complete (t .after) end (q .3) (ap (startsIn isLineEnd) (behind-of isBlank (t .last) [] (p .1) refl)),

@@ -308,11 +308,11 @@ roomOf lent = min (lent / entryCells) entryLimit
 
 -- the faults of a sheet under a valid table, in the paper's order: 2, 3, then 4 to 11
 unfoldable pub sheetOf : Modes → ℕ → List ℕ → Found Sheet
-sheetOf m room s = elim (ltb sheetLimit (length s)) [
-  | true ↦ fault 2 (drop sheetLimit s)
-  | false ↦ andThen (sheetBytes s)
-      (λ vs left. sheetTree m bounds conceptLimit room s)
-]
+sheetOf m room s =
+    elim (ltb sheetLimit (length s)) [
+      | true ↦ fault 2 (drop sheetLimit s)
+      | false ↦ andThen (sheetBytes s) (λ vs left. sheetTree m bounds conceptLimit room s)
+    ]
 
 -- the answer, and every lent cell at exit: a refusal leaves all of them zero
 pub record Reading : Type 0 where

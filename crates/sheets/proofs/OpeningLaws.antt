@@ -180,7 +180,8 @@ module _ {s : List ℕ} {to : ℕ} (place : In s to) {cells : List ℕ} {slot : 
 
         by-traits : held ≡ of-traits traits
         unfolding opened
-        by-traits = rw (makes-complete (slot .room - slot .next) (drop start s) (part s start to) (drop to s)
+        by-traits =
+            rw (makes-complete (slot .room - slot .next) (drop start s) (part s start to) (drop to s)
             (omega (arith, leb-false (slot .room) (slot .next) (sym asked ∙ f))))
 
         made-traits : Makes traitsSize length (traitEntries (slot .next) (slot .next + 1) to) s cells (slot .next + 1) traits t after
@@ -188,7 +189,8 @@ module _ {s : List ℕ} {to : ℕ} (place : In s to) {cells : List ℕ} {slot : 
 
         pub traits-refused : {why : Refusal} {at : ℕ} → t ≡ Part.Refused why at → {inside : Nesting} {r : Opening} → r ≡ Refused why at
             → Holds s start to form inside cells slot r after
-        traits-refused {why} {at} p {inside} {r} q = opens-passed _ _ _ _ _ _ held r after traitsSize length of-traits (λ n left. refl) traits t why at
+        traits-refused {why} {at} p {inside} {r} q =
+            opens-passed _ _ _ _ _ _ held r after traitsSize length of-traits (λ n left. refl) traits t why at
             (made-traits .says) p q by-traits
 
         pub marker-traits : {end made own : ℕ} → t ≡ Read end made own → {mark : ℕ} → Stretch isWhite s end mark
@@ -268,15 +270,15 @@ module _ (table : List ℕ) {s : List ℕ} {at to : ℕ} (place : In s to) (ahea
     unfolding admitted
     listed {form} i {r} {after} h =
         let room = slot .room - slot .next in
-        let is : named (modesOf table) bounds deeper room (drop at s) w (drop to s) ≡ heldOf room (drop (at + 1) s) w (drop to s) = rw
-        (d, admitted, i .0, drop-drop 1 at s) in
+        let is : named (modesOf table) bounds deeper room (drop at s) w (drop to s) ≡ heldOf room (drop (at + 1) s) w (drop to s) =
+        rw (d, admitted, i .0, drop-drop 1 at s) in
         record {
           makes = rw is (h .makes);
           says = λ kind stop end made own within q o left e.
               let f = sym is ∙ e in
               let x = h .says kind stop end made own within q o left f in
-              let n : blockForm (modesOf table) (o .marker .name) ≡ form = ap (blockForm (modesOf table))
-              (held-named room (drop (at + 1) s) w (drop to s) o left f) ∙ i .1 in
+              let n : blockForm (modesOf table) (o .marker .name) ≡ form =
+              ap (blockForm (modesOf table)) (held-named room (drop (at + 1) s) w (drop to s) o left f) ∙ i .1 in
               (x .0 ∙ ap (λ (k : ℕ). formIn k (o .ends)) (sym n), x .1, x .2 ∙ sym d);
         }
 
@@ -306,8 +308,7 @@ module _ {s : List ℕ} {at : ℕ} (place : In s at) (a : Part) (says : seen a �
       ap length (begun .holds .marked),
       length-drop 1 (drop at s),
       ap length (begun .holds .named .covers),
-      length-append (begun .it)
-          (drop to s),
+      length-append (begun .it) (drop to s),
       length-drop at s,
       length-drop to s,
       place .inside,

@@ -64,14 +64,16 @@ module _ {table s : List ℕ} {at : ℕ} {cells : List ℕ} {slot : Slot} (h : R
 
     module _ (f : o ≡ false) (tabs : Part) (told : seen tabs ≡ passed s (tabsOnly (drop at s))) where
       abbrev ofTabs : Found ℕ → Found BodyPiece
-      ofTabs x = andThen x (λ n mark. andThen (annotatedOf (modesOf table) bounds deeper room (drop at s))
+      ofTabs x =
+          andThen x (λ n mark. andThen (annotatedOf (modesOf table) bounds deeper room (drop at s))
           (λ a left. andThen (lineRest left) (λ rest end. found (elementPiece a rest) end)))
 
       by-tabs : pieceOf (modesOf table) bounds deeper room (drop at s) ≡ ofTabs (tabsOnly (drop at s))
       by-tabs = when-false (isBlankLine (drop at s)) _ _ (sym asked ∙ f)
 
       pub tabs-refused : {why : Refusal} {place : ℕ} → tabs ≡ Refused why place → Piece tabs cells
-      tabs-refused {why} {place} q = makes-passed _ _ _ _ _ _ _ tabs cells (λ n. 0) (λ n. 0) ofTabs (λ k left. refl)
+      tabs-refused {why} {place} q =
+          makes-passed _ _ _ _ _ _ _ tabs cells (λ n. 0) (λ n. 0) ofTabs (λ k left. refl)
           (tabsOnly (drop at s)) why place told q by-tabs
 
       -- tabs only: annotations, a Concept, and the rest of its line
@@ -89,7 +91,8 @@ module _ {table s : List ℕ} {at : ℕ} {cells : List ℕ} {slot : Slot} (h : R
             by-tabs ∙ ap ofTabs (t .finds)
 
         pub concept-refused : {why : Refusal} {place : ℕ} → r ≡ Refused why place → Piece r after
-        concept-refused {why} {place} q = makes-passed _ _ _ _ _ _ _ r after annotatedSize annotatedCount ofConcept (λ k left. refl) noted why place
+        concept-refused {why} {place} q =
+            makes-passed _ _ _ _ _ _ _ r after annotatedSize annotatedCount ofConcept (λ k left. refl) noted why place
             (one .says) q by-concept
 
         pub concept-at : {end made own : ℕ} → r ≡ Read end made own → ConceptAt table s at deeper cells slot after end made own
@@ -194,7 +197,8 @@ module _ {table s : List ℕ} {at deeper : ℕ} {lent : List ℕ} {slot : Slot} 
       module _ {end more mine : ℕ} (q : r ≡ Read end more mine) where
         piece : FoundAt pieceSize pieceCount (λ p rest. ReadPiece m bounds deeper left (drop i s) p rest) s i
             (pieceOf m bounds deeper left (drop i s)) end more mine
-        piece = found-at pieceSize pieceCount s r _ i (pieceOf m bounds deeper left (drop i s)) end more mine (found-one .says)
+        piece =
+            found-at pieceSize pieceCount s r _ i (pieceOf m bounds deeper left (drop i s)) end more mine (found-one .says)
             (piece-reads m bounds deeper left (drop i s)) (so-far .inside) q
 
         pub piece-ahead : (i < end) × (end ≤ length s) × (start + more ≤ slot .room) × (mine ≤ more)
@@ -202,8 +206,7 @@ module _ {table s : List ℕ} {at deeper : ℕ} {lent : List ℕ} {slot : Slot} 
           further s i end (piece .holds .shorter),
           piece .inside,
           omega (arith, piece .many, piece .holds .it .fits, so-far .few),
-          omega
-              (arith, piece .many, piece .owned, body-few (before (piece .it) done)),
+          omega (arith, piece .many, piece .owned, body-few (before (piece .it) done)),
         )
 
         abbrev first : List Entry
@@ -213,8 +216,7 @@ module _ {table s : List ℕ} {at deeper : ℕ} {lent : List ℕ} {slot : Slot} 
         ends = omega (
           arith,
           ap length (piece .holds .it .covers),
-          body-long (before (piece .it) done)
-              (drop end s),
+          body-long (before (piece .it) done) (drop end s),
           length-drop i s,
           length-drop end s,
           so-far .inside,
