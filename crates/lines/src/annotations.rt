@@ -66,24 +66,14 @@ fn read_one(s: &[u8], at: usize, cells: &mut [u32], slot: Slot) -> Part
     ensures { λ r. ⌜ ((tabs : ℕ) → Makes (λ a. 1) (λ a. 1) (noteEntries (slot .parent) at) (now (s .entry)) (now (cells .entry)) (slot .next) (annotation (slot .room - slot .next) tabs (drop at (now (s .entry)))) r (now (cells .exit))) ⌝ }
 {
     let text = text_end(s, at);
-    let Part::Read {
-        end,
-        made: _,
-        own: _,
-    } = text
-    else {
+    let Part::Read { end, .. } = text else {
         return text;
     };
     if slot.is_full() {
         return refused(Refusal::NoEntryLeft, at);
     }
     let rest = line_rest(s, end);
-    let Part::Read {
-        end: next,
-        made: _,
-        own: _,
-    } = rest
-    else {
+    let Part::Read { end: next, .. } = rest else {
         return rest;
     };
     let n = slot.next;
@@ -116,12 +106,7 @@ pub fn read_all(s: &[u8], at: usize, cells: &mut [u32], slot: Slot) -> Part
             };
         }
         let one = read_one(s, mark + 1, cells, slot.after(made));
-        let Part::Read {
-            end,
-            made: _,
-            own: _,
-        } = one
-        else {
+        let Part::Read { end, .. } = one else {
             return one;
         };
         i = end;

@@ -37,12 +37,7 @@ pub fn blank_lines(s: &[u8], at: usize) -> Part
     let mut i = at;
     while is_blank_line(s, i) {
         let line = line_rest(s, i);
-        let Part::Read {
-            end,
-            made: _,
-            own: _,
-        } = line
-        else {
+        let Part::Read { end, .. } = line else {
             return line;
         };
         i = end;

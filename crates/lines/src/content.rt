@@ -94,12 +94,7 @@ pub fn read_content(
     ensures { λ r. ⌜ ((k : Marker) → k .name ≡ part (now (s .entry)) from to → Makes (λ c. 1) (λ c. 1) (contentEntries (slot .parent) tabs at) (now (s .entry)) (now (cells .entry)) (slot .next) (contentOf tabs (slot .room - slot .next) k (drop at (now (s .entry)))) r (now (cells .exit))) ⌝ }
 {
     let rest = line_rest(s, at);
-    let Part::Read {
-        end: start,
-        made: _,
-        own: _,
-    } = rest
-    else {
+    let Part::Read { end: start, .. } = rest else {
         return rest;
     };
     if slot.is_full() {
@@ -108,12 +103,7 @@ pub fn read_content(
     let mut i = start;
     while !closes(s, i, tabs, from, to) {
         let line = read_line(s, i, tabs);
-        let Part::Read {
-            end,
-            made: _,
-            own: _,
-        } = line
-        else {
+        let Part::Read { end, .. } = line else {
             return line;
         };
         i = end;

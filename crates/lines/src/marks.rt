@@ -21,30 +21,15 @@ pub fn read_closing(s: &[u8], at: usize, from: usize, to: usize) -> Part
     ensures { λ r. ⌜ seen r ≡ passed (now (s .entry)) (closing (part (now (s .entry)) from to) (drop at (now (s .entry)))) ⌝ }
 {
     let less = byte_due(s, at, b'<');
-    let Part::Read {
-        end: slash,
-        made: _,
-        own: _,
-    } = less
-    else {
+    let Part::Read { end: slash, .. } = less else {
         return less;
     };
     let mark = byte_due(s, slash, b'/');
-    let Part::Read {
-        end: start,
-        made: _,
-        own: _,
-    } = mark
-    else {
+    let Part::Read { end: start, .. } = mark else {
         return mark;
     };
     let name = name_end(s, start, Whose::Closings);
-    let Part::Read {
-        end,
-        made: _,
-        own: _,
-    } = name
-    else {
+    let Part::Read { end, .. } = name else {
         return name;
     };
     if !same(&s[from..to], &s[start..end]) {

@@ -85,11 +85,7 @@ fn read_section(table: &[u8], at: usize, earlier: usize) -> Answer
     let mut i = 0;
     while i < count {
         let answer = read_name(table, place);
-        let Answer::Accepted {
-            place: end,
-            count: _,
-        } = answer
-        else {
+        let Answer::Accepted { place: end, .. } = answer else {
             return answer;
         };
         let letters = place + 1;
