@@ -6,12 +6,13 @@ use mathlib.Core.Bool.{Bool, true}
 use mathlib.Core.List.{List, [], _∷_}
 use lib.ListN.{length, take, drop}
 use Rattle.paper.specs.Answer.{numberOf}
-use Rattle.paper.specs.Found.{Found, found, fault, Turn, more, over, stop, placeIn}
+use Rattle.paper.specs.Found.{Found, found, fault, andThen, Turn, more, over, stop, placeIn}
 use Rattle.paper.specs.Names.{isConceptName, isTraitName}
 use Rattle.paper.specs.Limits.{sheetLimit}
 use Rattle.paper.specs.Tree.{Annotation, Concept, selfClosed, children, content}
 use Rattle.paper.specs.Grammar.{blankOnto, linesOnto}
 use Rattle.paper.specs.Entries.{Entry, unnamed}
+use Rattle.paper.specs.Reading.{due}
 use Rattle.entries.specs.Laid.{lay}
 use Rattle.lines.specs.declared.part.Part.{Part}
 use Rattle.lines.specs.declared.part.Part.the-variants.{Read, Refused}
@@ -42,6 +43,11 @@ abbrev pub turned : {A : Type 0} → List ℕ → Turn A → Seen
 turned s (more a left) = record { number = 0; place = placeIn s left; made = 0; own = 0 }
 turned s (over left) = record { number = 0; place = placeIn s left; made = 0; own = 0 }
 turned s (stop n left) = record { number = n; place = placeIn s left; made = 0; own = 0 }
+
+-- fixed bytes are due, each where the one before it ends
+unfoldable pub dueAll : List ℕ → List ℕ → Found (List ℕ)
+dueAll [] s = found [] s
+dueAll (b ∷ fixed) s = andThen (due b s) (λ c left. dueAll fixed left)
 
 -- what makes entries: the answer, and the cells with the entries of what is found laid from number n on
 pub record Makes {A : Type 0} (size own : A → ℕ) (of : A → List Entry) (s cells : List ℕ) (n : ℕ) (x : Found A) (r : Part) (after : List ℕ) : Type 0 where

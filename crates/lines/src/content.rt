@@ -1,6 +1,8 @@
 // Content: lines of text one tab deeper than their marker, up to the closing line.
 // Document 01, "The grammar", Content; refusals 7, 9 and 11.
 use crate::blank::is_blank_line;
+use crate::marks::CLOSING;
+use crate::marks::END;
 use crate::part::Part;
 use crate::part::cut;
 use crate::part::line_end;
@@ -35,17 +37,18 @@ fn closes(s: &[u8], at: usize, tabs: usize, from: usize, to: usize) -> bool
     if mark - at != tabs {
         return false;
     }
-    if !starts_with(s, mark, b"</") {
+    if !starts_with(s, mark, &CLOSING) {
         return false;
     }
-    if !starts_with(s, mark + 2, &s[from..to]) {
+    let start = mark + CLOSING.len();
+    if !starts_with(s, start, &s[from..to]) {
         return false;
     }
-    let end = mark + 2 + (to - from);
-    if !starts_with(s, end, b">") {
+    let end = start + (to - from);
+    if !starts_with(s, end, &END) {
         return false;
     }
-    is_over(s, end + 1)
+    is_over(s, end + END.len())
 }
 
 // Whether only blanks stand from `at` on before the end of the line or of the input.
@@ -115,7 +118,7 @@ pub fn read_content(
         nameless(CONTENT, 0, slot.parent, 0, start as u32, i as u32),
     );
     Part::Read {
-        end: i + tabs + 3 + (to - from),
+        end: i + tabs + CLOSING.len() + (to - from) + END.len(),
         made: 1,
         own: 1,
     }

@@ -32,8 +32,8 @@ starts-with-requires c κs = search needs
 returns-2 : tie.Need-returns-2
 returns-2 c = no-mark _ _ _ _ _ _ (c .before .before .before .before .end .ensures) (size (c .before .before .before .before .before .before)) (c .before .before .before .if1 .left) (sym (c .before .starts-with .ensures) ∙ not-true _ (c .if2 .taken))
 
-add-starts-with : tie.Need-add-starts-with
-add-starts-with c = search needs
+add-start : tie.Need-add-start
+add-start c = search needs
 
 sub-starts-with : tie.Need-sub-starts-with
 sub-starts-with c = search needs
@@ -52,14 +52,11 @@ returns-3 c =
     let marked = sym (c .before .before .before .before .starts-with .ensures) ∙ not-false _ (c .before .before .before .if2 .left) in
     other-name _ _ _ _ _ _ (c .before .before .before .before .before .before .before .end .ensures) (size (c .before .before .before .before .before .before .before .before .before)) (c .before .before .before .before .before .before .if1 .left) marked (sym (c .before .starts-with2 .ensures) ∙ not-true _ (c .if3 .taken))
 
-add-end : tie.Need-add-end
-add-end c = search needs
-
 sub-end : tie.Need-sub-end
 sub-end c = search needs
 
-add-end-2 : tie.Need-add-end-2
-add-end-2 c =
+add-end : tie.Need-add-end
+add-end c =
     let marked = sym (c .before .before .before .before .starts-with .ensures) ∙ not-false _ (c .before .before .before .if2 .left) in
     let named = sym (c .before .starts-with2 .ensures) ∙ not-false _ (c .if3 .left) in
     let inside = name-inside _ _ _ _ _ _ (c .before .before .before .before .before .before .before .end .ensures) (size (c .before .before .before .before .before .before .before .before .before)) (c .before .before .before .before .before .before .if1 .left) marked named in
@@ -108,15 +105,14 @@ closes-spec =
     slice-aggregate-starts-with
     starts-with-requires
     returns-2
-    add-starts-with
+    add-start
     sub-starts-with
     part-starts-with-start
     part-starts-with-end
     starts-with-requires-2
     returns-3
-    add-end
     sub-end
-    add-end-2
+    add-end
     slice-aggregate-starts-with-2
     starts-with-requires-3
     returns-4

@@ -123,6 +123,9 @@ sub-t26 c = search needs
 add-t27 : tie.Need-add-t27 Inv-loop μ-loop
 add-t27 c = omega (arith, closing (c .before .before .before .before .before))
 
+add-t28 : tie.Need-add-t28 Inv-loop μ-loop
+add-t28 c = omega (arith, closing (c .before .before .before .before .before))
+
 same-length : tie.Need-same-length Inv-loop μ-loop
 same-length c = search needs
 
@@ -161,5 +164,6 @@ read-content-spec =
     add-t25
     sub-t26
     add-t27
+    add-t28
     same-length
     returns-4)
