@@ -22,7 +22,7 @@ use Rattle.paper.proofs.Finds.{Reads, Turns}
 use Rattle.paper.proofs.Lines.{makes-complete}
 use Rattle.paper.proofs.Content.{ReadLine, ReadLines, line-reads, line-shorter, lines-reads, closes-is}
 use Rattle.entries.specs.Laid.{lay}
-use Rattle.lines.specs.Parts.{seen, passed, turned, Makes, contentEntries}
+use Rattle.lines.specs.Parts.{seen, passed, turned, Makes, contentEntries, PassesLine}
 use Rattle.lines.specs.declared.part.Part.{Part}
 use Rattle.lines.specs.declared.part.Part.the-variants.{Read, Refused}
 use Rattle.lines.proofs.Crossing.{further, says-read, found-at, FoundAt, makes-refused, makes-passed, makes-read}
@@ -66,7 +66,7 @@ abbrev AllLines : List ℕ → List ℕ → ℕ → ℕ → ℕ → Type 0
 AllLines s w tabs start i = FoundAt (λ ls. 0) (λ ls. 0) (λ lines left. ReadLines tabs w (drop start s) lines left) s start (linesOf tabs w (drop start s)) i 0 0
 
 module _ (s w : List ℕ) (tabs start i : ℕ) (so-far : LinesTo s w tabs start i) (o : Bool) (asked : o ≡ closesLine tabs w (drop i s)) where
-  module _ (n : not o ≡ true) (r : Part) (said : (v : List ℕ) → closesLine tabs v (drop i s) ≡ false → seen r ≡ turned s (lineTurn tabs v 0 (drop i s))) where
+  module _ (n : not o ≡ true) (r : Part) (said : PassesLine s i tabs r) where
     this : Unclosed tabs w (drop i s)
     this = unclosed tabs w (drop i s) (sym asked ∙ not-true o n)
 

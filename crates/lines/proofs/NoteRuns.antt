@@ -20,7 +20,7 @@ use Rattle.paper.proofs.Annotations.{ReadBehind, annotation-reads, annotation-s
 use Rattle.entries.specs.Laid.{slotAfter, Fits}
 use Rattle.entries.specs.declared.Slot.{Slot}
 use Rattle.entries.proofs.Slots.{fits-after}
-use Rattle.lines.specs.Parts.{Makes, noteEntries}
+use Rattle.lines.specs.Parts.{Makes, noteEntries, MakesNote, MakesNotes}
 use Rattle.lines.specs.declared.part.Part.{Part}
 use Rattle.lines.specs.declared.part.Part.the-variants.{Read, Refused}
 use Rattle.text.proofs.Stretch.{Stretch, behind-at}
@@ -29,7 +29,7 @@ use Rattle.lines.proofs.Crossing.{FoundAt, found-at, makes-same}
 use Rattle.lines.proofs.Turns.{makes-over, makes-stop, makes-more}
 use Rattle.lines.proofs.Lengths.{blank-long, note-long}
 
--- the annotations from i on, where so many are made already; and all of them
+-- the annotations from i on, where so many are made already
 abbrev counted : ℕ → List Annotation → ℕ
 counted made notes = made + length notes
 
@@ -37,15 +37,12 @@ abbrev pub Rest : List ℕ → Slot → List ℕ → ℕ → ℕ → Part → Li
 Rest s slot cells i made r after =
     Makes (counted made) (counted made) (annotationEntries (slot .parent) i) s cells (slot .next + made) (annotations (slot .room - (slot .next + made)) (drop i s)) r after
 
-abbrev pub All : List ℕ → ℕ → List ℕ → Slot → Part → List ℕ → Type 0
-All s at cells slot r after = Makes length length (annotationEntries (slot .parent) at) s cells (slot .next) (annotations (slot .room - slot .next) (drop at s)) r after
-
 -- what the turns so far leave
 pub record Notes (s : List ℕ) (at : ℕ) (lent : List ℕ) (slot : Slot) (cells : List ℕ) (i made : ℕ) : Type 0 where
   pub inside : i ≤ length s
   pub few : slot .next + made ≤ slot .room
   pub held : length cells ≡ length lent
-  pub onward : (r : Part) (after : List ℕ) → Rest s slot cells i made r after → All s at lent slot r after
+  pub onward : (r : Part) (after : List ℕ) → Rest s slot cells i made r after → MakesNotes s at lent slot r after
 
 pub notes-begin : (s : List ℕ) (at : ℕ) (cells : List ℕ) (slot : Slot) → at ≤ length s → slot .next ≤ slot .room → Notes s at cells slot cells at 0
 notes-begin s at cells slot h f = record {
@@ -67,7 +64,7 @@ module _ (s : List ℕ) (at : ℕ) (lent : List ℕ) (slot : Slot) (cells : List
   bracket : startsWith (bytes "[") (behind isTab (drop i s)) ≡ o
   bracket = ap (startsWith (bytes "[")) (behind-at isTab s i mark run) ∙ sym asked
 
-  pub notes-over : not o ≡ true → (r : Part) → r ≡ Read i made made → All s at lent slot r cells
+  pub notes-over : not o ≡ true → (r : Part) → r ≡ Read i made made → MakesNotes s at lent slot r cells
   unfolding annotationTurn annotationEntries
   notes-over n r e =
       so-far .onward r cells
@@ -89,15 +86,14 @@ module _ (s : List ℕ) (at : ℕ) (lent : List ℕ) (slot : Slot) (cells : List
       pub lent-fits : Fits lent slot → Fits cells next
       lent-fits h = fits-after made h (so-far .held) (so-far .few) lends
 
-      module _ (r : Part) (after : List ℕ)
-          (one : (tabs : ℕ) → Makes (λ a. 1) (λ a. 1) (noteEntries (next .parent) (mark + 1)) s cells (next .next) (annotation (next .room - next .next) tabs (drop (mark + 1) s)) r after) where
+      module _ (r : Part) (after : List ℕ) (one : MakesNote s (mark + 1) cells next r after) where
         abbrev reading : Found Annotation
         reading = annotation left (lengthIn isTab (drop i s)) (drop (mark + 1) s)
 
         noted : Makes (λ a. 1) (λ a. 1) (noteEntries (slot .parent) (mark + 1)) s cells (slot .next + made) reading r after
         noted = rw lends at (one (lengthIn isTab (drop i s)))
 
-        pub notes-refused : (why : Refusal) (place : ℕ) → r ≡ Refused why place → All s at lent slot r after
+        pub notes-refused : (why : Refusal) (place : ℕ) → r ≡ Refused why place → MakesNotes s at lent slot r after
         notes-refused why place q =
             so-far .onward r after
             (makes-stop (λ a. 1) annotationTurn annotation-shorter left (drop i s) (λ a. 1) (λ a. 1) turnOf (λ k rest. refl) (counted made) (counted made) (annotationEntries (slot .parent) i) s cells (slot .next + made) reading r after

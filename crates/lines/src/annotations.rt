@@ -15,13 +15,12 @@ use text::parts::starts_with;
 use text::runs;
 use text::runs::Class;
 ghost use mathlib.Core.Path.{_≡_};
-ghost use Prim.Native.Nat.{ℕ, _-_, _≤_};
+ghost use Prim.Native.Nat.{_≤_};
 ghost use lib.ListN.{length, drop};
 ghost use Rattle.paper.specs.Bytes.{bytes, elem};
-ghost use Rattle.paper.specs.Reading.{textOf, annotation, annotations};
-ghost use Rattle.paper.specs.Entries.{annotationEntries};
+ghost use Rattle.paper.specs.Reading.{textOf};
 ghost use Rattle.entries.specs.Laid.{Fits};
-ghost use Rattle.lines.specs.Parts.{seen, passed, Makes, In, noteEntries};
+ghost use Rattle.lines.specs.Parts.{seen, passed, In, MakesNote, MakesNotes};
 
 // Past the text of an annotation that stands at `at`, and its "]".
 pub fn text_end(s: &[u8], at: usize) -> Part
@@ -63,7 +62,7 @@ fn is_escaped(b: u8) -> bool
 // Reads the annotation whose text stands at `at`, behind its "[", with the rest of its line, and enters it.
 fn read_one(s: &[u8], at: usize, cells: &mut [u32], slot: Slot) -> Part
     requires { ⌜ In (now s) at × Fits (now cells) slot ⌝ }
-    ensures { λ r. ⌜ ((tabs : ℕ) → Makes (λ a. 1) (λ a. 1) (noteEntries (slot .parent) at) (now (s .entry)) (now (cells .entry)) (slot .next) (annotation (slot .room - slot .next) tabs (drop at (now (s .entry)))) r (now (cells .exit))) ⌝ }
+    ensures { λ r. ⌜ MakesNote (now (s .entry)) at (now (cells .entry)) slot r (now (cells .exit)) ⌝ }
 {
     let text = text_end(s, at);
     let Part::Read { end, .. } = text else {
@@ -92,7 +91,7 @@ fn read_one(s: &[u8], at: usize, cells: &mut [u32], slot: Slot) -> Part
 // Reads the annotations that stand at `at`, each on a line of its own, and enters them.
 pub fn read_all(s: &[u8], at: usize, cells: &mut [u32], slot: Slot) -> Part
     requires { ⌜ In (now s) at × Fits (now cells) slot ⌝ }
-    ensures { λ r. ⌜ Makes length length (annotationEntries (slot .parent) at) (now (s .entry)) (now (cells .entry)) (slot .next) (annotations (slot .room - slot .next) (drop at (now (s .entry)))) r (now (cells .exit)) ⌝ }
+    ensures { λ r. ⌜ MakesNotes (now (s .entry)) at (now (cells .entry)) slot r (now (cells .exit)) ⌝ }
 {
     let mut i = at;
     let mut made = 0;

@@ -18,15 +18,12 @@ use text::parts::starts_with;
 use text::runs;
 use text::runs::Class;
 ghost use mathlib.Core.Path.{_≡_};
-ghost use mathlib.Core.Bool.{false};
-ghost use mathlib.Core.List.{List};
-ghost use Prim.Native.Nat.{ℕ, _-_, _≤_};
+ghost use Prim.Native.Nat.{_≤_};
 ghost use lib.ListN.{length, drop};
 ghost use Rattle.paper.specs.Bytes.{isBlank, behind};
-ghost use Rattle.paper.specs.Reading.{atLineEnd, closesLine, lineTurn, contentOf};
-ghost use Rattle.paper.specs.Tree.{Marker};
+ghost use Rattle.paper.specs.Reading.{atLineEnd, closesLine};
 ghost use Rattle.entries.specs.Laid.{Fits};
-ghost use Rattle.lines.specs.Parts.{seen, turned, Makes, In, part, contentEntries};
+ghost use Rattle.lines.specs.Parts.{In, part, PassesLine, MakesContent};
 
 // Whether the line at `at` closes Content: exactly so many tabs, the closing marker of the name that stands from `from` to `to`, and blanks.
 fn closes(s: &[u8], at: usize, tabs: usize, from: usize, to: usize) -> bool
@@ -66,7 +63,7 @@ fn is_over(s: &[u8], at: usize) -> bool
 // Past a line that does not close Content: a blank one, or text behind one tab more than the marker has.
 fn read_line(s: &[u8], at: usize, tabs: usize) -> Part
     requires { ⌜ at ≤ length (now s) ⌝ }
-    ensures { λ r. ⌜ ((w : List ℕ) → closesLine tabs w (drop at (now (s .entry))) ≡ false → seen r ≡ turned (now (s .entry)) (lineTurn tabs w 0 (drop at (now (s .entry))))) ⌝ }
+    ensures { λ r. ⌜ PassesLine (now (s .entry)) at tabs r ⌝ }
 {
     if is_blank_line(s, at) {
         return line_rest(s, at);
@@ -94,7 +91,7 @@ pub fn read_content(
     slot: Slot,
 ) -> Part
     requires { ⌜ In (now s) at × Fits (now cells) slot × (from ≤ to) × (to ≤ length (now s)) ⌝ }
-    ensures { λ r. ⌜ ((k : Marker) → k .name ≡ part (now (s .entry)) from to → Makes (λ c. 1) (λ c. 1) (contentEntries (slot .parent) tabs at) (now (s .entry)) (now (cells .entry)) (slot .next) (contentOf tabs (slot .room - slot .next) k (drop at (now (s .entry)))) r (now (cells .exit))) ⌝ }
+    ensures { λ r. ⌜ MakesContent (part (now (s .entry)) from to) (now (s .entry)) at tabs (now (cells .entry)) slot r (now (cells .exit)) ⌝ }
 {
     let rest = line_rest(s, at);
     let Part::Read { end: start, .. } = rest else {

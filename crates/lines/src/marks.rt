@@ -18,8 +18,10 @@ ghost use Rattle.lines.specs.Endings.{ended, endedOf, faultHere};
 // How a closing marker starts, before its Concept's name.
 pub const CLOSING: [u8; 2] = *b"</";
 
-// How a marker ends.
+// How a marker ends, and one that closes its Concept at once.
 pub const END: [u8; 1] = *b">";
+
+const CLOSED_END: [u8; 2] = *b"/>";
 
 // Reads the closing marker that is due at `at`, of the Concept whose name stands from `from` to `to`.
 pub fn read_closing(s: &[u8], at: usize, from: usize, to: usize) -> Part
@@ -52,11 +54,11 @@ pub fn read_ending(s: &[u8], at: usize) -> Ending
     requires { ⌜ at ≤ length (now s) ⌝ }
     ensures { λ r. ⌜ ended r ≡ endedOf (now (s .entry)) (ending (drop at (now (s .entry)))) ⌝ }
 {
-    if starts_with(s, at, b">") {
-        return Ending::Block(at + 1);
+    if starts_with(s, at, &END) {
+        return Ending::Block(at + END.len());
     }
-    if starts_with(s, at, b"/>") {
-        return Ending::Closed(at + 2);
+    if starts_with(s, at, &CLOSED_END) {
+        return Ending::Closed(at + CLOSED_END.len());
     }
     if starts_with(s, at, b"/") {
         return no_ending(s, at + 1);
