@@ -23,7 +23,7 @@ ghost use Rattle.entries.specs.Laid.{Fits};
 ghost use Rattle.lines.specs.Parts.{seen, passed, In, MakesNote, MakesNotes};
 
 // Past the text of an annotation that stands at `at`, and its "]".
-pub fn text_end(s: &[u8], at: usize) -> Part
+fn text_end(s: &[u8], at: usize) -> Part
     requires { ⌜ at ≤ length (now s) ⌝ }
     ensures { λ r. ⌜ seen r ≡ passed (now (s .entry)) (textOf (drop at (now (s .entry)))) ⌝ }
 {
