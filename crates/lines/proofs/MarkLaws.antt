@@ -45,15 +45,19 @@ one-byte b s l = go (due b l)
     go (fault n left) = refl
 
 module _ (s w : List ℕ) (at : ℕ) where
-  pub no-mark : (r : Part) (why : Refusal) (place : ℕ) → seen r ≡ passed s (dueAll (bytes "</") (drop at s)) → r ≡ Refused why place → seen r ≡ passed s (closing w (drop at s))
-  no-mark r why place e q = refused-then (λ v. 0) (λ v. 0) s r (λ b. 0) (λ b. 0) _ (dueAll (bytes "</") (drop at s)) why place e q ∙ ap (passed s) (sym (by-mark w (drop at s)))
+  pub no-mark : (r : Part) (why : Refusal) (place : ℕ) → seen r ≡ passed s (dueAll (bytes "</") (drop at s)) → r ≡ Refused why place
+      → seen r ≡ passed s (closing w (drop at s))
+  no-mark r why place e q =
+      refused-then (λ v. 0) (λ v. 0) s r (λ b. 0) (λ b. 0) _ (dueAll (bytes "</") (drop at s)) why place e q ∙ ap (passed s) (sym (by-mark w (drop at s)))
 
   module _ (start : ℕ) (mark : AllDueAt (bytes "</") s at start) where
     behind-mark : closing w (drop at s) ≡ closingRest w (drop start s)
     behind-mark = by-mark w (drop at s) ∙ rw (mark .finds)
 
-    pub no-name : (r : Part) (why : Refusal) (place : ℕ) → seen r ≡ passed s (name (λ v. true) (drop start s)) → r ≡ Refused why place → seen r ≡ passed s (closing w (drop at s))
-    no-name r why place e q = refused-then (λ v. 0) (λ v. 0) s r (λ b. 0) (λ b. 0) _ (name (λ v. true) (drop start s)) why place e q ∙ ap (passed s) (sym behind-mark)
+    pub no-name : (r : Part) (why : Refusal) (place : ℕ) → seen r ≡ passed s (name (λ v. true) (drop start s)) → r ≡ Refused why place
+        → seen r ≡ passed s (closing w (drop at s))
+    no-name r why place e q =
+        refused-then (λ v. 0) (λ v. 0) s r (λ b. 0) (λ b. 0) _ (name (λ v. true) (drop start s)) why place e q ∙ ap (passed s) (sym behind-mark)
 
     module _ (end : ℕ) (named : NameAt (λ v. true) s start end) where
       -- the name that is read is the part between its places
@@ -64,9 +68,11 @@ module _ (s w : List ℕ) (at : ℕ) where
       by-name = behind-mark ∙ rw (named .finds, name-part)
 
       pub other-name : (r : Part) → same w (part s start end) ≡ false → r ≡ Refused ClosingName start → seen r ≡ passed s (closing w (drop at s))
-      other-name r z p = says-refused (λ b. 0) (λ b. 0) s (closing w (drop at s)) r ClosingName start p (mark .inside) (by-name ∙ when-false (same w (part s start end)) _ _ z)
+      other-name r z p =
+          says-refused (λ b. 0) (λ b. 0) s (closing w (drop at s)) r ClosingName start p (mark .inside) (by-name ∙ when-false (same w (part s start end)) _ _ z)
 
-      pub same-name : (r : Part) → same w (part s start end) ≡ true → seen r ≡ passed s (dueAll (bytes ">") (drop end s)) → seen r ≡ passed s (closing w (drop at s))
+      pub same-name : (r : Part) → same w (part s start end) ≡ true → seen r ≡ passed s (dueAll (bytes ">") (drop end s))
+          → seen r ≡ passed s (closing w (drop at s))
       same-name r z p = p ∙ one-byte (byte ">") s (drop end s) ∙ ap (passed s) (sym (by-name ∙ when-true (same w (part s start end)) _ _ z))
 
 -- ---- the ending of an opening marker
@@ -101,7 +107,8 @@ module _ (s : List ℕ) (at : ℕ) where
   pub ends-self : at ≤ length s → startsWith (bytes "/>") (drop at s) ≡ true → ended (Closed (at + 2)) ≡ endedOf s (ending (drop at s))
   unfolding ending due
   ends-self h e =
-      let b : drop at s ≡ byte "/" ∷ byte ">" ∷ drop (at + 2) s = starts-is (bytes "/>") (drop at s) e ∙ ap (λ (l : List ℕ). byte "/" ∷ byte ">" ∷ l) (drop-drop 2 at s) in
+      let b : drop at s ≡ byte "/" ∷ byte ">" ∷ drop (at + 2) s =
+      starts-is (bytes "/>") (drop at s) e ∙ ap (λ (l : List ℕ). byte "/" ∷ byte ">" ∷ l) (drop-drop 2 at s) in
       let l : at + 2 ≤ length s = omega (arith, ap length b, length-drop at s) in
       rw (b, place-back s (at + 2) l)
 

@@ -35,7 +35,8 @@ counted made notes = made + length notes
 
 abbrev pub Rest : List ℕ → Slot → List ℕ → ℕ → ℕ → Part → List ℕ → Type 0
 Rest s slot cells i made r after =
-    Makes (counted made) (counted made) (annotationEntries (slot .parent) i) s cells (slot .next + made) (annotations (slot .room - (slot .next + made)) (drop i s)) r after
+    Makes (counted made) (counted made) (annotationEntries (slot .parent) i) s cells (slot .next + made)
+    (annotations (slot .room - (slot .next + made)) (drop i s)) r after
 
 -- what the turns so far leave
 pub record Notes (s : List ℕ) (at : ℕ) (lent : List ℕ) (slot : Slot) (cells : List ℕ) (i made : ℕ) : Type 0 where
@@ -50,7 +51,8 @@ notes-begin s at cells slot h f = record {
   few = omega arith;
   held = refl;
   onward = λ r after k.
-      makes-same (counted 0) (counted 0) length length (annotationEntries (slot .parent) at) s cells (slot .next) (annotations (slot .room - slot .next) (drop at s)) r after
+      makes-same (counted 0) (counted 0) length length (annotationEntries (slot .parent) at) s cells (slot .next)
+      (annotations (slot .room - slot .next) (drop at s)) r after
       (λ notes. zero-add (length notes)) (λ notes. zero-add (length notes)) (rw (add-zero (slot .next)) at k);
 }
 
@@ -68,8 +70,8 @@ module _ (s : List ℕ) (at : ℕ) (lent : List ℕ) (slot : Slot) (cells : List
   unfolding annotationTurn annotationEntries
   notes-over n r e =
       so-far .onward r cells
-      (makes-over (λ a. 1) annotationTurn annotation-shorter left (drop i s) (counted made) (counted made) (annotationEntries (slot .parent) i) s cells (slot .next + made) r i made made
-      (rw (bracket ∙ not-true o n, annotationTurn)) e (so-far .inside) (sym (add-zero made)) (sym (add-zero made)) refl)
+      (makes-over (λ a. 1) annotationTurn annotation-shorter left (drop i s) (counted made) (counted made) (annotationEntries (slot .parent) i) s cells
+      (slot .next + made) r i made made (rw (bracket ∙ not-true o n, annotationTurn)) e (so-far .inside) (sym (add-zero made)) (sym (add-zero made)) refl)
 
   module _ (n : not o ≡ false) where
     pub mark-inside : mark + 1 ≤ length s
@@ -96,12 +98,14 @@ module _ (s : List ℕ) (at : ℕ) (lent : List ℕ) (slot : Slot) (cells : List
         pub notes-refused : (why : Refusal) (place : ℕ) → r ≡ Refused why place → MakesNotes s at lent slot r after
         notes-refused why place q =
             so-far .onward r after
-            (makes-stop (λ a. 1) annotationTurn annotation-shorter left (drop i s) (λ a. 1) (λ a. 1) turnOf (λ k rest. refl) (counted made) (counted made) (annotationEntries (slot .parent) i) s cells (slot .next + made) reading r after
-            why place (noted .says) q (a-note left))
+            (makes-stop (λ a. 1) annotationTurn annotation-shorter left (drop i s) (λ a. 1) (λ a. 1) turnOf (λ k rest. refl) (counted made) (counted made)
+            (annotationEntries (slot .parent) i) s cells (slot .next + made) reading r after why place (noted .says) q (a-note left))
 
         module _ (end own mine : ℕ) (q : r ≡ Read end own mine) where
           it : FoundAt (λ a. 1) (λ a. 1) (λ a rest. ReadBehind left (lengthIn isTab (drop i s)) (drop (mark + 1) s) a rest) s (mark + 1) reading end own mine
-          it = found-at (λ a. 1) (λ a. 1) s r _ (mark + 1) reading end own mine (noted .says) (annotation-reads left (lengthIn isTab (drop i s)) (drop (mark + 1) s)) mark-inside q
+          it =
+              found-at (λ a. 1) (λ a. 1) s r _ (mark + 1) reading end own mine (noted .says)
+              (annotation-reads left (lengthIn isTab (drop i s)) (drop (mark + 1) s)) mark-inside q
 
           pub note-ahead : (i < end) × (end ≤ length s)
           note-ahead = (omega (arith, it .ahead, run .1), it .inside)
@@ -126,7 +130,9 @@ module _ (s : List ℕ) (at : ℕ) (lent : List ℕ) (slot : Slot) (cells : List
                 it .inside,
               )
 
-          entered : (notes : List Annotation) → annotationEntries (slot .parent) i (it .it ∷ notes) ≡ noteEntries (slot .parent) (mark + 1) (it .it) ++ annotationEntries (slot .parent) end notes
+          entered : (notes : List Annotation)
+              → annotationEntries (slot .parent) i (it .it ∷ notes)
+              ≡ noteEntries (slot .parent) (mark + 1) (it .it) ++ annotationEntries (slot .parent) end notes
           unfolding annotationEntries
           entered notes = rw (starts, ends)
 
@@ -140,8 +146,10 @@ module _ (s : List ℕ) (at : ℕ) (lent : List ℕ) (slot : Slot) (cells : List
                 held = h ∙ so-far .held;
                 onward = λ other cells′ k.
                     so-far .onward other cells′
-                    (makes-more (λ a. 1) annotationTurn annotation-shorter left (drop i s) (counted made) (counted made) (annotationEntries (slot .parent) i) (annotationEntries (slot .parent) end)
-                    (noteEntries (slot .parent) (mark + 1) (it .it)) s cells after (slot .next + made) (it .it) (drop end s) other cells′ (a-note left ∙ ap turnOf (it .finds)) entered (noted .laid (it .it) (drop end s) (it .finds))
-                    (makes-same (counted (made + 1)) (counted (made + 1)) _ _ (annotationEntries (slot .parent) end) s after (slot .next + made + 1) (annotations (left - 1) (drop end s)) other cells′
+                    (makes-more (λ a. 1) annotationTurn annotation-shorter left (drop i s) (counted made) (counted made) (annotationEntries (slot .parent) i)
+                    (annotationEntries (slot .parent) end) (noteEntries (slot .parent) (mark + 1) (it .it)) s cells after (slot .next + made) (it .it) (drop end s) other cells′
+                    (a-note left ∙ ap turnOf (it .finds)) entered (noted .laid (it .it) (drop end s) (it .finds))
+                    (makes-same (counted (made + 1)) (counted (made + 1)) _ _ (annotationEntries (slot .parent) end) s after (slot .next + made + 1)
+                    (annotations (left - 1) (drop end s)) other cells′
                     (λ notes. omega arith) (λ notes. omega arith) (rw (number, fewer) at k)));
               }

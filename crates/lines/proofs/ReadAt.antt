@@ -24,7 +24,8 @@ pub record DueAt (c : ℕ) (s : List ℕ) (at end : ℕ) : Type 0 where
   pub next : end ≡ at + 1
   pub inside : end ≤ length s
 
-pub due-at : (c : ℕ) (s : List ℕ) (at : ℕ) (r : Part) (end made mine : ℕ) → at ≤ length s → seen r ≡ passed s (due c (drop at s)) → r ≡ Read end made mine → DueAt c s at end
+pub due-at : (c : ℕ) (s : List ℕ) (at : ℕ) (r : Part) (end made mine : ℕ) → at ≤ length s → seen r ≡ passed s (due c (drop at s)) → r ≡ Read end made mine
+    → DueAt c s at end
 due-at c s at r end made mine h e q =
     let f = found-at (λ b. 0) (λ b. 0) s r (λ b left. drop at s ≡ c ∷ left) at (due c (drop at s)) end made mine e (due-reads c (drop at s)) h q in
     record { it = f .it; finds = f .finds; next = omega (arith, ap length (f .holds), length-drop at s, length-drop end s, f .inside); inside = f .inside }
@@ -48,7 +49,8 @@ pub record AllDueAt (fixed s : List ℕ) (at end : ℕ) : Type 0 where
 pub all-due-at : (fixed s : List ℕ) (at : ℕ) (r : Part) (end made mine : ℕ)
     → at ≤ length s → seen r ≡ passed s (dueAll fixed (drop at s)) → r ≡ Read end made mine → AllDueAt fixed s at end
 all-due-at fixed s at r end made mine h e q =
-    let f = found-at (λ w. 0) (λ w. 0) s r (λ w left. drop at s ≡ fixed ++ left) at (dueAll fixed (drop at s)) end made mine e (due-all-reads fixed (drop at s)) h q in
+    let f =
+    found-at (λ w. 0) (λ w. 0) s r (λ w left. drop at s ≡ fixed ++ left) at (dueAll fixed (drop at s)) end made mine e (due-all-reads fixed (drop at s)) h q in
     record { it = f .it; finds = f .finds; inside = f .inside }
 
 -- the bytes from the i-th on, due at a place further on, answer as all of them do
@@ -94,9 +96,11 @@ pub record NameAt (rule : List ℕ → Bool) (s : List ℕ) (at end : ℕ) : Typ
   pub ahead : at ≤ end
   pub inside : end ≤ length s
 
-pub name-at : (rule : List ℕ → Bool) (s : List ℕ) (at : ℕ) (r : Part) (end made mine : ℕ) → at ≤ length s → seen r ≡ passed s (name rule (drop at s)) → r ≡ Read end made mine → NameAt rule s at end
+pub name-at : (rule : List ℕ → Bool) (s : List ℕ) (at : ℕ) (r : Part) (end made mine : ℕ) → at ≤ length s → seen r ≡ passed s (name rule (drop at s))
+    → r ≡ Read end made mine → NameAt rule s at end
 name-at rule s at r end made mine h e q =
-    let f = found-at (λ w. 0) (λ w. 0) s r (λ w left. ReadName rule (drop at s) w left) at (name rule (drop at s)) end made mine e (name-reads rule (drop at s)) h q in
+    let f =
+    found-at (λ w. 0) (λ w. 0) s r (λ w left. ReadName rule (drop at s) w left) at (name rule (drop at s)) end made mine e (name-reads rule (drop at s)) h q in
     record {
       it = f .it;
       finds = f .finds;

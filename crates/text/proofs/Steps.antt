@@ -8,7 +8,9 @@ use lib.ListN.{length, getD, drop, length-drop, drop-of-length-le}
 use Rattle.paper.specs.Found.{Found, found, fault, andThen, placeIn}
 use Rattle.paper.specs.Bytes.{one, two, three, four, none, rowOf, follower, scalar, encode}
 use Rattle.paper.proofs.Finds.{Finds}
-use Rattle.paper.proofs.Scalars.{Three, Four, leads-as, follower-in, follower-under, follower-over, Follows, follows, scalar-one, scalar-two, scalar-three, scalar-four, scalar-none, scalar-sound, spelt-shorter}
+use Rattle.paper.proofs.Scalars.{Three, Four, leads-as}
+use Rattle.paper.proofs.Scalars.{follower-in, follower-under, follower-over, Follows, follows, scalar-one, scalar-two, scalar-three, scalar-four, scalar-none}
+use Rattle.paper.proofs.Scalars.{scalar-sound, spelt-shorter}
 use Rattle.text.specs.declared.utf8.Bits.{Bits}
 use Rattle.text.specs.declared.utf8.Cursor.{Cursor}
 use Rattle.text.specs.declared.utf8.Step.{Step}
@@ -98,14 +100,23 @@ module _ (s : List ℕ) (at : ℕ) (h : at < length s) where
   pub awaits-three : (low high : ℕ) → rowOf (getD s at 0) ≡ three low high → Awaits s at (at + 1) low high 1 (getD s at 0 - 0xE0)
   awaits-three low high row =
       let lead : Three (getD s at 0) low high = leads-as _ _ row in
-      record { from = omega (arith, lead .bounds); to = omega (arith, lead .bounds); step = step-here s at h ∙ rw (scalar-three (getD s at 0) (drop (at + 1) s) low high row) }
+      record {
+        from = omega (arith, lead .bounds);
+        to = omega (arith, lead .bounds);
+        step = step-here s at h ∙ rw (scalar-three (getD s at 0) (drop (at + 1) s) low high row);
+      }
 
   pub awaits-four : (low high : ℕ) → rowOf (getD s at 0) ≡ four low high → Awaits s at (at + 1) low high 2 (getD s at 0 - 0xF0)
   awaits-four low high row =
       let lead : Four (getD s at 0) low high = leads-as _ _ row in
-      record { from = omega (arith, lead .bounds); to = omega (arith, lead .bounds); step = step-here s at h ∙ rw (scalar-four (getD s at 0) (drop (at + 1) s) low high row) }
+      record {
+        from = omega (arith, lead .bounds);
+        to = omega (arith, lead .bounds);
+        step = step-here s at h ∙ rw (scalar-four (getD s at 0) (drop (at + 1) s) low high row);
+      }
 
-module _ {s : List ℕ} {at place low high more v : ℕ} (so-far : Awaits s at place low high more v) {x : Bits} (said : x ≡ bitsOf (follower low high (drop place s))) where
+module _ {s : List ℕ} {at place low high more v : ℕ} (so-far : Awaits s at place low high more v) {x : Bits}
+    (said : x ≡ bitsOf (follower low high (drop place s))) where
   pub broken : x ≡ Bits.Wrong → Step.Broken ≡ stepAt s at
   broken e = let none = missed s place low high (sym e ∙ said) in rw (so-far .step, none .reads)
 
@@ -138,7 +149,8 @@ stepped-to : (s : List ℕ) (at v : ℕ) (left : List ℕ) → at < length s →
 stepped-to s at v left h e =
     let spelt = scalar-sound (drop at s) v left e in
     let less = spelt-shorter spelt in
-    record { ahead = omega (arith, length-drop at s); inside = omega arith; reads = e ∙ ap (found v) (left-back s at (encode v) left (omega arith) (spelt .whole)) }
+    record
+    { ahead = omega (arith, length-drop at s); inside = omega arith; reads = e ∙ ap (found v) (left-back s at (encode v) left (omega arith) (spelt .whole)) }
 
 module _ (s : List ℕ) (at : ℕ) where
   -- nothing is left

@@ -91,5 +91,6 @@ unfolding isLineEnd
 text-above b h = rw (ne-eqb b lf (omega arith), ne-eqb b cr (omega arith))
 
 -- the run of a class, from a place ahead on
-pub class-end : (class known : Class) (s : List ℕ) (at i end : ℕ) → class ≡ known → Skips (inClass known) s at i → Stretch (inClass known) s i end → Stretch (inClass class) s at end
+pub class-end : (class known : Class) (s : List ℕ) (at i end : ℕ) → class ≡ known → Skips (inClass known) s at i → Stretch (inClass known) s i end
+    → Stretch (inClass class) s at end
 class-end class known s at i end e f g = rw e (skips-end (inClass known) s at i end f g)

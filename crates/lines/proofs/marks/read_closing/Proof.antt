@@ -35,7 +35,9 @@ enum-told : tie.Need-enum-told
 enum-told c = search needs
 
 returns : tie.Need-returns
-returns c = no-mark (c .before .before .before .before .before .args .s .now) _ (c .before .before .before .before .before .args .at) _ _ _ (c .before .before .bytes-due .ensures) (c .enum-told .given .1)
+returns c =
+    no-mark (c .before .before .before .before .before .args .s .now) _ (c .before .before .before .before .before .args .at) _ _ _
+    (c .before .before .bytes-due .ensures) (c .enum-told .given .1)
 
 name-end-requires : tie.Need-name-end-requires
 name-end-requires c κs = mark c .inside

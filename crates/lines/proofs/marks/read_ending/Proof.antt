@@ -43,13 +43,23 @@ no-ending-requires : tie.Need-no-ending-requires
 no-ending-requires c κs = search needs
 
 returns-3 : tie.Need-returns-3
-returns-3 c = c .no-ending .ensures ∙ ap (endedOf (c .before .before .before .before .before .before .before .before .before .before .before .args .s .now)) (ends-slash (c .before .before .before .before .before .before .before .before .before .before .before .args .s .now) (c .before .before .before .before .before .before .before .before .before .before .before .args .at) (sym (c .before .before .before .before .before .starts-with2 .ensures) ∙ c .before .before .before .before .if2 .left) (sym (c .before .before .starts-with3 .ensures) ∙ c .before .if3 .taken))
+returns-3 c =
+    let start = c .before .before .before .before .before .before .before .before .before .before .before .args in
+    let no-self = sym (c .before .before .before .before .before .starts-with2 .ensures) ∙ c .before .before .before .before .if2 .left in
+    let slash = sym (c .before .before .starts-with3 .ensures) ∙ c .before .if3 .taken in
+    c .no-ending .ensures ∙ ap (endedOf (start .s .now)) (ends-slash (start .s .now) (start .at) no-self slash)
 
 no-ending-requires-2 : tie.Need-no-ending-requires-2
 no-ending-requires-2 c κs = search needs
 
 returns-4 : tie.Need-returns-4
-returns-4 c = c .no-ending2 .ensures ∙ ap (endedOf (c .before .before .before .before .before .before .before .before .before .before .before .args .s .now)) (ends-none (c .before .before .before .before .before .before .before .before .before .before .before .args .s .now) (c .before .before .before .before .before .before .before .before .before .before .before .args .at) (sym (c .before .before .before .before .before .before .before .before .starts-with .ensures) ∙ c .before .before .before .before .before .before .before .if1 .left) (sym (c .before .before .starts-with3 .ensures) ∙ c .before .if3 .left))
+returns-4 c =
+    let start = c .before .before .before .before .before .before .before .before .before .before .before .args in
+    let no-end =
+    sym (c .before .before .before .before .before .before .before .before .starts-with .ensures)
+    ∙ c .before .before .before .before .before .before .before .if1 .left in
+    let no-slash = sym (c .before .before .starts-with3 .ensures) ∙ c .before .if3 .left in
+    c .no-ending2 .ensures ∙ ap (endedOf (start .s .now)) (ends-none (start .s .now) (start .at) no-end no-slash)
 
 pub read-ending-spec : {M : Type 1} → statement M
 read-ending-spec =

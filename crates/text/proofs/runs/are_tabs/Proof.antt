@@ -34,7 +34,8 @@ loop-less c = search needs
 loop-again : tie.Need-loop-again Inv-loop μ-loop
 loop-again c =
     let so-far = c .before .before .before .loop .inv in
-    ⊎-elim (λ w. looked-other so-far (omega arith) _ (w .1)) (λ w. looked-one so-far (omega arith) (omega arith) (eq-eqb _ _ (w .0 .left)) _ (w .1)) (c .if1 .came)
+    ⊎-elim (λ w. looked-other so-far (omega arith) _ (w .1)) (λ w. looked-one so-far (omega arith) (omega arith) (eq-eqb _ _ (w .0 .left)) _ (w .1))
+    (c .if1 .came)
 
 returns : tie.Need-returns Inv-loop μ-loop
 returns c = λ e. looked-all (c .before .loop .inv) (omega arith) e

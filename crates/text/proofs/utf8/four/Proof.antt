@@ -44,7 +44,8 @@ fourth-bits : (c : tie.After-known-told3) → c .before .fourth .given .0 .0 ≤
 fourth-bits c = six (third (c .before .before .before .before)) (c .before .before .before .follower3 .ensures) (c .before .fourth .given .1)
 
 numbers : (c : tie.After-shared-slice-known2)
-    → (byte (top3 (c .before)) < 256) × (c .before .before .before .before .before .before .before .before .before .before .second .given .0 .0 ≤ 63) × (c .before .before .before .before .before .before .third .given .0 .0 ≤ 63) × (c .before .before .fourth .given .0 .0 ≤ 63)
+    → (byte (top3 (c .before)) < 256) × (c .before .before .before .before .before .before .before .before .before .before .second .given .0 .0 ≤ 63) ×
+    (c .before .before .before .before .before .before .third .given .0 .0 ≤ 63) × (c .before .before .fourth .given .0 .0 ≤ 63)
 numbers c = (
   omega (arith, c .shared-slice-known2 .given (top3 (c .before) .args .at)),
   second-bits (c .before .before .before .before .before .before .before .before .before),
@@ -128,7 +129,9 @@ add-t12 : tie.Need-add-t12
 add-t12 c = search needs
 
 returns-4 : tie.Need-returns-4
-returns-4 c = is-whole (third (c .before .before .before .before .before)) (c .before .before .before .before .follower3 .ensures) (c .before .before .fourth .given .1) (omega arith) refl
+returns-4 c =
+    is-whole (third (c .before .before .before .before .before)) (c .before .before .before .before .follower3 .ensures) (c .before .before .fourth .given .1)
+    (omega arith) refl
 
 pub four-spec : {M : Type 1} → statement M
 four-spec =

@@ -33,7 +33,8 @@ third-bits : (c : tie.After-known-told2) → c .before .third .given .0 .0 ≤ 6
 third-bits c = six (second (c .before .before .before .before)) (c .before .before .before .follower2 .ensures) (c .before .third .given .1)
 
 numbers : (c : tie.After-shared-slice-known2)
-    → (byte (top2 (c .before)) < 256) × (c .before .before .before .before .before .before .second .given .0 .0 ≤ 63) × (c .before .before .third .given .0 .0 ≤ 63)
+    → (byte (top2 (c .before)) < 256) × (c .before .before .before .before .before .before .second .given .0 .0 ≤ 63) ×
+    (c .before .before .third .given .0 .0 ≤ 63)
 numbers c = (
   omega (arith, c .shared-slice-known2 .given (top2 (c .before) .args .at)),
   second-bits (c .before .before .before .before .before),
@@ -95,7 +96,9 @@ add-t10 : tie.Need-add-t10
 add-t10 c = search needs
 
 returns-3 : tie.Need-returns-3
-returns-3 c = is-whole (second (c .before .before .before .before .before)) (c .before .before .before .before .follower2 .ensures) (c .before .before .third .given .1) (omega arith) refl
+returns-3 c =
+    is-whole (second (c .before .before .before .before .before)) (c .before .before .before .before .follower2 .ensures) (c .before .before .third .given .1)
+    (omega arith) refl
 
 pub three-spec : {M : Type 1} → statement M
 three-spec =
