@@ -171,7 +171,15 @@ module _ (s cells w : List ℕ) (at tabs next limit parent : ℕ) (k : Marker) (
             let a : at + length (blankOnto (rest .it) []) ≡ start =
             omega (arith, ap length (rest .covers), blank-long (rest .it) (drop start s), length-drop at s, length-drop start s, rest .ahead, rest .inside) in
             let b : start + length (linesOnto tabs (all .it) []) ≡ i =
-            omega (arith, ap length (all .holds .covers), lines-long tabs (all .it) (drop i s), length-drop start s, length-drop i s, so-far .ahead, so-far .inside) in
+            omega (
+              arith,
+              ap length (all .holds .covers),
+              lines-long tabs (all .it) (drop i s),
+              length-drop start s,
+              length-drop i s,
+              so-far .ahead,
+              so-far .inside,
+            ) in
             rw (a, b)
 
         pub entered : (end : ℕ) → end ≡ i + tabs + 3 + length w → r ≡ Read end 1 1 → (e : Entry) → e ≡ unnamed 5 0 parent 0 start i

@@ -147,7 +147,8 @@ module _ (s : List ℕ) (at : ℕ) (lent : List ℕ) (slot : Slot) (cells : List
                 onward = λ other cells′ k.
                     so-far .onward other cells′
                     (makes-more (λ a. 1) annotationTurn annotation-shorter left (drop i s) (counted made) (counted made) (annotationEntries (slot .parent) i)
-                    (annotationEntries (slot .parent) end) (noteEntries (slot .parent) (mark + 1) (it .it)) s cells after (slot .next + made) (it .it) (drop end s) other cells′
+                    (annotationEntries (slot .parent) end) (noteEntries (slot .parent) (mark + 1) (it .it)) s cells after
+                    (slot .next + made) (it .it) (drop end s) other cells′
                     (a-note left ∙ ap turnOf (it .finds)) entered (noted .laid (it .it) (drop end s) (it .finds))
                     (makes-same (counted (made + 1)) (counted (made + 1)) _ _ (annotationEntries (slot .parent) end) s after (slot .next + made + 1)
                     (annotations (left - 1) (drop end s)) other cells′

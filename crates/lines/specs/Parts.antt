@@ -94,10 +94,10 @@ abbrev pub MakesNotes : List ℕ → ℕ → List ℕ → Slot → Part → List
 MakesNotes s at cells slot r after =
     Makes length length (annotationEntries (slot .parent) at) s cells (slot .next) (annotations (slot .room - slot .next) (drop at s)) r after
 
--- the Content of a Concept of this name, whose opening marker has so many tabs and ends at a place
-abbrev pub MakesContent : List ℕ → List ℕ → ℕ → ℕ → List ℕ → Slot → Part → List ℕ → Type 0
-MakesContent name s at tabs cells slot r after =
-    (k : Marker) → k .name ≡ name
+-- the Content of a Concept whose opening marker has so many tabs and ends at a place; its name stands from one place to another
+abbrev pub MakesContent : List ℕ → ℕ → ℕ → ℕ → ℕ → List ℕ → Slot → Part → List ℕ → Type 0
+MakesContent s at tabs from to cells slot r after =
+    (k : Marker) → k .name ≡ part s from to
     → Makes (λ c. 1) (λ c. 1) (contentEntries (slot .parent) tabs at) s cells (slot .next) (contentOf tabs (slot .room - slot .next) k (drop at s)) r after
 
 -- a line of Content at a place, whatever name it does not close

@@ -25,7 +25,8 @@ ghost use Rattle.paper.specs.Reading.{atLineEnd, closesLine};
 ghost use Rattle.entries.specs.Laid.{Fits};
 ghost use Rattle.lines.specs.Parts.{In, part, PassesLine, MakesContent};
 
-// Whether the line at `at` closes Content: exactly so many tabs, the closing marker of the name that stands from `from` to `to`, and blanks.
+// Whether the line at `at` closes Content: exactly so many tabs, the closing marker of the name that stands from `from`
+// to `to`, and blanks.
 fn closes(s: &[u8], at: usize, tabs: usize, from: usize, to: usize) -> bool
     requires { ⌜ (at ≤ length (now s)) × (from ≤ to) × (to ≤ length (now s)) ⌝ }
     ensures { λ r. ⌜ r ≡ closesLine tabs (part (now (s .entry)) from to) (drop at (now (s .entry))) ⌝ }
@@ -91,7 +92,7 @@ pub fn read_content(
     slot: Slot,
 ) -> Part
     requires { ⌜ In (now s) at × Fits (now cells) slot × (from ≤ to) × (to ≤ length (now s)) ⌝ }
-    ensures { λ r. ⌜ MakesContent (part (now (s .entry)) from to) (now (s .entry)) at tabs (now (cells .entry)) slot r (now (cells .exit)) ⌝ }
+    ensures { λ r. ⌜ MakesContent (now (s .entry)) at tabs from to (now (cells .entry)) slot r (now (cells .exit)) ⌝ }
 {
     let rest = line_rest(s, at);
     let Part::Read { end: start, .. } = rest else {

@@ -53,7 +53,8 @@ read-one-requires c κs =
     let mark = c .before .before in
     let there = mark-inside _ _ _ _ _ _ _ (run .before .loop .inv) _ (run .end .ensures) _ (mark .before .starts-with .ensures) (mark .if1 .left) in (
       record { within = top .pre .0 .within; inside = there },
-      lent-fits _ _ _ _ _ _ _ (run .before .loop .inv) _ (run .end .ensures) _ (mark .before .starts-with .ensures) (mark .if1 .left) _ (c .after .ensures) (top .pre .1),
+      lent-fits _ _ _ _ _ _ _ (run .before .loop .inv) _ (run .end .ensures) _ (mark .before .starts-with .ensures) (mark .if1 .left) _
+          (c .after .ensures) (top .pre .1),
     )
 
 enum-known-one : tie.Need-enum-known-one Inv-loop μ-loop
