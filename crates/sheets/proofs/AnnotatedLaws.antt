@@ -24,12 +24,11 @@ use Rattle.entries.specs.Laid.{lay, slotAfter}
 use Rattle.entries.specs.declared.Slot.{Slot}
 use Rattle.entries.proofs.Laying.{lay-append}
 use Rattle.entries.proofs.Slots.{fits-after}
-use Rattle.lines.specs.Parts.{Makes}
+use Rattle.lines.specs.Parts.{Makes, MakesNotes}
 use Rattle.lines.specs.declared.part.Part.{Part}
 use Rattle.lines.specs.declared.part.Part.the-variants.{Read, Refused}
 use Rattle.lines.proofs.Crossing.{FoundAt, found-at, makes-passed, makes-read}
 use Rattle.lines.proofs.Lengths.{notes-long}
-use Rattle.lines.proofs.NoteRuns.{All}
 use Rattle.sheets.specs.Concepts.{Stands, wholeConcept, Annotated, annotatedOf, annotatedSize, annotatedCount, annotatedEntries}
 use Rattle.sheets.proofs.Slots.{stands-on}
 
@@ -87,7 +86,7 @@ pub record NotesAt (table s : List ℕ) (at : ℕ) (cells : List ℕ) (slot : Sl
   pub inside : line ≤ length s
   pub laid : mid ≡ lay cells (slot .next) (annotationEntries (slot .parent) at it)
 
-module _ {table s : List ℕ} {at : ℕ} {cells : List ℕ} {slot : Slot} (h : Stands table s at cells slot) {notes : Part} {mid : List ℕ} (n : All s at cells slot notes mid) where
+module _ {table s : List ℕ} {at : ℕ} {cells : List ℕ} {slot : Slot} (h : Stands table s at cells slot) {notes : Part} {mid : List ℕ} (n : MakesNotes s at cells slot notes mid) where
   pub notes-refused : (m : Modes) (deeper : ℕ) {why : Refusal} {place : ℕ} → notes ≡ Refused why place → Annotates s at cells slot m deeper notes mid
   notes-refused m deeper {why} {place} q =
       let room = slot .room - slot .next in
