@@ -68,7 +68,8 @@ module _ (s : List ℕ) (at mark : ℕ) (run : Stretch isBlank s at mark) where
 
     pub tabs-found : o ≡ false → tabsOnly (drop at s) ≡ found (lengthIn isTab (drop at s)) (drop tabs s)
     unfolding noSpace
-    tabs-found f = rw (behind-some isBlank s at mark run inside, noSpace, a-space ∙ f) (ap (found (lengthIn isTab (drop at s))) (behind-at isTab s at tabs ends))
+    tabs-found f =
+        rw (behind-some isBlank s at mark run inside, noSpace, a-space ∙ f) (ap (found (lengthIn isTab (drop at s))) (behind-at isTab s at tabs ends))
 
 -- ---- the loop over blank lines: those from i on end where those from a place on do
 
@@ -83,7 +84,8 @@ module _ (s : List ℕ) (at i : ℕ) (so-far : Lines s at i) (o : Bool) (asked :
   pub lines-over : (r : Part) → r ≡ Read i 0 0 → o ≡ false → seen r ≡ passed s (blankLines (drop at s))
   unfolding blankTurn
   lines-over r e f =
-      says-read (λ bs. 0) (λ bs. 0) s (blankLines (drop i s)) r [] i 0 0 e (so-far .inside) (turn-over (λ b. 0) blankTurn blank-shorter 0 (drop i s) (drop i s) (rw (sym asked ∙ f, blankTurn))) refl refl
+      says-read (λ bs. 0) (λ bs. 0) s (blankLines (drop i s)) r [] i 0 0 e (so-far .inside)
+      (turn-over (λ b. 0) blankTurn blank-shorter 0 (drop i s) (drop i s) (rw (sym asked ∙ f, blankTurn))) refl refl
       ∙ so-far .same
 
   module _ (t : o ≡ true) where
@@ -91,12 +93,17 @@ module _ (s : List ℕ) (at i : ℕ) (so-far : Lines s at i) (o : Bool) (asked :
     unfolding blankTurn
     a-line = rw (sym asked ∙ t, blankTurn)
 
-    pub lines-refused : (r : Part) (why : Refusal) (place : ℕ) → seen r ≡ passed s (lineRest (drop i s)) → r ≡ Refused why place → seen r ≡ passed s (blankLines (drop at s))
+    pub lines-refused : (r : Part) (why : Refusal) (place : ℕ) → seen r ≡ passed s (lineRest (drop i s)) → r ≡ Refused why place
+        → seen r ≡ passed s (blankLines (drop at s))
     lines-refused r why place e q =
-        turn-refused (λ b. 0) blankTurn blank-shorter 0 (drop i s) (λ b. 0) (λ b. 0) s turnOf (λ n left. refl) (λ bs. 0) (λ bs. 0) (lineRest (drop i s)) r why place e q a-line ∙ so-far .same
+        turn-refused (λ b. 0) blankTurn blank-shorter 0 (drop i s) (λ b. 0) (λ b. 0) s turnOf (λ n left. refl) (λ bs. 0) (λ bs. 0) (lineRest (drop i s)) r why
+        place e q a-line
+        ∙ so-far .same
 
     pub lines-on : (end : ℕ) → RestAt s i end → Lines s at end
     lines-on end line = record {
       inside = line .inside;
-      same = turn-more (λ b. 0) blankTurn blank-shorter 0 (drop i s) (λ bs. 0) (λ bs. 0) s (line .it) (drop end s) (a-line ∙ ap turnOf (line .finds)) ∙ so-far .same;
+      same =
+          turn-more (λ b. 0) blankTurn blank-shorter 0 (drop i s) (λ bs. 0) (λ bs. 0) s (line .it) (drop end s) (a-line ∙ ap turnOf (line .finds))
+          ∙ so-far .same;
     }

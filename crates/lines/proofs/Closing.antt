@@ -47,7 +47,8 @@ pub tabs-stand : (n : ℕ) (s : List ℕ) → n ≤ lengthIn isTab s → startsW
 unfolding startsWith lengthIn
 tabs-stand zero s h = refl
 tabs-stand (suc n) [] h = absurd (omega arith)
-tabs-stand (suc n) (b ∷ s) h = split (eqb b tab) (λ e. rw (e, startsWith) (tabs-stand n s (omega (arith, rw (e, lengthIn) at h)))) (λ e. absurd (omega (arith, rw (e, lengthIn) at h)))
+tabs-stand (suc n) (b ∷ s) h =
+    split (eqb b tab) (λ e. rw (e, startsWith) (tabs-stand n s (omega (arith, rw (e, lengthIn) at h)))) (λ e. absurd (omega (arith, rw (e, lengthIn) at h)))
 
 pub tabs-fail : (n : ℕ) (s : List ℕ) → lengthIn isTab s < n → startsWith (replicate n tab) s ≡ false
 unfolding startsWith lengthIn
@@ -112,5 +113,6 @@ module _ (s w : List ℕ) (at tabs mark size : ℕ) (run : Stretch isTab s at ma
         pub end-inside : startsWith (bytes ">") (drop (mark + 2 + size) s) ≡ true → mark + 2 + size + 1 ≤ length s
         end-inside g = omega (arith, stands-inside (bytes ">") s (mark + 2 + size) g)
 
-        pub by-rest : startsWith (bytes ">") (drop (mark + 2 + size) s) ≡ true → atLineEnd (behind isBlank (drop (mark + 2 + size + 1) s)) ≡ closesLine tabs w (drop at s)
+        pub by-rest : startsWith (bytes ">") (drop (mark + 2 + size) s) ≡ true
+            → atLineEnd (behind isBlank (drop (mark + 2 + size + 1) s)) ≡ closesLine tabs w (drop at s)
         by-rest g = sym (by-parts ∙ rw (o, h, g))

@@ -55,10 +55,20 @@ module _ (s w : List ℕ) (at tabs : ℕ) (unclosed : closesLine tabs w (drop at
       pub line-shallow : deep - at ≤ tabs → seen (Refused Due mark) ≡ turned s (lineTurn tabs w 0 (drop at s))
       line-shallow h = let l : mark ≤ length s = omega arith in rw (turn-shallow h, place-back s mark l)
 
-      pub line-text : (end : ℕ) → tabs < deep - at → Stretch (λ b. not (isLineEnd b)) s (at + tabs + 1) end → passed s (lineEnd [] (drop end s)) ≡ turned s (lineTurn tabs w 0 (drop at s))
+      pub line-text : (end : ℕ) → tabs < deep - at → Stretch (λ b. not (isLineEnd b)) s (at + tabs + 1) end
+          → passed s (lineEnd [] (drop end s)) ≡ turned s (lineTurn tabs w 0 (drop at s))
       unfolding otherLine textLine
       line-text end h e =
           let many : suc tabs ≤ lengthIn isTab (drop at s) = omega (arith, tabbed .0) in
           let n : at + suc tabs ≡ at + tabs + 1 = omega arith in
-          rw (turn-other, here s mark inside, otherLine, append-nil (replicate (suc tabs) tab), tabs-stand (suc tabs) (drop at s) many, drop-drop (suc tabs) at s, n, behind-at (λ b. not (isLineEnd b)) s (at + tabs + 1) end e)
+          rw (
+            turn-other,
+            here s mark inside,
+            otherLine,
+            append-nil (replicate (suc tabs) tab),
+            tabs-stand (suc tabs) (drop at s) many,
+            drop-drop (suc tabs) at s,
+            n,
+            behind-at (λ b. not (isLineEnd b)) s (at + tabs + 1) end e,
+          )
           (turned-made s (λ b. text (upTo isLineEnd (drop (at + tabs + 1) s)) (b .end)) (lineEnd [] (drop end s)))

@@ -22,7 +22,7 @@ use Rattle.paper.proofs.Finds.{Reads, Turns}
 use Rattle.paper.proofs.Lines.{makes-complete}
 use Rattle.paper.proofs.Content.{ReadLine, ReadLines, line-reads, line-shorter, lines-reads, closes-is}
 use Rattle.entries.specs.Laid.{lay}
-use Rattle.lines.specs.Parts.{seen, passed, turned, Makes, contentEntries}
+use Rattle.lines.specs.Parts.{seen, passed, turned, Makes, contentEntries, PassesLine}
 use Rattle.lines.specs.declared.part.Part.{Part}
 use Rattle.lines.specs.declared.part.Part.the-variants.{Read, Refused}
 use Rattle.lines.proofs.Crossing.{further, says-read, found-at, FoundAt, makes-refused, makes-passed, makes-read}
@@ -47,7 +47,8 @@ record Unclosed (tabs : ℕ) (w s : List ℕ) : Type 0 where
 unclosed : (tabs : ℕ) (w s : List ℕ) → closesLine tabs w s ≡ false → Unclosed tabs w s
 unclosed tabs w s f = go (lineTurn tabs w 0 s) refl (line-reads tabs w 0 s)
   where
-    go : (x : Turn Line) → lineTurn tabs w 0 s ≡ x → Turns s (λ l left. ReadLine tabs s l left) (λ left. (s ≡ left) × (closesLine tabs w s ≡ true)) x → Unclosed tabs w s
+    go : (x : Turn Line) → lineTurn tabs w 0 s ≡ x → Turns s (λ l left. ReadLine tabs s l left) (λ left. (s ≡ left) × (closesLine tabs w s ≡ true)) x
+        → Unclosed tabs w s
     go (more l left) e h = record { line = found l left; is-turn = e; reads = h }
     go (over left) e h = true-false (sym (h .1 .1) ∙ f)
     go (stop n left) e h = record { line = fault n left; is-turn = e; reads = h }
@@ -66,7 +67,7 @@ abbrev AllLines : List ℕ → List ℕ → ℕ → ℕ → ℕ → Type 0
 AllLines s w tabs start i = FoundAt (λ ls. 0) (λ ls. 0) (λ lines left. ReadLines tabs w (drop start s) lines left) s start (linesOf tabs w (drop start s)) i 0 0
 
 module _ (s w : List ℕ) (tabs start i : ℕ) (so-far : LinesTo s w tabs start i) (o : Bool) (asked : o ≡ closesLine tabs w (drop i s)) where
-  module _ (n : not o ≡ true) (r : Part) (said : (v : List ℕ) → closesLine tabs v (drop i s) ≡ false → seen r ≡ turned s (lineTurn tabs v 0 (drop i s))) where
+  module _ (n : not o ≡ true) (r : Part) (said : PassesLine s i tabs r) where
     this : Unclosed tabs w (drop i s)
     this = unclosed tabs w (drop i s) (sym asked ∙ not-true o n)
 
@@ -75,17 +76,22 @@ module _ (s w : List ℕ) (tabs start i : ℕ) (so-far : LinesTo s w tabs start 
 
     pub lines-refused : (why : Refusal) (place : ℕ) → r ≡ Refused why place → seen r ≡ passed s (linesOf tabs w (drop start s))
     lines-refused why place q =
-        turn-refused (λ l. 0) (lineTurn tabs w) (line-shorter tabs w) 0 (drop i s) (λ l. 0) (λ l. 0) s turnOf (λ n left. refl) (λ ls. 0) (λ ls. 0) (this .line) r why place seen-line q (this .is-turn)
+        turn-refused (λ l. 0) (lineTurn tabs w) (line-shorter tabs w) 0 (drop i s) (λ l. 0) (λ l. 0) s turnOf (λ n left. refl) (λ ls. 0) (λ ls. 0) (this .line)
+        r why place seen-line q (this .is-turn)
         ∙ so-far .same
 
     pub lines-on : (end made mine : ℕ) → r ≡ Read end made mine → (i < end) × LinesTo s w tabs start end
     lines-on end made mine q =
-        let f = found-at (λ l. 0) (λ l. 0) s r (λ l left. ReadLine tabs (drop i s) l left) i (this .line) end made mine seen-line (this .reads) (so-far .inside) q in (
+        let f =
+        found-at (λ l. 0) (λ l. 0) s r (λ l left. ReadLine tabs (drop i s) l left) i (this .line) end made mine seen-line (this .reads) (so-far .inside) q in (
           further s i end (f .holds .shorter),
           record {
             ahead = omega (arith, so-far .ahead, f .ahead);
             inside = f .inside;
-            same = turn-more (λ l. 0) (lineTurn tabs w) (line-shorter tabs w) 0 (drop i s) (λ ls. 0) (λ ls. 0) s (f .it) (drop end s) (this .is-turn ∙ ap turnOf (f .finds)) ∙ so-far .same;
+            same =
+                turn-more (λ l. 0) (lineTurn tabs w) (line-shorter tabs w) 0 (drop i s) (λ ls. 0) (λ ls. 0) s (f .it) (drop end s)
+                (this .is-turn ∙ ap turnOf (f .finds))
+                ∙ so-far .same;
           },
         )
 
@@ -93,13 +99,23 @@ module _ (s w : List ℕ) (tabs start i : ℕ) (so-far : LinesTo s w tabs start 
   pub closing-inside : not o ≡ false → i + tabs + 3 + length w ≤ length s
   closing-inside n =
       let rest = drop (length (closingMark tabs w)) (drop i s) in
-      omega (arith, ap length (closes-is tabs w (drop i s) (sym asked ∙ not-false o n)), tabs-long tabs (closingOnto w rest), length-append w (byte ">" ∷ rest), length-drop i s, so-far .inside)
+      omega (
+        arith,
+        ap length (closes-is tabs w (drop i s) (sym asked ∙ not-false o n)),
+        tabs-long tabs (closingOnto w rest),
+        length-append w (byte ">" ∷ rest),
+        length-drop i s,
+        so-far .inside,
+      )
 
   all-lines : not o ≡ false → AllLines s w tabs start i
   unfolding lineTurn
   all-lines n =
-      let e = says-read (λ ls. 0) (λ ls. 0) s (linesOf tabs w (drop i s)) (Read i 0 0) [] i 0 0 refl (so-far .inside) (turn-over (λ l. 0) (lineTurn tabs w) (line-shorter tabs w) 0 (drop i s) (drop i s) (rw (sym asked ∙ not-false o n, lineTurn))) refl refl in
-      found-at (λ ls. 0) (λ ls. 0) s (Read i 0 0) (λ lines left. ReadLines tabs w (drop start s) lines left) start (linesOf tabs w (drop start s)) i 0 0 (e ∙ so-far .same) (lines-reads tabs w (drop start s)) (omega (arith, so-far .ahead, so-far .inside)) refl
+      let e =
+      says-read (λ ls. 0) (λ ls. 0) s (linesOf tabs w (drop i s)) (Read i 0 0) [] i 0 0 refl (so-far .inside)
+      (turn-over (λ l. 0) (lineTurn tabs w) (line-shorter tabs w) 0 (drop i s) (drop i s) (rw (sym asked ∙ not-false o n, lineTurn))) refl refl in
+      found-at (λ ls. 0) (λ ls. 0) s (Read i 0 0) (λ lines left. ReadLines tabs w (drop start s) lines left) start (linesOf tabs w (drop start s)) i 0 0
+      (e ∙ so-far .same) (lines-reads tabs w (drop start s)) (omega (arith, so-far .ahead, so-far .inside)) refl
 
 -- ---- Content
 
@@ -116,7 +132,9 @@ module _ (s cells w : List ℕ) (at tabs next limit parent : ℕ) (k : Marker) (
 
   pub rest-refused : (why : Refusal) (place : ℕ) → seen r ≡ passed s (lineRest (drop at s)) → r ≡ Refused why place → Answers
   unfolding contentOf
-  rest-refused why place e q = makes-passed _ _ _ _ _ _ _ r after (λ b. 0) (λ b. 0) (λ y. andThen y (follows tabs (limit - next) k)) (λ n left. refl) (lineRest (drop at s)) why place e q refl
+  rest-refused why place e q =
+      makes-passed _ _ _ _ _ _ _ r after (λ b. 0) (λ b. 0) (λ y. andThen y (follows tabs (limit - next) k)) (λ n left. refl) (lineRest (drop at s)) why place e
+      q refl
 
   module _ (start : ℕ) (rest : RestAt s at start) (full : Bool) (told : full ≡ leb limit next) where
     pub no-room : full ≡ true → r ≡ Refused NoEntryLeft start → Answers
@@ -133,13 +151,16 @@ module _ (s cells w : List ℕ) (at tabs next limit parent : ℕ) (k : Marker) (
           rw (rest .finds, makes-complete (limit - next) (drop start s) (rest .it) (drop start s) some, named)
 
       pub line-refused : (why : Refusal) (place : ℕ) → seen r ≡ passed s (linesOf tabs w (drop start s)) → r ≡ Refused why place → Answers
-      line-refused why place e q = makes-passed _ _ _ _ _ _ _ r after (λ ls. 0) (λ ls. 0) (λ y. andThen y (made tabs k (rest .it))) (λ n left. refl) (linesOf tabs w (drop start s)) why place e q by-lines
+      line-refused why place e q =
+          makes-passed _ _ _ _ _ _ _ r after (λ ls. 0) (λ ls. 0) (λ y. andThen y (made tabs k (rest .it))) (λ n left. refl) (linesOf tabs w (drop start s)) why
+          place e q by-lines
 
       module _ (i : ℕ) (so-far : LinesTo s w tabs start i) (o : Bool) (asked : o ≡ closesLine tabs w (drop i s)) (n : not o ≡ false) where
         all : AllLines s w tabs start i
         all = all-lines s w tabs start i so-far o asked n
 
-        found-all : (end : ℕ) → end ≡ i + tabs + 3 + length w → contentOf tabs (limit - next) k (drop at s) ≡ found (content k (rest .it) (all .it)) (drop end s)
+        found-all : (end : ℕ) → end ≡ i + tabs + 3 + length w
+            → contentOf tabs (limit - next) k (drop at s) ≡ found (content k (rest .it) (all .it)) (drop end s)
         found-all end e =
             let m : i + length (closingMark tabs w) ≡ end = omega (arith, mark-length tabs w) in
             let behind : drop (length (closingMark tabs (k .name))) (drop i s) ≡ drop end s = rw (named, drop-drop (length (closingMark tabs w)) i s, m) in
@@ -147,11 +168,23 @@ module _ (s cells w : List ℕ) (at tabs next limit parent : ℕ) (k : Marker) (
 
         spans : (unnamed 5 0 parent 0 start i ∷ []) ≡ contentEntries parent tabs at (content k (rest .it) (all .it))
         spans =
-            let a : at + length (blankOnto (rest .it) []) ≡ start = omega (arith, ap length (rest .covers), blank-long (rest .it) (drop start s), length-drop at s, length-drop start s, rest .ahead, rest .inside) in
-            let b : start + length (linesOnto tabs (all .it) []) ≡ i = omega (arith, ap length (all .holds .covers), lines-long tabs (all .it) (drop i s), length-drop start s, length-drop i s, so-far .ahead, so-far .inside) in
+            let a : at + length (blankOnto (rest .it) []) ≡ start =
+            omega (arith, ap length (rest .covers), blank-long (rest .it) (drop start s), length-drop at s, length-drop start s, rest .ahead, rest .inside) in
+            let b : start + length (linesOnto tabs (all .it) []) ≡ i =
+            omega (
+              arith,
+              ap length (all .holds .covers),
+              lines-long tabs (all .it) (drop i s),
+              length-drop start s,
+              length-drop i s,
+              so-far .ahead,
+              so-far .inside,
+            ) in
             rw (a, b)
 
-        pub entered : (end : ℕ) → end ≡ i + tabs + 3 + length w → r ≡ Read end 1 1 → (e : Entry) → e ≡ unnamed 5 0 parent 0 start i → after ≡ lay cells next (e ∷ []) → Answers
+        pub entered : (end : ℕ) → end ≡ i + tabs + 3 + length w → r ≡ Read end 1 1 → (e : Entry) → e ≡ unnamed 5 0 parent 0 start i
+            → after ≡ lay cells next (e ∷ []) → Answers
         entered end h q e u l =
-            makes-read _ _ _ _ _ _ _ r after (content k (rest .it) (all .it)) end 1 1 q (omega (arith, closing-inside s w tabs start i so-far o asked n)) (found-all end h) refl refl
+            makes-read _ _ _ _ _ _ _ r after (content k (rest .it) (all .it)) end 1 1 q (omega (arith, closing-inside s w tabs start i so-far o asked n))
+            (found-all end h) refl refl
             (l ∙ ap (λ (x : Entry). lay cells next (x ∷ [])) u ∙ ap (lay cells next) spans)

@@ -41,11 +41,13 @@ module _ {A : Type 0} (size own : A → ℕ) (s : List ℕ) (x : Found A) (r : P
   says-refused why at e h f = rw (e, f, place-back s at h)
 
   -- read up to a place
-  pub says-read : (a : A) (end made mine : ℕ) → r ≡ Read end made mine → end ≤ length s → x ≡ found a (drop end s) → made ≡ size a → mine ≡ own a → seen r ≡ seenOf size own s x
+  pub says-read : (a : A) (end made mine : ℕ) → r ≡ Read end made mine → end ≤ length s → x ≡ found a (drop end s) → made ≡ size a → mine ≡ own a
+      → seen r ≡ seenOf size own s x
   says-read a end made mine e h f m o = rw (e, f, place-back s end h, m, o)
 
 -- something made of what is found, and sizes that are the same
-pub seen-map : {A B : Type 0} (size own : B → ℕ) (s : List ℕ) (f : A → B) (x : Found A) → seenOf size own s (andThen x (λ a left. found (f a) left)) ≡ seenOf (λ a. size (f a)) (λ a. own (f a)) s x
+pub seen-map : {A B : Type 0} (size own : B → ℕ) (s : List ℕ) (f : A → B) (x : Found A)
+    → seenOf size own s (andThen x (λ a left. found (f a) left)) ≡ seenOf (λ a. size (f a)) (λ a. own (f a)) s x
 seen-map size own s f (found a left) = refl
 seen-map size own s f (fault n left) = refl
 
@@ -71,11 +73,20 @@ module _ {A : Type 0} (size own : A → ℕ) (s : List ℕ) (r : Part) where
   tells (found a left) y q e = let k = sym (ap seen q) ∙ e in (ap (λ (y : Seen). y .number) k, ap (λ (y : Seen). y .place) k)
   tells (fault n left) y q e = let k = sym (ap seen q) ∙ e in (ap (λ (y : Seen). y .number) k, ap (λ (y : Seen). y .place) k)
 
-  pub found-at : (P : A → List ℕ → Type 0) (at : ℕ) (x : Found A) (end made mine : ℕ) → seen r ≡ seenOf size own s x → Reads (drop at s) P x → at ≤ length s → r ≡ Read end made mine → FoundAt size own P s at x end made mine
+  pub found-at : (P : A → List ℕ → Type 0) (at : ℕ) (x : Found A) (end made mine : ℕ) → seen r ≡ seenOf size own s x → Reads (drop at s) P x → at ≤ length s
+      → r ≡ Read end made mine → FoundAt size own P s at x end made mine
   found-at P at x end made mine e h l q =
       let f = found-to P s at x end (tells x (Read end made mine) q e) h l in
       let k : seenOf size own s (found (f .it) (drop end s)) ≡ seen (Read end made mine) = ap (seenOf size own s) (sym (f .finds)) ∙ sym e ∙ ap seen q in
-      record { it = f .it; finds = f .finds; holds = f .holds; many = ap (λ (y : Seen). y .made) k; owned = ap (λ (y : Seen). y .own) k; ahead = f .ahead; inside = f .inside }
+      record {
+        it = f .it;
+        finds = f .finds;
+        holds = f .holds;
+        many = ap (λ (y : Seen). y .made) k;
+        owned = ap (λ (y : Seen). y .own) k;
+        ahead = f .ahead;
+        inside = f .inside;
+      }
 
   pub fault-at : (x : Found A) (why : Refusal) (place : ℕ) → seen r ≡ seenOf size own s x → r ≡ Refused why place → FaultAt s x why place
   fault-at x why place e q = fault-to s x why place (tells x (Refused why place) q e)
@@ -94,27 +105,32 @@ module _ {A : Type 0} (size own : A → ℕ) (s : List ℕ) (r : Part) where
 -- ---- the same with entries: a fault says nothing of the cells
 
 -- an entry is left: its cells are there
-pub room-left : (cells : List ℕ) (slot : Slot) (o : Bool) → Fits cells slot → o ≡ leb (slot .room) (slot .next) → o ≡ false → suc (slot .next) * entryCells ≤ length cells
+pub room-left : (cells : List ℕ) (slot : Slot) (o : Bool) → Fits cells slot → o ≡ leb (slot .room) (slot .next) → o ≡ false
+    → suc (slot .next) * entryCells ≤ length cells
 room-left cells slot o h asked f = omega (arith, leb-false (slot .room) (slot .next) (sym asked ∙ f), h .held)
 
 module _ {A : Type 0} (size own : A → ℕ) (of : A → List Entry) (s cells : List ℕ) (n : ℕ) (x : Found A) (r : Part) (after : List ℕ) where
   makes-fault : (k : ℕ) (left : List ℕ) → x ≡ fault k left → seen r ≡ seenOf size own s x → Makes size own of s cells n x r after
   makes-fault k left f e = record { says = e; laid = λ a end g. let z : _≡_ {A = ℕ} 0 1 = cc in absurd (omega arith) }
 
-  pub makes-refused : (why : Refusal) (at : ℕ) → r ≡ Refused why at → at ≤ length s → x ≡ fault (numberOf why) (drop at s) → Makes size own of s cells n x r after
+  pub makes-refused : (why : Refusal) (at : ℕ) → r ≡ Refused why at → at ≤ length s → x ≡ fault (numberOf why) (drop at s)
+      → Makes size own of s cells n x r after
   makes-refused why at e h f = makes-fault (numberOf why) (drop at s) f (says-refused size own s x r why at e h f)
 
   pub makes-passed : {B : Type 0} (many mine : B → ℕ) (outer : Found B → Found A) → ((k : ℕ) (left : List ℕ) → outer (fault k left) ≡ fault k left)
       → (y : Found B) (why : Refusal) (place : ℕ) → seen r ≡ seenOf many mine s y → r ≡ Refused why place → x ≡ outer y → Makes size own of s cells n x r after
   makes-passed many mine outer keeps y why place e q f =
       let k = fault-at many mine s r y why place e q in
-      makes-fault (numberOf why) (k .left) (f ∙ ap outer (k .faults) ∙ keeps (numberOf why) (k .left)) (passed-on many mine s r size own outer keeps y why place e q ∙ ap (seenOf size own s) (sym f))
+      makes-fault (numberOf why) (k .left) (f ∙ ap outer (k .faults) ∙ keeps (numberOf why) (k .left))
+      (passed-on many mine s r size own outer keeps y why place e q ∙ ap (seenOf size own s) (sym f))
 
-  pub makes-read : (a : A) (end made mine : ℕ) → r ≡ Read end made mine → end ≤ length s → x ≡ found a (drop end s) → made ≡ size a → mine ≡ own a → after ≡ lay cells n (of a) → Makes size own of s cells n x r after
+  pub makes-read : (a : A) (end made mine : ℕ) → r ≡ Read end made mine → end ≤ length s → x ≡ found a (drop end s) → made ≡ size a → mine ≡ own a
+      → after ≡ lay cells n (of a) → Makes size own of s cells n x r after
   makes-read a end made mine e h f m o l = record {
     says = says-read size own s x r a end made mine e h f m o;
     laid = λ b left g. let q : a ≡ b = cc in l ∙ ap (λ (i : A). lay cells n (of i)) q;
   }
 
-pub makes-same : {A : Type 0} (f g p q : A → ℕ) (of : A → List Entry) (s cells : List ℕ) (n : ℕ) (x : Found A) (r : Part) (after : List ℕ) → ((a : A) → f a ≡ p a) → ((a : A) → g a ≡ q a) → Makes f g of s cells n x r after → Makes p q of s cells n x r after
+pub makes-same : {A : Type 0} (f g p q : A → ℕ) (of : A → List Entry) (s cells : List ℕ) (n : ℕ) (x : Found A) (r : Part) (after : List ℕ)
+    → ((a : A) → f a ≡ p a) → ((a : A) → g a ≡ q a) → Makes f g of s cells n x r after → Makes p q of s cells n x r after
 makes-same f g p q of s cells n x r after e h k = record { says = k .says ∙ seen-same f g p q s x e h; laid = k .laid }

@@ -92,7 +92,8 @@ module _ (blanks s : List ℕ) (at : ℕ) where
       unfolding lineEnd
       line-crlf t =
           let two : at + 1 + 1 ≡ at + 2 = omega arith in
-          rw (here s at h, lineEnd, ne-eqb (getD s at 0) lf n, starts ∙ t) (ap (found (record { blanks = blanks; end = CRLF })) (drop-drop 1 (at + 1) s ∙ ap (λ (k : ℕ). drop k s) two))
+          rw (here s at h, lineEnd, ne-eqb (getD s at 0) lf n, starts ∙ t)
+          (ap (found (record { blanks = blanks; end = CRLF })) (drop-drop 1 (at + 1) s ∙ ap (λ (k : ℕ). drop k s) two))
 
       pub line-other : o ≡ false → lineEnd blanks (drop at s) ≡ fault 7 (drop at s)
       unfolding lineEnd
@@ -102,11 +103,14 @@ module _ (blanks s : List ℕ) (at : ℕ) where
 pub any-blanks : (s v w l : List ℕ) → passed s (lineEnd v l) ≡ passed s (lineEnd w l)
 unfolding lineEnd
 any-blanks s v w [] = refl
-any-blanks s v w (b ∷ l) = split (eqb b lf) (λ e. rw (e, lineEnd)) (λ e. split (startsWith (cr ∷ lf ∷ []) (b ∷ l)) (λ f. rw (e, lineEnd, f)) (λ f. rw (e, lineEnd, f)))
+any-blanks s v w (b ∷ l) =
+    split (eqb b lf) (λ e. rw (e, lineEnd)) (λ e. split (startsWith (cr ∷ lf ∷ []) (b ∷ l)) (λ f. rw (e, lineEnd, f)) (λ f. rw (e, lineEnd, f)))
 
 -- behind the blanks that stand from a place to their end
 pub rest-from : (s : List ℕ) (at end : ℕ) → Stretch isBlank s at end → passed s (lineEnd [] (drop end s)) ≡ passed s (lineRest (drop at s))
-rest-from s at end ends = any-blanks s [] (front isBlank (drop at s)) (drop end s) ∙ ap (λ (l : List ℕ). passed s (lineEnd (front isBlank (drop at s)) l)) (sym (behind-at isBlank s at end ends))
+rest-from s at end ends =
+    any-blanks s [] (front isBlank (drop at s)) (drop end s)
+    ∙ ap (λ (l : List ℕ). passed s (lineEnd (front isBlank (drop at s)) l)) (sym (behind-at isBlank s at end ends))
 
 -- ---- what is read up to an end
 
@@ -118,7 +122,8 @@ pub record RestAt (s : List ℕ) (at end : ℕ) : Type 0 where
   pub ahead : at < end
   pub inside : end ≤ length s
 
-pub rest-at : (s : List ℕ) (at : ℕ) (r : Part) (end made mine : ℕ) → at ≤ length s → seen r ≡ passed s (lineRest (drop at s)) → r ≡ Read end made mine → RestAt s at end
+pub rest-at : (s : List ℕ) (at : ℕ) (r : Part) (end made mine : ℕ) → at ≤ length s → seen r ≡ passed s (lineRest (drop at s)) → r ≡ Read end made mine
+    → RestAt s at end
 rest-at s at r end made mine h e q =
     let f = found-at (λ b. 0) (λ b. 0) s r (λ b left. ReadBlank (drop at s) b left) at (lineRest (drop at s)) end made mine e (rest-reads (drop at s)) h q in
     record { it = f .it; finds = f .finds; covers = f .holds .covers; ahead = further s at end (f .holds .shorter); inside = f .inside }

@@ -16,7 +16,8 @@ end-long LF next = omega arith
 end-long CRLF next = omega arith
 
 pub blank-long : (b : Blank) (next : List ℕ) → length (blankOnto b next) ≡ length (blankOnto b []) + length next
-blank-long b next = omega (arith, length-append (b .blanks) (lineEndOnto (b .end) next), length-append (b .blanks) (lineEndOnto (b .end) []), end-long (b .end) next)
+blank-long b next =
+    omega (arith, length-append (b .blanks) (lineEndOnto (b .end) next), length-append (b .blanks) (lineEndOnto (b .end) []), end-long (b .end) next)
 
 pub blanks-long : (bs : List Blank) (next : List ℕ) → length (blanksOnto bs next) ≡ length (blanksOnto bs []) + length next
 unfolding blanksOnto
@@ -33,14 +34,31 @@ pub notes-long : (notes : List Annotation) (next : List ℕ) → length (annotat
 unfolding annotationsOnto
 notes-long [] next = omega arith
 notes-long (a ∷ notes) next =
-    omega (arith, note-long a (annotationsOnto notes next), note-long a (annotationsOnto notes []), blank-long (a .rest) (annotationsOnto notes next), blank-long (a .rest) (annotationsOnto notes []), notes-long notes next)
+    omega (
+      arith,
+      note-long a (annotationsOnto notes next),
+      note-long a (annotationsOnto notes []),
+      blank-long (a .rest) (annotationsOnto notes next),
+      blank-long (a .rest) (annotationsOnto notes []),
+      notes-long notes next,
+    )
 
 -- the lines of Content
 pub lines-long : (tabs : ℕ) (lines : List Line) (next : List ℕ) → length (linesOnto tabs lines next) ≡ length (linesOnto tabs lines []) + length next
 unfolding linesOnto
 lines-long tabs [] next = omega arith
-lines-long tabs (blank b ∷ lines) next = omega (arith, lines-long tabs lines next, blank-long b (linesOnto tabs lines next), blank-long b (linesOnto tabs lines []))
+lines-long tabs (blank b ∷ lines) next =
+    omega (arith, lines-long tabs lines next, blank-long b (linesOnto tabs lines next), blank-long b (linesOnto tabs lines []))
 lines-long tabs (text t e ∷ lines) next =
     let more = lineEndOnto e (linesOnto tabs lines next) in
     let none = lineEndOnto e (linesOnto tabs lines []) in
-    omega (arith, lines-long tabs lines next, tabs-long (suc tabs) (t ++ more), tabs-long (suc tabs) (t ++ none), length-append t more, length-append t none, end-long e (linesOnto tabs lines next), end-long e (linesOnto tabs lines []))
+    omega (
+      arith,
+      lines-long tabs lines next,
+      tabs-long (suc tabs) (t ++ more),
+      tabs-long (suc tabs) (t ++ none),
+      length-append t more,
+      length-append t none,
+      end-long e (linesOnto tabs lines next),
+      end-long e (linesOnto tabs lines []),
+    )

@@ -10,76 +10,70 @@ use lib.Dec.{eqb}
 use native.Mathlib.Nat.{sub-zero}
 use Rattle.paper.specs.declared.Refusal.{Refusal}
 use Rattle.paper.specs.declared.Refusal.the-variants.{Cut, Due, ClosingName}
-use Rattle.paper.specs.Found.{placeIn}
+use Rattle.paper.specs.Found.{Found, found, fault, andThen, placeIn}
 use Rattle.paper.specs.Bytes.{byte, bytes, same, startsWith}
 use Rattle.paper.specs.Reading.{due, name, ending, closing}
 use Rattle.paper.proofs.Tests.{split, true-false, when-true, when-false}
+use Rattle.paper.proofs.Finds.{then-then, then-alike}
 use Rattle.paper.proofs.Lists.{starts-is}
-use Rattle.lines.specs.Parts.{seen, passed, part}
+use Rattle.lines.specs.Parts.{seen, passed, dueAll, part}
 use Rattle.lines.specs.Endings.{ended, endedOf, faultHere}
 use Rattle.lines.specs.declared.marks.Ending.{Ending}
 use Rattle.lines.specs.declared.marks.Ending.the-variants.{Block, Closed}
 use Rattle.text.proofs.Places.{here, place-back}
 use Rattle.lines.specs.declared.part.Part.{Part}
-use Rattle.lines.specs.declared.part.Part.the-variants.{Read, Refused}
+use Rattle.lines.specs.declared.part.Part.the-variants.{Refused}
 use Rattle.lines.proofs.Crossing.{refused-then, says-refused}
-use Rattle.lines.proofs.ReadAt.{DueAt, due-at, NameAt, name-at, part-is}
+use Rattle.lines.proofs.ReadAt.{AllDueAt, NameAt, part-is}
 
--- ---- a closing marker: "<", "/", its name, ">"; the answer on each is what is known
+-- ---- a closing marker: "</", its name, ">"; the answer on each is what is known
 
-module _ (s : List ℕ) (at : ℕ) where
-  pub no-less : (w : List ℕ) (r : Part) (why : Refusal) (place : ℕ) → seen r ≡ passed s (due (byte "<") (drop at s)) → r ≡ Refused why place → seen r ≡ passed s (closing w (drop at s))
-  unfolding closing
-  no-less w r why place e q = refused-then (λ a. 0) (λ a. 0) s r (λ a. 0) (λ a. 0) _ (due (byte "<") (drop at s)) why place e q
+-- what follows "</"
+abbrev closingRest : List ℕ → List ℕ → Found ℕ
+closingRest w named = andThen (name (λ v. true) named) (λ v left. elim (same w v) [ true ↦ due (byte ">") left | false ↦ fault 8 named ])
 
-  module _ (h : at ≤ length s) (less : Part) (slash lm lo : ℕ) (less-says : seen less ≡ passed s (due (byte "<") (drop at s))) (less-is : less ≡ Read slash lm lo) where
-    less-found : DueAt (byte "<") s at slash
-    less-found = due-at (byte "<") s at less slash lm lo h less-says less-is
+by-mark : (w s : List ℕ) → closing w s ≡ andThen (dueAll (bytes "</") s) (λ v named. closingRest w named)
+unfolding closing dueAll
+by-mark w s = sym (then-then (due (byte "<") s) _ _ ∙ then-alike (due (byte "<") s) _ _ (λ b left. then-then (due (byte "/") left) _ _))
 
-    pub less-inside : slash ≤ length s
-    less-inside = less-found .inside
+one-byte : (b : ℕ) (s l : List ℕ) → passed s (dueAll (b ∷ []) l) ≡ passed s (due b l)
+unfolding dueAll
+one-byte b s l = go (due b l)
+  where
+    go : (x : Found ℕ) → passed s (andThen x (λ c left. dueAll [] left)) ≡ passed s x
+    go (found c left) = refl
+    go (fault n left) = refl
 
-    pub no-slash : (w : List ℕ) (r : Part) (why : Refusal) (place : ℕ) → seen r ≡ passed s (due (byte "/") (drop slash s)) → r ≡ Refused why place → seen r ≡ passed s (closing w (drop at s))
-    unfolding closing
-    no-slash w r why place e q = rw (less-found .finds) (refused-then (λ a. 0) (λ a. 0) s r (λ a. 0) (λ a. 0) _ (due (byte "/") (drop slash s)) why place e q)
+module _ (s w : List ℕ) (at : ℕ) where
+  pub no-mark : (r : Part) (why : Refusal) (place : ℕ) → seen r ≡ passed s (dueAll (bytes "</") (drop at s)) → r ≡ Refused why place
+      → seen r ≡ passed s (closing w (drop at s))
+  no-mark r why place e q =
+      refused-then (λ v. 0) (λ v. 0) s r (λ b. 0) (λ b. 0) _ (dueAll (bytes "</") (drop at s)) why place e q ∙ ap (passed s) (sym (by-mark w (drop at s)))
 
-    module _ (mark : Part) (start mm mo : ℕ) (mark-says : seen mark ≡ passed s (due (byte "/") (drop slash s))) (mark-is : mark ≡ Read start mm mo) where
-      mark-found : DueAt (byte "/") s slash start
-      mark-found = due-at (byte "/") s slash mark start mm mo less-inside mark-says mark-is
+  module _ (start : ℕ) (mark : AllDueAt (bytes "</") s at start) where
+    behind-mark : closing w (drop at s) ≡ closingRest w (drop start s)
+    behind-mark = by-mark w (drop at s) ∙ rw (mark .finds)
 
-      pub mark-inside : start ≤ length s
-      mark-inside = mark-found .inside
+    pub no-name : (r : Part) (why : Refusal) (place : ℕ) → seen r ≡ passed s (name (λ v. true) (drop start s)) → r ≡ Refused why place
+        → seen r ≡ passed s (closing w (drop at s))
+    no-name r why place e q =
+        refused-then (λ v. 0) (λ v. 0) s r (λ b. 0) (λ b. 0) _ (name (λ v. true) (drop start s)) why place e q ∙ ap (passed s) (sym behind-mark)
 
-      pub no-name : (w : List ℕ) (r : Part) (why : Refusal) (place : ℕ) → seen r ≡ passed s (name (λ v. true) (drop start s)) → r ≡ Refused why place → seen r ≡ passed s (closing w (drop at s))
-      unfolding closing
-      no-name w r why place e q = rw (less-found .finds, mark-found .finds) (refused-then (λ a. 0) (λ a. 0) s r (λ a. 0) (λ a. 0) _ (name (λ v. true) (drop start s)) why place e q)
+    module _ (end : ℕ) (named : NameAt (λ v. true) s start end) where
+      -- the name that is read is the part between its places
+      name-part : named .it ≡ part s start end
+      name-part = sym (part-is s (named .it) (drop end s) start end (named .covers) (omega (arith, named .long, named .ahead)))
 
-      module _ (named : Part) (end nm no : ℕ) (name-says : seen named ≡ passed s (name (λ v. true) (drop start s))) (name-is : named ≡ Read end nm no) where
-        name-found : NameAt (λ v. true) s start end
-        name-found = name-at (λ v. true) s start named end nm no mark-inside name-says name-is
+      by-name : closing w (drop at s) ≡ elim (same w (part s start end)) [ true ↦ due (byte ">") (drop end s) | false ↦ fault 8 (drop start s) ]
+      by-name = behind-mark ∙ rw (named .finds, name-part)
 
-        pub name-ahead : start ≤ end
-        name-ahead = name-found .ahead
+      pub other-name : (r : Part) → same w (part s start end) ≡ false → r ≡ Refused ClosingName start → seen r ≡ passed s (closing w (drop at s))
+      other-name r z p =
+          says-refused (λ b. 0) (λ b. 0) s (closing w (drop at s)) r ClosingName start p (mark .inside) (by-name ∙ when-false (same w (part s start end)) _ _ z)
 
-        pub name-inside : end ≤ length s
-        name-inside = name-found .inside
-
-        -- the name that is read is the part between its places
-        name-part : name-found .it ≡ part s start end
-        name-part = sym (part-is s (name-found .it) (drop end s) start end (name-found .covers) (omega (arith, name-found .long, name-ahead)))
-
-        pub other-name : (w : List ℕ) (r : Part) → same w (part s start end) ≡ false → r ≡ Refused ClosingName start → seen r ≡ passed s (closing w (drop at s))
-        unfolding closing
-        other-name w r z p =
-            let y : same w (name-found .it) ≡ false = ap (same w) name-part ∙ z in
-            says-refused (λ a. 0) (λ a. 0) s (closing w (drop at s)) r ClosingName start p mark-inside (rw (less-found .finds, mark-found .finds, name-found .finds) (when-false (same w (name-found .it)) _ _ y))
-
-        pub same-name : (w : List ℕ) (r : Part) → same w (part s start end) ≡ true → seen r ≡ passed s (due (byte ">") (drop end s)) → seen r ≡ passed s (closing w (drop at s))
-        unfolding closing
-        same-name w r z p =
-            let y : same w (name-found .it) ≡ true = ap (same w) name-part ∙ z in
-            let c : closing w (drop at s) ≡ due (byte ">") (drop end s) = rw (less-found .finds, mark-found .finds, name-found .finds) (when-true (same w (name-found .it)) _ _ y) in
-            p ∙ ap (passed s) (sym c)
+      pub same-name : (r : Part) → same w (part s start end) ≡ true → seen r ≡ passed s (dueAll (bytes ">") (drop end s))
+          → seen r ≡ passed s (closing w (drop at s))
+      same-name r z p = p ∙ one-byte (byte ">") s (drop end s) ∙ ap (passed s) (sym (by-name ∙ when-true (same w (part s start end)) _ _ z))
 
 -- ---- the ending of an opening marker
 
@@ -113,7 +107,8 @@ module _ (s : List ℕ) (at : ℕ) where
   pub ends-self : at ≤ length s → startsWith (bytes "/>") (drop at s) ≡ true → ended (Closed (at + 2)) ≡ endedOf s (ending (drop at s))
   unfolding ending due
   ends-self h e =
-      let b : drop at s ≡ byte "/" ∷ byte ">" ∷ drop (at + 2) s = starts-is (bytes "/>") (drop at s) e ∙ ap (λ (l : List ℕ). byte "/" ∷ byte ">" ∷ l) (drop-drop 2 at s) in
+      let b : drop at s ≡ byte "/" ∷ byte ">" ∷ drop (at + 2) s =
+      starts-is (bytes "/>") (drop at s) e ∙ ap (λ (l : List ℕ). byte "/" ∷ byte ">" ∷ l) (drop-drop 2 at s) in
       let l : at + 2 ≤ length s = omega (arith, ap length b, length-drop at s) in
       rw (b, place-back s (at + 2) l)
 

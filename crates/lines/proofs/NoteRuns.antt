@@ -20,7 +20,7 @@ use Rattle.paper.proofs.Annotations.{ReadBehind, annotation-reads, annotation-s
 use Rattle.entries.specs.Laid.{slotAfter, Fits}
 use Rattle.entries.specs.declared.Slot.{Slot}
 use Rattle.entries.proofs.Slots.{fits-after}
-use Rattle.lines.specs.Parts.{Makes, noteEntries}
+use Rattle.lines.specs.Parts.{Makes, noteEntries, MakesNote, MakesNotes}
 use Rattle.lines.specs.declared.part.Part.{Part}
 use Rattle.lines.specs.declared.part.Part.the-variants.{Read, Refused}
 use Rattle.text.proofs.Stretch.{Stretch, behind-at}
@@ -29,23 +29,21 @@ use Rattle.lines.proofs.Crossing.{FoundAt, found-at, makes-same}
 use Rattle.lines.proofs.Turns.{makes-over, makes-stop, makes-more}
 use Rattle.lines.proofs.Lengths.{blank-long, note-long}
 
--- the annotations from i on, where so many are made already; and all of them
+-- the annotations from i on, where so many are made already
 abbrev counted : ℕ → List Annotation → ℕ
 counted made notes = made + length notes
 
 abbrev pub Rest : List ℕ → Slot → List ℕ → ℕ → ℕ → Part → List ℕ → Type 0
 Rest s slot cells i made r after =
-    Makes (counted made) (counted made) (annotationEntries (slot .parent) i) s cells (slot .next + made) (annotations (slot .room - (slot .next + made)) (drop i s)) r after
-
-abbrev pub All : List ℕ → ℕ → List ℕ → Slot → Part → List ℕ → Type 0
-All s at cells slot r after = Makes length length (annotationEntries (slot .parent) at) s cells (slot .next) (annotations (slot .room - slot .next) (drop at s)) r after
+    Makes (counted made) (counted made) (annotationEntries (slot .parent) i) s cells (slot .next + made)
+    (annotations (slot .room - (slot .next + made)) (drop i s)) r after
 
 -- what the turns so far leave
 pub record Notes (s : List ℕ) (at : ℕ) (lent : List ℕ) (slot : Slot) (cells : List ℕ) (i made : ℕ) : Type 0 where
   pub inside : i ≤ length s
   pub few : slot .next + made ≤ slot .room
   pub held : length cells ≡ length lent
-  pub onward : (r : Part) (after : List ℕ) → Rest s slot cells i made r after → All s at lent slot r after
+  pub onward : (r : Part) (after : List ℕ) → Rest s slot cells i made r after → MakesNotes s at lent slot r after
 
 pub notes-begin : (s : List ℕ) (at : ℕ) (cells : List ℕ) (slot : Slot) → at ≤ length s → slot .next ≤ slot .room → Notes s at cells slot cells at 0
 notes-begin s at cells slot h f = record {
@@ -53,7 +51,8 @@ notes-begin s at cells slot h f = record {
   few = omega arith;
   held = refl;
   onward = λ r after k.
-      makes-same (counted 0) (counted 0) length length (annotationEntries (slot .parent) at) s cells (slot .next) (annotations (slot .room - slot .next) (drop at s)) r after
+      makes-same (counted 0) (counted 0) length length (annotationEntries (slot .parent) at) s cells (slot .next)
+      (annotations (slot .room - slot .next) (drop at s)) r after
       (λ notes. zero-add (length notes)) (λ notes. zero-add (length notes)) (rw (add-zero (slot .next)) at k);
 }
 
@@ -67,12 +66,12 @@ module _ (s : List ℕ) (at : ℕ) (lent : List ℕ) (slot : Slot) (cells : List
   bracket : startsWith (bytes "[") (behind isTab (drop i s)) ≡ o
   bracket = ap (startsWith (bytes "[")) (behind-at isTab s i mark run) ∙ sym asked
 
-  pub notes-over : not o ≡ true → (r : Part) → r ≡ Read i made made → All s at lent slot r cells
+  pub notes-over : not o ≡ true → (r : Part) → r ≡ Read i made made → MakesNotes s at lent slot r cells
   unfolding annotationTurn annotationEntries
   notes-over n r e =
       so-far .onward r cells
-      (makes-over (λ a. 1) annotationTurn annotation-shorter left (drop i s) (counted made) (counted made) (annotationEntries (slot .parent) i) s cells (slot .next + made) r i made made
-      (rw (bracket ∙ not-true o n, annotationTurn)) e (so-far .inside) (sym (add-zero made)) (sym (add-zero made)) refl)
+      (makes-over (λ a. 1) annotationTurn annotation-shorter left (drop i s) (counted made) (counted made) (annotationEntries (slot .parent) i) s cells
+      (slot .next + made) r i made made (rw (bracket ∙ not-true o n, annotationTurn)) e (so-far .inside) (sym (add-zero made)) (sym (add-zero made)) refl)
 
   module _ (n : not o ≡ false) where
     pub mark-inside : mark + 1 ≤ length s
@@ -89,23 +88,24 @@ module _ (s : List ℕ) (at : ℕ) (lent : List ℕ) (slot : Slot) (cells : List
       pub lent-fits : Fits lent slot → Fits cells next
       lent-fits h = fits-after made h (so-far .held) (so-far .few) lends
 
-      module _ (r : Part) (after : List ℕ)
-          (one : (tabs : ℕ) → Makes (λ a. 1) (λ a. 1) (noteEntries (next .parent) (mark + 1)) s cells (next .next) (annotation (next .room - next .next) tabs (drop (mark + 1) s)) r after) where
+      module _ (r : Part) (after : List ℕ) (one : MakesNote s (mark + 1) cells next r after) where
         abbrev reading : Found Annotation
         reading = annotation left (lengthIn isTab (drop i s)) (drop (mark + 1) s)
 
         noted : Makes (λ a. 1) (λ a. 1) (noteEntries (slot .parent) (mark + 1)) s cells (slot .next + made) reading r after
         noted = rw lends at (one (lengthIn isTab (drop i s)))
 
-        pub notes-refused : (why : Refusal) (place : ℕ) → r ≡ Refused why place → All s at lent slot r after
+        pub notes-refused : (why : Refusal) (place : ℕ) → r ≡ Refused why place → MakesNotes s at lent slot r after
         notes-refused why place q =
             so-far .onward r after
-            (makes-stop (λ a. 1) annotationTurn annotation-shorter left (drop i s) (λ a. 1) (λ a. 1) turnOf (λ k rest. refl) (counted made) (counted made) (annotationEntries (slot .parent) i) s cells (slot .next + made) reading r after
-            why place (noted .says) q (a-note left))
+            (makes-stop (λ a. 1) annotationTurn annotation-shorter left (drop i s) (λ a. 1) (λ a. 1) turnOf (λ k rest. refl) (counted made) (counted made)
+            (annotationEntries (slot .parent) i) s cells (slot .next + made) reading r after why place (noted .says) q (a-note left))
 
         module _ (end own mine : ℕ) (q : r ≡ Read end own mine) where
           it : FoundAt (λ a. 1) (λ a. 1) (λ a rest. ReadBehind left (lengthIn isTab (drop i s)) (drop (mark + 1) s) a rest) s (mark + 1) reading end own mine
-          it = found-at (λ a. 1) (λ a. 1) s r _ (mark + 1) reading end own mine (noted .says) (annotation-reads left (lengthIn isTab (drop i s)) (drop (mark + 1) s)) mark-inside q
+          it =
+              found-at (λ a. 1) (λ a. 1) s r _ (mark + 1) reading end own mine (noted .says)
+              (annotation-reads left (lengthIn isTab (drop i s)) (drop (mark + 1) s)) mark-inside q
 
           pub note-ahead : (i < end) × (end ≤ length s)
           note-ahead = (omega (arith, it .ahead, run .1), it .inside)
@@ -130,7 +130,9 @@ module _ (s : List ℕ) (at : ℕ) (lent : List ℕ) (slot : Slot) (cells : List
                 it .inside,
               )
 
-          entered : (notes : List Annotation) → annotationEntries (slot .parent) i (it .it ∷ notes) ≡ noteEntries (slot .parent) (mark + 1) (it .it) ++ annotationEntries (slot .parent) end notes
+          entered : (notes : List Annotation)
+              → annotationEntries (slot .parent) i (it .it ∷ notes)
+              ≡ noteEntries (slot .parent) (mark + 1) (it .it) ++ annotationEntries (slot .parent) end notes
           unfolding annotationEntries
           entered notes = rw (starts, ends)
 
@@ -144,8 +146,11 @@ module _ (s : List ℕ) (at : ℕ) (lent : List ℕ) (slot : Slot) (cells : List
                 held = h ∙ so-far .held;
                 onward = λ other cells′ k.
                     so-far .onward other cells′
-                    (makes-more (λ a. 1) annotationTurn annotation-shorter left (drop i s) (counted made) (counted made) (annotationEntries (slot .parent) i) (annotationEntries (slot .parent) end)
-                    (noteEntries (slot .parent) (mark + 1) (it .it)) s cells after (slot .next + made) (it .it) (drop end s) other cells′ (a-note left ∙ ap turnOf (it .finds)) entered (noted .laid (it .it) (drop end s) (it .finds))
-                    (makes-same (counted (made + 1)) (counted (made + 1)) _ _ (annotationEntries (slot .parent) end) s after (slot .next + made + 1) (annotations (left - 1) (drop end s)) other cells′
+                    (makes-more (λ a. 1) annotationTurn annotation-shorter left (drop i s) (counted made) (counted made) (annotationEntries (slot .parent) i)
+                    (annotationEntries (slot .parent) end) (noteEntries (slot .parent) (mark + 1) (it .it)) s cells after
+                    (slot .next + made) (it .it) (drop end s) other cells′
+                    (a-note left ∙ ap turnOf (it .finds)) entered (noted .laid (it .it) (drop end s) (it .finds))
+                    (makes-same (counted (made + 1)) (counted (made + 1)) _ _ (annotationEntries (slot .parent) end) s after (slot .next + made + 1)
+                    (annotations (left - 1) (drop end s)) other cells′
                     (λ notes. omega arith) (λ notes. omega arith) (rw (number, fewer) at k)));
               }

@@ -89,12 +89,16 @@ module _ (s : List ℕ) (i : ℕ) where
       -- any other byte
       module _ (e : getD s i 0 ≡ byte "\\" → ⊥) (o : Bool) (asked : o ≡ isLineEnd (getD s i 0)) where
         pub text-line : o ≡ true → textOf (drop i s) ≡ fault 7 (drop i s)
-        text-line q = rw (here s i h) (breaks (getD s i 0) (drop (i + 1) s) (ne-eqb (getD s i 0) (byte "]") n) (ne-eqb (getD s i 0) (byte "\\") e) (sym asked ∙ q))
+        text-line q =
+            rw (here s i h) (breaks (getD s i 0) (drop (i + 1) s) (ne-eqb (getD s i 0) (byte "]") n) (ne-eqb (getD s i 0) (byte "\\") e) (sym asked ∙ q))
 
         pub text-on : o ≡ false → passed s (textOf (drop (i + 1) s)) ≡ passed s (textOf (drop i s))
         text-on q =
             let on = goes-on (getD s i 0) (drop (i + 1) s) (ne-eqb (getD s i 0) (byte "]") n) (ne-eqb (getD s i 0) (byte "\\") e) (sym asked ∙ q) in
-            sym (ap (λ (l : List ℕ). passed s (textOf l)) (here s i h) ∙ ap (passed s) on ∙ seen-map (λ t. 0) (λ t. 0) s (λ t. getD s i 0 ∷ t) (textOf (drop (i + 1) s)))
+            sym
+            (ap (λ (l : List ℕ). passed s (textOf l)) (here s i h)
+            ∙ ap (passed s) on
+            ∙ seen-map (λ t. 0) (λ t. 0) s (λ t. getD s i 0 ∷ t) (textOf (drop (i + 1) s)))
 
 -- a text that is read up to an end, its "]" too
 pub record TextAt (s : List ℕ) (at end : ℕ) : Type 0 where
@@ -103,13 +107,15 @@ pub record TextAt (s : List ℕ) (at end : ℕ) : Type 0 where
   pub ends : end ≡ at + length it + 1
   pub inside : end ≤ length s
 
-pub text-at : (s : List ℕ) (at : ℕ) (r : Part) (end made mine : ℕ) → at ≤ length s → seen r ≡ passed s (textOf (drop at s)) → r ≡ Read end made mine → TextAt s at end
+pub text-at : (s : List ℕ) (at : ℕ) (r : Part) (end made mine : ℕ) → at ≤ length s → seen r ≡ passed s (textOf (drop at s)) → r ≡ Read end made mine
+    → TextAt s at end
 text-at s at r end made mine h e q =
     let f = found-at (λ t. 0) (λ t. 0) s r (λ t left. ReadText (drop at s) t left) at (textOf (drop at s)) end made mine e (text-reads (drop at s)) h q in
     record {
       it = f .it;
       finds = f .finds;
-      ends = omega (arith, ap length (f .holds .covers), length-append (f .it) (byte "]" ∷ drop end s), length-drop at s, length-drop end s, f .inside, f .ahead);
+      ends =
+          omega (arith, ap length (f .holds .covers), length-append (f .it) (byte "]" ∷ drop end s), length-drop at s, length-drop end s, f .inside, f .ahead);
       inside = f .inside;
     }
 
@@ -119,7 +125,10 @@ module _ (parent : ℕ) (s cells : List ℕ) (next limit tabs at : ℕ) (r : Par
   -- what the annotation makes of its text
   abbrev of-text : Found (List ℕ) → Found Annotation
   of-text x =
-      andThen x (λ t left. andThen (makes (limit - next) (drop at s) t left) (λ t left. andThen (lineRest left) (λ rest end. found (record { tabs = tabs; text = t; rest = rest }) end)))
+      andThen x
+      (λ t left.
+      andThen (makes (limit - next) (drop at s) t left)
+      (λ t left. andThen (lineRest left) (λ rest end. found (record { tabs = tabs; text = t; rest = rest }) end)))
 
   by-text : annotation (limit - next) tabs (drop at s) ≡ of-text (textOf (drop at s))
   unfolding annotation
@@ -144,13 +153,16 @@ module _ (parent : ℕ) (s cells : List ℕ) (next limit tabs at : ℕ) (r : Par
       of-rest x = andThen x (λ rest end. found (record { tabs = tabs; text = text .it; rest = rest }) end)
 
       by-rest : annotation (limit - next) tabs (drop at s) ≡ of-rest (lineRest (drop end s))
-      by-rest = by-text ∙ rw (text .finds, makes-complete (limit - next) (drop at s) (text .it) (drop end s) (omega (arith, leb-false limit next (sym asked ∙ f))))
+      by-rest =
+          by-text ∙ rw (text .finds, makes-complete (limit - next) (drop at s) (text .it) (drop end s) (omega (arith, leb-false limit next (sym asked ∙ f))))
 
       pub rest-refused : (why : Refusal) (place : ℕ) → seen r ≡ passed s (lineRest (drop end s)) → r ≡ Refused why place → Noted
       rest-refused why place e q = makes-passed _ _ _ _ _ _ _ r after (λ b. 0) (λ b. 0) of-rest (λ k left. refl) (lineRest (drop end s)) why place e q by-rest
 
-      pub note-made : (last : ℕ) (rest : RestAt s end last) (e : Entry) → r ≡ Read last 1 1 → e ≡ unnamed 4 0 parent 0 at (end - 1) → after ≡ lay cells next (e ∷ []) → Noted
+      pub note-made : (last : ℕ) (rest : RestAt s end last) (e : Entry) → r ≡ Read last 1 1 → e ≡ unnamed 4 0 parent 0 at (end - 1)
+          → after ≡ lay cells next (e ∷ []) → Noted
       note-made last rest e q u l =
           let width : end - 1 ≡ at + length (text .it) = omega (arith, text .ends) in
-          makes-read _ _ _ _ _ _ _ r after (record { tabs = tabs; text = text .it; rest = rest .it }) last 1 1 q (rest .inside) (by-rest ∙ ap of-rest (rest .finds)) refl refl
+          makes-read _ _ _ _ _ _ _ r after (record { tabs = tabs; text = text .it; rest = rest .it }) last 1 1 q (rest .inside)
+          (by-rest ∙ ap of-rest (rest .finds)) refl refl
           (l ∙ ap (λ (e : Entry). lay cells next (e ∷ [])) (u ∙ ap (unnamed 4 0 parent 0 at) width))

@@ -1,18 +1,21 @@
--- A byte that is due and a name, read at a place; and the part of a list that a name is. Over plain lists. Assumes nothing.
-use Prim.Native.Nat.{ℕ, _+_, _-_, _≤_}
-use mathlib.Core.Path.{_≡_, ap}
+-- A byte that is due, fixed bytes and a name, read at a place; and the part of a list that a name is. Over plain lists. Assumes nothing.
+use Prim.Native.Nat.{ℕ, _+_, _-_, _≤_, _<_}
+use mathlib.Core.Path.{_≡_, refl, sym, ap, _∙_}
 use mathlib.Core.Bool.{Bool}
-use mathlib.Core.List.{List, _∷_, _++_}
+use mathlib.Core.List.{List, [], _∷_, _++_}
 use native.Mathlib.Omega.{arith}
-use lib.ListN.{length, drop, length-drop, length-append}
+use lib.ListN.{length, getD, drop, length-drop, length-append, drop-of-length-le}
 use lib.Seq.{take-append-seam}
-use Rattle.paper.specs.Found.{found}
+use Rattle.paper.specs.declared.Refusal.{Refusal}
+use Rattle.paper.specs.Found.{Found, found, andThen}
 use Rattle.paper.specs.Reading.{due, name}
+use Rattle.paper.proofs.Finds.{Reads, whole, reads-as, reads-then}
 use Rattle.paper.proofs.Lines.{due-reads, ReadName, name-reads}
-use Rattle.lines.specs.Parts.{seen, passed, part}
+use Rattle.text.proofs.Places.{here}
+use Rattle.lines.specs.Parts.{seen, passed, dueAll, part}
 use Rattle.lines.specs.declared.part.Part.{Part}
-use Rattle.lines.specs.declared.part.Part.the-variants.{Read}
-use Rattle.lines.proofs.Crossing.{found-at}
+use Rattle.lines.specs.declared.part.Part.the-variants.{Read, Refused}
+use Rattle.lines.proofs.Crossing.{found-at, refused-then, says-read}
 
 -- a byte that is due at a place, and is there
 pub record DueAt (c : ℕ) (s : List ℕ) (at end : ℕ) : Type 0 where
@@ -21,10 +24,68 @@ pub record DueAt (c : ℕ) (s : List ℕ) (at end : ℕ) : Type 0 where
   pub next : end ≡ at + 1
   pub inside : end ≤ length s
 
-pub due-at : (c : ℕ) (s : List ℕ) (at : ℕ) (r : Part) (end made mine : ℕ) → at ≤ length s → seen r ≡ passed s (due c (drop at s)) → r ≡ Read end made mine → DueAt c s at end
+pub due-at : (c : ℕ) (s : List ℕ) (at : ℕ) (r : Part) (end made mine : ℕ) → at ≤ length s → seen r ≡ passed s (due c (drop at s)) → r ≡ Read end made mine
+    → DueAt c s at end
 due-at c s at r end made mine h e q =
     let f = found-at (λ b. 0) (λ b. 0) s r (λ b left. drop at s ≡ c ∷ left) at (due c (drop at s)) end made mine e (due-reads c (drop at s)) h q in
     record { it = f .it; finds = f .finds; next = omega (arith, ap length (f .holds), length-drop at s, length-drop end s, f .inside); inside = f .inside }
+
+-- ---- fixed bytes that are due
+
+due-all-reads : (fixed s : List ℕ) → Reads s (λ w left. s ≡ fixed ++ left) (dueAll fixed s)
+unfolding dueAll
+due-all-reads [] s = (whole, refl)
+due-all-reads (b ∷ fixed) s =
+    reads-then s (λ c left. s ≡ b ∷ left) (λ w left. s ≡ b ∷ (fixed ++ left)) (λ c left. dueAll fixed left) (due b s) (due-reads b s)
+    (λ c left e. reads-as left (λ w rest. left ≡ fixed ++ rest) (λ w rest. s ≡ b ∷ (fixed ++ rest)) (dueAll fixed left) (due-all-reads fixed left)
+    (λ w rest f. e ∙ ap (λ (l : List ℕ). b ∷ l) f))
+
+-- fixed bytes that are due at a place, and are there
+pub record AllDueAt (fixed s : List ℕ) (at end : ℕ) : Type 0 where
+  pub it : List ℕ
+  pub finds : dueAll fixed (drop at s) ≡ found it (drop end s)
+  pub inside : end ≤ length s
+
+pub all-due-at : (fixed s : List ℕ) (at : ℕ) (r : Part) (end made mine : ℕ)
+    → at ≤ length s → seen r ≡ passed s (dueAll fixed (drop at s)) → r ≡ Read end made mine → AllDueAt fixed s at end
+all-due-at fixed s at r end made mine h e q =
+    let f =
+    found-at (λ w. 0) (λ w. 0) s r (λ w left. drop at s ≡ fixed ++ left) at (dueAll fixed (drop at s)) end made mine e (due-all-reads fixed (drop at s)) h q in
+    record { it = f .it; finds = f .finds; inside = f .inside }
+
+-- the bytes from the i-th on, due at a place further on, answer as all of them do
+pub record DueFrom (fixed s : List ℕ) (at i place : ℕ) : Type 0 where
+  pub inside : place ≤ length s
+  pub same : passed s (dueAll (drop i fixed) (drop place s)) ≡ passed s (dueAll fixed (drop at s))
+
+pub due-begin : (fixed s : List ℕ) (at : ℕ) → at ≤ length s → DueFrom fixed s at 0 at
+due-begin fixed s at h = record { inside = h; same = refl }
+
+module _ (fixed s : List ℕ) (at i place : ℕ) (so-far : DueFrom fixed s at i place) where
+  pub due-over : length fixed ≤ i → (r : Part) → r ≡ Read place 0 0 → seen r ≡ passed s (dueAll fixed (drop at s))
+  unfolding dueAll
+  due-over h r q =
+      says-read (λ w. 0) (λ w. 0) s (dueAll (drop i fixed) (drop place s)) r [] place 0 0 q (so-far .inside) (rw (drop-of-length-le fixed h)) refl refl
+      ∙ so-far .same
+
+  module _ (h : i < length fixed) (r : Part) (said : seen r ≡ passed s (due (getD fixed i 0) (drop place s))) where
+    abbrev onward : ℕ → List ℕ → Found (List ℕ)
+    onward c left = dueAll (drop (i + 1) fixed) left
+
+    one-more : dueAll (drop i fixed) (drop place s) ≡ andThen (due (getD fixed i 0) (drop place s)) onward
+    unfolding dueAll
+    one-more = rw (here fixed i h)
+
+    pub due-refused : (why : Refusal) (wrong : ℕ) → r ≡ Refused why wrong → seen r ≡ passed s (dueAll fixed (drop at s))
+    due-refused why wrong q =
+        refused-then (λ b. 0) (λ b. 0) s r (λ w. 0) (λ w. 0) onward (due (getD fixed i 0) (drop place s)) why wrong said q
+        ∙ ap (λ (x : Found (List ℕ)). passed s x) (sym one-more) ∙ so-far .same
+
+    pub due-on : (end made mine : ℕ) → r ≡ Read end made mine → DueFrom fixed s at (i + 1) end
+    due-on end made mine q =
+        let d = due-at (getD fixed i 0) s place r end made mine (so-far .inside) said q in
+        let e : dueAll (drop i fixed) (drop place s) ≡ dueAll (drop (i + 1) fixed) (drop end s) = one-more ∙ rw (d .finds) in
+        record { inside = d .inside; same = ap (λ (x : Found (List ℕ)). passed s x) (sym e) ∙ so-far .same }
 
 -- a name that is read from a place to an end
 pub record NameAt (rule : List ℕ → Bool) (s : List ℕ) (at end : ℕ) : Type 0 where
@@ -35,9 +96,11 @@ pub record NameAt (rule : List ℕ → Bool) (s : List ℕ) (at end : ℕ) : Typ
   pub ahead : at ≤ end
   pub inside : end ≤ length s
 
-pub name-at : (rule : List ℕ → Bool) (s : List ℕ) (at : ℕ) (r : Part) (end made mine : ℕ) → at ≤ length s → seen r ≡ passed s (name rule (drop at s)) → r ≡ Read end made mine → NameAt rule s at end
+pub name-at : (rule : List ℕ → Bool) (s : List ℕ) (at : ℕ) (r : Part) (end made mine : ℕ) → at ≤ length s → seen r ≡ passed s (name rule (drop at s))
+    → r ≡ Read end made mine → NameAt rule s at end
 name-at rule s at r end made mine h e q =
-    let f = found-at (λ w. 0) (λ w. 0) s r (λ w left. ReadName rule (drop at s) w left) at (name rule (drop at s)) end made mine e (name-reads rule (drop at s)) h q in
+    let f =
+    found-at (λ w. 0) (λ w. 0) s r (λ w left. ReadName rule (drop at s) w left) at (name rule (drop at s)) end made mine e (name-reads rule (drop at s)) h q in
     record {
       it = f .it;
       finds = f .finds;

@@ -17,7 +17,9 @@ use Rattle.lines.specs.declared.part.Part.the-variants.{Read, Refused}
 use Rattle.lines.proofs.Crossing.{seen-map, passed-on, makes-passed, makes-read}
 
 -- what is made of what is found, where some of its entries are laid before
-pub makes-behind : {A B : Type 0} (make : A → B) (size own : B → ℕ) (of : B → List Entry) (others : A → List Entry) (first : List Entry) (s cells mid : List ℕ) (n : ℕ) (x : Found A) (y : Found B) (r : Part) (after : List ℕ)
+pub makes-behind :
+    {A B : Type 0} (make : A → B) (size own : B → ℕ) (of : B → List Entry) (others : A → List Entry) (first : List Entry) (s cells mid : List ℕ) (n : ℕ)
+    (x : Found A) (y : Found B) (r : Part) (after : List ℕ)
     → y ≡ andThen x (λ a left. found (make a) left) → ((a : A) → of (make a) ≡ first ++ others a) → mid ≡ lay cells n first
     → Makes (λ a. size (make a)) (λ a. own (make a)) others s mid (n + length first) x r after → Makes size own of s cells n y r after
 makes-behind {A} {B} make size own of others first s cells mid n x y r after e o l k =
@@ -26,7 +28,10 @@ makes-behind {A} {B} make size own of others first s cells mid n x y r after e o
     go : (z : Found A) → x ≡ z → (b : B) (left : List ℕ) → andThen z (λ a end. found (make a) end) ≡ found b left → after ≡ lay cells n (of b)
     go (found a end) p b left f =
         let q : make a ≡ b = cc in
-        k .laid a end p ∙ ap (λ (c : List ℕ). lay c (n + length first) (others a)) l ∙ lay-append cells n first (others a) ∙ ap (lay cells n) (sym (o a) ∙ ap of q)
+        k .laid a end p
+        ∙ ap (λ (c : List ℕ). lay c (n + length first) (others a)) l
+        ∙ lay-append cells n first (others a)
+        ∙ ap (lay cells n) (sym (o a) ∙ ap of q)
     go (fault j end) p b left f = let no : _≡_ {A = ℕ} 0 1 = cc in absurd (omega arith)
 
 module _ {A : Type 0} (size : A → ℕ) (turn : ℕ → List ℕ → Turn A) (shorter : (room : ℕ) (s : List ℕ) → Shorter s (turn room s)) (room : ℕ) (l : List ℕ) where
@@ -44,28 +49,37 @@ module _ {A : Type 0} (size : A → ℕ) (turn : ℕ → List ℕ → Turn A) (s
 
   -- a part of the turn is refused, and the whole run with it
   pub turn-refused : {B : Type 0} (many mine : B → ℕ) (s : List ℕ) (outer : Found B → Turn A) → ((n : ℕ) (left : List ℕ) → outer (fault n left) ≡ stop n left)
-      → (f g : List A → ℕ) (x : Found B) (r : Part) (why : Refusal) (place : ℕ) → seen r ≡ seenOf many mine s x → r ≡ Refused why place → turn room l ≡ outer x → seen r ≡ seenOf f g s (manyOf size turn room l)
+      → (f g : List A → ℕ) (x : Found B) (r : Part) (why : Refusal) (place : ℕ) → seen r ≡ seenOf many mine s x → r ≡ Refused why place → turn room l ≡ outer x
+      → seen r ≡ seenOf f g s (manyOf size turn room l)
   turn-refused many mine s outer keeps f g x r why place e q t =
-      rw (by-turn, t) (passed-on many mine s r f g (λ y. goOn (λ a left. manyOf size turn (room - size a) left) (outer y)) (λ n left. ap (goOn (λ a left. manyOf size turn (room - size a) left)) (keeps n left)) x why place e q)
+      rw (by-turn, t)
+      (passed-on many mine s r f g (λ y. goOn (λ a left. manyOf size turn (room - size a) left) (outer y))
+      (λ n left. ap (goOn (λ a left. manyOf size turn (room - size a) left)) (keeps n left)) x why place e q)
 
   -- ---- the same with entries
 
   pub makes-over : (f g : List A → ℕ) (of : List A → List Entry) (s cells : List ℕ) (n : ℕ) (r : Part) (end made mine : ℕ)
-      → turn room l ≡ over (drop end s) → r ≡ Read end made mine → end ≤ length s → made ≡ f [] → mine ≡ g [] → of [] ≡ [] → Makes f g of s cells n (manyOf size turn room l) r cells
+      → turn room l ≡ over (drop end s) → r ≡ Read end made mine → end ≤ length s → made ≡ f [] → mine ≡ g [] → of [] ≡ []
+      → Makes f g of s cells n (manyOf size turn room l) r cells
   makes-over f g of s cells n r end made mine t e h p q z =
-      makes-read f g of s cells n (manyOf size turn room l) r cells [] end made mine e h (turn-over (drop end s) t) p q (sym (lay-none cells n) ∙ ap (lay cells n) (sym z))
+      makes-read f g of s cells n (manyOf size turn room l) r cells [] end made mine e h (turn-over (drop end s) t) p q
+      (sym (lay-none cells n) ∙ ap (lay cells n) (sym z))
 
   pub makes-stop : {B : Type 0} (many mine : B → ℕ) (outer : Found B → Turn A) → ((n : ℕ) (left : List ℕ) → outer (fault n left) ≡ stop n left)
       → (f g : List A → ℕ) (of : List A → List Entry) (s cells : List ℕ) (n : ℕ) (x : Found B) (r : Part) (after : List ℕ) (why : Refusal) (place : ℕ)
       → seen r ≡ seenOf many mine s x → r ≡ Refused why place → turn room l ≡ outer x → Makes f g of s cells n (manyOf size turn room l) r after
   makes-stop many mine outer keeps f g of s cells n x r after why place e q t =
       let rest : A → List ℕ → Found (List A) = λ a left. manyOf size turn (room - size a) left in
-      makes-passed f g of s cells n (manyOf size turn room l) r after many mine (λ y. goOn rest (outer y)) (λ k left. ap (goOn rest) (keeps k left)) x why place e q (by-turn ∙ ap (goOn rest) t)
+      makes-passed f g of s cells n (manyOf size turn room l) r after many mine (λ y. goOn rest (outer y)) (λ k left. ap (goOn rest) (keeps k left)) x why place
+      e q (by-turn ∙ ap (goOn rest) t)
 
   -- the first thing's entries are laid, and the rest of the run goes on behind them
-  pub makes-more : (f g : List A → ℕ) (of others : List A → List Entry) (first : List Entry) (s cells mid : List ℕ) (n : ℕ) (a : A) (left : List ℕ) (r : Part) (after : List ℕ)
+  pub makes-more :
+      (f g : List A → ℕ) (of others : List A → List Entry) (first : List Entry) (s cells mid : List ℕ) (n : ℕ) (a : A) (left : List ℕ) (r : Part)
+      (after : List ℕ)
       → turn room l ≡ more a left → ((things : List A) → of (a ∷ things) ≡ first ++ others things) → mid ≡ lay cells n first
       → Makes (λ things. f (a ∷ things)) (λ things. g (a ∷ things)) others s mid (n + length first) (manyOf size turn (room - size a) left) r after
       → Makes f g of s cells n (manyOf size turn room l) r after
   makes-more f g of others first s cells mid n a left r after t o m k =
-      makes-behind (λ things. a ∷ things) f g of others first s cells mid n (manyOf size turn (room - size a) left) (manyOf size turn room l) r after (by-turn ∙ rw t) o m k
+      makes-behind (λ things. a ∷ things) f g of others first s cells mid n (manyOf size turn (room - size a) left) (manyOf size turn room l) r after
+      (by-turn ∙ rw t) o m k

@@ -2,17 +2,20 @@
 -- Document 01, "Order" and "Entries".
 use Prim.Native.Nat.{ℕ, _+_, _-_, _≤_}
 use mathlib.Core.Path.{_≡_}
-use mathlib.Core.Bool.{Bool, true}
+use mathlib.Core.Bool.{Bool, true, false}
 use mathlib.Core.List.{List, [], _∷_}
 use lib.ListN.{length, take, drop}
 use Rattle.paper.specs.Answer.{numberOf}
-use Rattle.paper.specs.Found.{Found, found, fault, Turn, more, over, stop, placeIn}
+use Rattle.paper.specs.Found.{Found, found, fault, andThen, Turn, more, over, stop, placeIn}
+use Rattle.paper.specs.Bytes.{isBlank, front, behind}
 use Rattle.paper.specs.Names.{isConceptName, isTraitName}
 use Rattle.paper.specs.Limits.{sheetLimit}
-use Rattle.paper.specs.Tree.{Annotation, Concept, selfClosed, children, content}
+use Rattle.paper.specs.Tree.{Annotation, Marker, Concept, selfClosed, children, content}
 use Rattle.paper.specs.Grammar.{blankOnto, linesOnto}
-use Rattle.paper.specs.Entries.{Entry, unnamed}
+use Rattle.paper.specs.Entries.{Entry, unnamed, annotationEntries}
+use Rattle.paper.specs.Reading.{due, annotation, annotations, closesLine, lineTurn, contentOf, lastBlanks}
 use Rattle.entries.specs.Laid.{lay}
+use Rattle.entries.specs.declared.Slot.{Slot}
 use Rattle.lines.specs.declared.part.Part.{Part}
 use Rattle.lines.specs.declared.part.Part.the-variants.{Read, Refused}
 use Rattle.lines.specs.declared.part.Whose.{Whose}
@@ -42,6 +45,11 @@ abbrev pub turned : {A : Type 0} → List ℕ → Turn A → Seen
 turned s (more a left) = record { number = 0; place = placeIn s left; made = 0; own = 0 }
 turned s (over left) = record { number = 0; place = placeIn s left; made = 0; own = 0 }
 turned s (stop n left) = record { number = n; place = placeIn s left; made = 0; own = 0 }
+
+-- fixed bytes are due, each where the one before it ends
+unfoldable pub dueAll : List ℕ → List ℕ → Found (List ℕ)
+dueAll [] s = found [] s
+dueAll (b ∷ fixed) s = andThen (due b s) (λ c left. dueAll fixed left)
 
 -- what makes entries: the answer, and the cells with the entries of what is found laid from number n on
 pub record Makes {A : Type 0} (size own : A → ℕ) (of : A → List Entry) (s cells : List ℕ) (n : ℕ) (x : Found A) (r : Part) (after : List ℕ) : Type 0 where
@@ -73,3 +81,29 @@ contentEntries parent tabs at (selfClosed k) = []
 contentEntries parent tabs at (children k rest inner back) = []
 contentEntries parent tabs at (content k rest lines) =
     unnamed 5 0 parent 0 (at + length (blankOnto rest [])) (at + length (blankOnto rest []) + length (linesOnto tabs lines [])) ∷ []
+
+-- ---- what is promised of an answer, and of the cells as they are after it, where the first entry goes to a slot
+
+-- an annotation, whose text stands at a place
+abbrev pub MakesNote : List ℕ → ℕ → List ℕ → Slot → Part → List ℕ → Type 0
+MakesNote s at cells slot r after =
+    (tabs : ℕ) → Makes (λ a. 1) (λ a. 1) (noteEntries (slot .parent) at) s cells (slot .next) (annotation (slot .room - slot .next) tabs (drop at s)) r after
+
+-- the annotations that stand at a place
+abbrev pub MakesNotes : List ℕ → ℕ → List ℕ → Slot → Part → List ℕ → Type 0
+MakesNotes s at cells slot r after =
+    Makes length length (annotationEntries (slot .parent) at) s cells (slot .next) (annotations (slot .room - slot .next) (drop at s)) r after
+
+-- the Content of a Concept whose opening marker has so many tabs and ends at a place; its name stands from one place to another
+abbrev pub MakesContent : List ℕ → ℕ → ℕ → ℕ → ℕ → List ℕ → Slot → Part → List ℕ → Type 0
+MakesContent s at tabs from to cells slot r after =
+    (k : Marker) → k .name ≡ part s from to
+    → Makes (λ c. 1) (λ c. 1) (contentEntries (slot .parent) tabs at) s cells (slot .next) (contentOf tabs (slot .room - slot .next) k (drop at s)) r after
+
+-- a line of Content at a place, whatever name it does not close
+abbrev pub PassesLine : List ℕ → ℕ → ℕ → Part → Type 0
+PassesLine s at tabs r = (w : List ℕ) → closesLine tabs w (drop at s) ≡ false → seen r ≡ turned s (lineTurn tabs w 0 (drop at s))
+
+-- the blanks behind the root's last blank line
+abbrev pub blanksAtEnd : List ℕ → Found (List ℕ)
+blanksAtEnd s = lastBlanks (front isBlank s) (behind isBlank s)

@@ -16,16 +16,15 @@ use text::parts::starts_with;
 use text::runs;
 use text::runs::Class;
 ghost use mathlib.Core.Path.{_≡_};
-ghost use Prim.Native.Nat.{ℕ, _-_, _≤_};
+ghost use Prim.Native.Nat.{_≤_};
 ghost use lib.ListN.{length, drop};
 ghost use Rattle.paper.specs.Bytes.{bytes, elem};
-ghost use Rattle.paper.specs.Reading.{textOf, annotation, annotations};
-ghost use Rattle.paper.specs.Entries.{annotationEntries};
+ghost use Rattle.paper.specs.Reading.{textOf};
 ghost use Rattle.entries.specs.Laid.{Fits};
-ghost use Rattle.lines.specs.Parts.{seen, passed, Makes, In, noteEntries};
+ghost use Rattle.lines.specs.Parts.{seen, passed, In, MakesNote, MakesNotes};
 
 // Past the text of an annotation that stands at `at`, and its "]".
-pub fn text_end(s: &[u8], at: usize) -> Part
+fn text_end(s: &[u8], at: usize) -> Part
     requires { ⌜ at ≤ length (now s) ⌝ }
     ensures { λ r. ⌜ seen r ≡ passed (now (s .entry)) (textOf (drop at (now (s .entry)))) ⌝ }
 {
@@ -64,27 +63,17 @@ fn is_escaped(b: u8) -> bool
 // Reads the annotation whose text stands at `at`, behind its "[", with the rest of its line, and enters it.
 fn read_one(s: &[u8], at: usize, cells: &mut [u32], slot: Slot) -> Part
     requires { ⌜ In (now s) at × Fits (now cells) slot ⌝ }
-    ensures { λ r. ⌜ ((tabs : ℕ) → Makes (λ a. 1) (λ a. 1) (noteEntries (slot .parent) at) (now (s .entry)) (now (cells .entry)) (slot .next) (annotation (slot .room - slot .next) tabs (drop at (now (s .entry)))) r (now (cells .exit))) ⌝ }
+    ensures { λ r. ⌜ MakesNote (now (s .entry)) at (now (cells .entry)) slot r (now (cells .exit)) ⌝ }
 {
     let text = text_end(s, at);
-    let Part::Read {
-        end,
-        made: _,
-        own: _,
-    } = text
-    else {
+    let Part::Read { end, .. } = text else {
         return text;
     };
     if slot.is_full() {
         return refused(Refusal::NoEntryLeft, at);
     }
     let rest = line_rest(s, end);
-    let Part::Read {
-        end: next,
-        made: _,
-        own: _,
-    } = rest
-    else {
+    let Part::Read { end: next, .. } = rest else {
         return rest;
     };
     let n = slot.next;
@@ -110,7 +99,7 @@ fn read_one(s: &[u8], at: usize, cells: &mut [u32], slot: Slot) -> Part
 // Reads the annotations that stand at `at`, each on a line of its own, and enters them.
 pub fn read_all(s: &[u8], at: usize, cells: &mut [u32], slot: Slot) -> Part
     requires { ⌜ In (now s) at × Fits (now cells) slot ⌝ }
-    ensures { λ r. ⌜ Makes length length (annotationEntries (slot .parent) at) (now (s .entry)) (now (cells .entry)) (slot .next) (annotations (slot .room - slot .next) (drop at (now (s .entry)))) r (now (cells .exit)) ⌝ }
+    ensures { λ r. ⌜ MakesNotes (now (s .entry)) at (now (cells .entry)) slot r (now (cells .exit)) ⌝ }
 {
     let mut i = at;
     let mut made = 0;
@@ -124,12 +113,7 @@ pub fn read_all(s: &[u8], at: usize, cells: &mut [u32], slot: Slot) -> Part
             };
         }
         let one = read_one(s, mark + 1, cells, slot.after(made));
-        let Part::Read {
-            end,
-            made: _,
-            own: _,
-        } = one
-        else {
+        let Part::Read { end, .. } = one else {
             return one;
         };
         i = end;

@@ -13,9 +13,8 @@ use text::runs::Class;
 ghost use mathlib.Core.Path.{_≡_};
 ghost use lib.ListN.{length, drop};
 ghost use Prim.Native.Nat.{_≤_};
-ghost use Rattle.paper.specs.Bytes.{isBlank, front, behind};
-ghost use Rattle.paper.specs.Reading.{isBlankLine, blankLines, tabsOnly, lastBlanks};
-ghost use Rattle.lines.specs.Parts.{seen, passed};
+ghost use Rattle.paper.specs.Reading.{isBlankLine, blankLines, tabsOnly};
+ghost use Rattle.lines.specs.Parts.{seen, passed, blanksAtEnd};
 
 // Whether a whole line of spaces and tabs stands at `at`.
 pub fn is_blank_line(s: &[u8], at: usize) -> bool
@@ -37,12 +36,7 @@ pub fn blank_lines(s: &[u8], at: usize) -> Part
     let mut i = at;
     while is_blank_line(s, i) {
         let line = line_rest(s, i);
-        let Part::Read {
-            end,
-            made: _,
-            own: _,
-        } = line
-        else {
+        let Part::Read { end, .. } = line else {
             return line;
         };
         i = end;
@@ -70,7 +64,7 @@ pub fn tabs_only(s: &[u8], at: usize) -> Part
 // Past the blanks that the end of input cuts: nothing else may stand behind the root's last blank line.
 pub fn last_blanks(s: &[u8], at: usize) -> Part
     requires { ⌜ at ≤ length (now s) ⌝ }
-    ensures { λ r. ⌜ seen r ≡ passed (now (s .entry)) (lastBlanks (front isBlank (drop at (now (s .entry)))) (behind isBlank (drop at (now (s .entry))))) ⌝ }
+    ensures { λ r. ⌜ seen r ≡ passed (now (s .entry)) (blanksAtEnd (drop at (now (s .entry)))) ⌝ }
 {
     let end = runs::end(s, at, Class::Blank);
     if end < s.len() {

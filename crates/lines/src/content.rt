@@ -1,6 +1,8 @@
 // Content: lines of text one tab deeper than their marker, up to the closing line.
 // Document 01, "The grammar", Content; refusals 7, 9 and 11.
 use crate::blank::is_blank_line;
+use crate::marks::CLOSING;
+use crate::marks::END;
 use crate::part::Part;
 use crate::part::cut;
 use crate::part::line_end;
@@ -17,17 +19,15 @@ use text::parts::starts_with;
 use text::runs;
 use text::runs::Class;
 ghost use mathlib.Core.Path.{_≡_};
-ghost use mathlib.Core.Bool.{false};
-ghost use mathlib.Core.List.{List};
-ghost use Prim.Native.Nat.{ℕ, _-_, _≤_};
+ghost use Prim.Native.Nat.{_≤_};
 ghost use lib.ListN.{length, drop};
 ghost use Rattle.paper.specs.Bytes.{isBlank, behind};
-ghost use Rattle.paper.specs.Reading.{atLineEnd, closesLine, lineTurn, contentOf};
-ghost use Rattle.paper.specs.Tree.{Marker};
+ghost use Rattle.paper.specs.Reading.{atLineEnd, closesLine};
 ghost use Rattle.entries.specs.Laid.{Fits};
-ghost use Rattle.lines.specs.Parts.{seen, turned, Makes, In, part, contentEntries};
+ghost use Rattle.lines.specs.Parts.{In, part, PassesLine, MakesContent};
 
-// Whether the line at `at` closes Content: exactly so many tabs, the closing marker of the name that stands from `from` to `to`, and blanks.
+// Whether the line at `at` closes Content: exactly so many tabs, the closing marker of the name that stands from `from`
+// to `to`, and blanks.
 fn closes(s: &[u8], at: usize, tabs: usize, from: usize, to: usize) -> bool
     requires { ⌜ (at ≤ length (now s)) × (from ≤ to) × (to ≤ length (now s)) ⌝ }
     ensures { λ r. ⌜ r ≡ closesLine tabs (part (now (s .entry)) from to) (drop at (now (s .entry))) ⌝ }
@@ -36,17 +36,18 @@ fn closes(s: &[u8], at: usize, tabs: usize, from: usize, to: usize) -> bool
     if mark - at != tabs {
         return false;
     }
-    if !starts_with(s, mark, b"</") {
+    if !starts_with(s, mark, &CLOSING) {
         return false;
     }
-    if !starts_with(s, mark + 2, &s[from..to]) {
+    let start = mark + CLOSING.len();
+    if !starts_with(s, start, &s[from..to]) {
         return false;
     }
-    let end = mark + 2 + (to - from);
-    if !starts_with(s, end, b">") {
+    let end = start + (to - from);
+    if !starts_with(s, end, &END) {
         return false;
     }
-    is_over(s, end + 1)
+    is_over(s, end + END.len())
 }
 
 // Whether only blanks stand from `at` on before the end of the line or of the input.
@@ -64,7 +65,7 @@ fn is_over(s: &[u8], at: usize) -> bool
 // Past a line that does not close Content: a blank one, or text behind one tab more than the marker has.
 fn read_line(s: &[u8], at: usize, tabs: usize) -> Part
     requires { ⌜ at ≤ length (now s) ⌝ }
-    ensures { λ r. ⌜ ((w : List ℕ) → closesLine tabs w (drop at (now (s .entry))) ≡ false → seen r ≡ turned (now (s .entry)) (lineTurn tabs w 0 (drop at (now (s .entry))))) ⌝ }
+    ensures { λ r. ⌜ PassesLine (now (s .entry)) at tabs r ⌝ }
 {
     if is_blank_line(s, at) {
         return line_rest(s, at);
@@ -92,15 +93,10 @@ pub fn read_content(
     slot: Slot,
 ) -> Part
     requires { ⌜ In (now s) at × Fits (now cells) slot × (from ≤ to) × (to ≤ length (now s)) ⌝ }
-    ensures { λ r. ⌜ ((k : Marker) → k .name ≡ part (now (s .entry)) from to → Makes (λ c. 1) (λ c. 1) (contentEntries (slot .parent) tabs at) (now (s .entry)) (now (cells .entry)) (slot .next) (contentOf tabs (slot .room - slot .next) k (drop at (now (s .entry)))) r (now (cells .exit))) ⌝ }
+    ensures { λ r. ⌜ MakesContent (now (s .entry)) at tabs from to (now (cells .entry)) slot r (now (cells .exit)) ⌝ }
 {
     let rest = line_rest(s, at);
-    let Part::Read {
-        end: start,
-        made: _,
-        own: _,
-    } = rest
-    else {
+    let Part::Read { end: start, .. } = rest else {
         return rest;
     };
     if slot.is_full() {
@@ -109,12 +105,7 @@ pub fn read_content(
     let mut i = start;
     while !closes(s, i, tabs, from, to) {
         let line = read_line(s, i, tabs);
-        let Part::Read {
-            end,
-            made: _,
-            own: _,
-        } = line
-        else {
+        let Part::Read { end, .. } = line else {
             return line;
         };
         i = end;
@@ -133,7 +124,7 @@ pub fn read_content(
         ),
     );
     Part::Read {
-        end: i + tabs + 3 + (to - from),
+        end: i + tabs + CLOSING.len() + (to - from) + END.len(),
         made: 1,
         own: 1,
     }

@@ -2,7 +2,7 @@
 // Document 01, "The grammar", Markers; refusals 7, 8 and 9.
 use crate::part::Part;
 use crate::part::Whose;
-use crate::part::byte_due;
+use crate::part::bytes_due;
 use crate::part::name_end;
 use crate::part::refused;
 use paper::Refusal;
@@ -15,42 +15,31 @@ ghost use Rattle.paper.specs.Reading.{ending, closing};
 ghost use Rattle.lines.specs.Parts.{seen, passed, part};
 ghost use Rattle.lines.specs.Endings.{ended, endedOf, faultHere};
 
+// How a closing marker starts, before its Concept's name.
+pub const CLOSING: [u8; 2] = *b"</";
+
+// How a marker ends, and one that closes its Concept at once.
+pub const END: [u8; 1] = *b">";
+
+const CLOSED_END: [u8; 2] = *b"/>";
+
 // Reads the closing marker that is due at `at`, of the Concept whose name stands from `from` to `to`.
 pub fn read_closing(s: &[u8], at: usize, from: usize, to: usize) -> Part
     requires { ⌜ (at ≤ length (now s)) × (from ≤ to) × (to ≤ length (now s)) ⌝ }
     ensures { λ r. ⌜ seen r ≡ passed (now (s .entry)) (closing (part (now (s .entry)) from to) (drop at (now (s .entry)))) ⌝ }
 {
-    let less = byte_due(s, at, b'<');
-    let Part::Read {
-        end: slash,
-        made: _,
-        own: _,
-    } = less
-    else {
-        return less;
-    };
-    let mark = byte_due(s, slash, b'/');
-    let Part::Read {
-        end: start,
-        made: _,
-        own: _,
-    } = mark
-    else {
+    let mark = bytes_due(s, at, &CLOSING);
+    let Part::Read { end: start, .. } = mark else {
         return mark;
     };
     let name = name_end(s, start, Whose::Closings);
-    let Part::Read {
-        end,
-        made: _,
-        own: _,
-    } = name
-    else {
+    let Part::Read { end, .. } = name else {
         return name;
     };
     if !same(&s[from..to], &s[start..end]) {
         return refused(Refusal::ClosingName, start);
     }
-    byte_due(s, end, b'>')
+    bytes_due(s, end, &END)
 }
 
 // How an opening marker ends, and where: a block opens, or the Concept is closed at once. Or it is refused.
@@ -65,11 +54,11 @@ pub fn read_ending(s: &[u8], at: usize) -> Ending
     requires { ⌜ at ≤ length (now s) ⌝ }
     ensures { λ r. ⌜ ended r ≡ endedOf (now (s .entry)) (ending (drop at (now (s .entry)))) ⌝ }
 {
-    if starts_with(s, at, b">") {
-        return Ending::Block(at + 1);
+    if starts_with(s, at, &END) {
+        return Ending::Block(at + END.len());
     }
-    if starts_with(s, at, b"/>") {
-        return Ending::Closed(at + 2);
+    if starts_with(s, at, &CLOSED_END) {
+        return Ending::Closed(at + CLOSED_END.len());
     }
     if starts_with(s, at, b"/") {
         return no_ending(s, at + 1);

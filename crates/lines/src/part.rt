@@ -12,7 +12,7 @@ ghost use Prim.Native.Nat.{_≤_};
 ghost use Rattle.paper.specs.declared.Refusal.{Refusal};
 ghost use Rattle.paper.specs.Reading.{due, name, lineEnd, lineRest};
 ghost use mathlib.Core.List.{[]};
-ghost use Rattle.lines.specs.Parts.{seen, passed, ruleOf};
+ghost use Rattle.lines.specs.Parts.{seen, passed, dueAll, ruleOf};
 
 // A part was read up to its end: how many entries it made, and how many of them name the part's Concept as parent. Or it is refused.
 pub enum Part {
@@ -56,6 +56,24 @@ pub fn byte_due(s: &[u8], at: usize, b: u8) -> Part
         return refused(Refusal::Due, at);
     }
     past(at + 1)
+}
+
+// Fixed bytes are due at `at`. The first that is not there is at fault.
+pub fn bytes_due(s: &[u8], at: usize, fixed: &[u8]) -> Part
+    requires { ⌜ at ≤ length (now s) ⌝ }
+    ensures { λ r. ⌜ seen r ≡ passed (now (s .entry)) (dueAll (now (fixed .entry)) (drop at (now (s .entry)))) ⌝ }
+{
+    let mut place = at;
+    let mut i = 0;
+    while i < fixed.len() {
+        let byte = byte_due(s, place, fixed[i]);
+        let Part::Read { end, .. } = byte else {
+            return byte;
+        };
+        place = end;
+        i += 1;
+    }
+    past(place)
 }
 
 // Whose name is read: a Concept's, a trait's, or a closing marker's, which is only compared.

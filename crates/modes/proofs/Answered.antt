@@ -26,7 +26,8 @@ pub no-acceptance : {X : Type 0} (p n q : ℕ) → accepted p n ≡ refused 1 q 
 no-acceptance p n q e = let z : _≡_ {A = ℕ} 0 1 = number-told e in absurd (omega arith)
 
 -- what keeps the faults of an inner reading tells its refusal as it stands
-pub passed-on : {A : Type 0} (many : A → ℕ) (t : List ℕ) (outer : Found A → Told) → ((k : ℕ) (left : List ℕ) → outer (fault k left) ≡ refused k (placeIn t left))
+pub passed-on : {A : Type 0} (many : A → ℕ) (t : List ℕ) (outer : Found A → Told)
+    → ((k : ℕ) (left : List ℕ) → outer (fault k left) ≡ refused k (placeIn t left))
     → (x : Found A) (a : Answer) (why : Refusal) (p : ℕ) → told a ≡ toldOf many t x → a ≡ Refused why p → told a ≡ outer x
 passed-on many t outer keeps (fault k left) a why p e r = e ∙ sym (keeps k left)
 passed-on many t outer keeps (found b left) a why p e r = absurd (number-positive why (number-told (rw r at e)))

@@ -60,7 +60,8 @@ pub record Section (t : List ℕ) (at : ℕ) (names : List (List ℕ)) (left : L
   pub behind : Names (getD t at 0) (drop (at + 1) t) names left
 
 module _ (t : List ℕ) (before : List (List ℕ)) (at : ℕ) where
-  within-limit : at < length t → getD t at 0 ≤ sectionLimit → (x : Found (List (List ℕ))) → Good (Names (getD t at 0) (drop (at + 1) t)) x → Good (Section t at) x
+  within-limit : at < length t → getD t at 0 ≤ sectionLimit → (x : Found (List (List ℕ))) → Good (Names (getD t at 0) (drop (at + 1) t)) x
+      → Good (Section t at) x
   within-limit h l (fault k left) g = g
   within-limit h l (found names left) g = record { inside = h; few = l; behind = g }
 

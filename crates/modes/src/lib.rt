@@ -5,13 +5,12 @@ use paper::Mode;
 use paper::Refusal;
 use text::parts;
 ghost use mathlib.Core.Path.{_≡_};
-ghost use mathlib.Core.List.{_++_};
 ghost use Prim.Native.Nat.{_≤_};
 ghost use lib.ListN.{length, drop};
 ghost use Rattle.paper.specs.Answer.{told, refused};
 ghost use Rattle.paper.specs.Names.{among};
-ghost use Rattle.paper.specs.Modes.{section, readTable, modeOf};
-ghost use Rattle.modes.specs.Table.{namesOf, Whole, searched, nameAt, one, toldOf, Valid, modesOf};
+ghost use Rattle.paper.specs.Modes.{readTable, modeOf};
+ghost use Rattle.modes.specs.Table.{Whole, namesBefore, sectionAt, searched, nameAt, one, toldOf, Valid, modesOf};
 
 // A section has at most so many names.
 const SECTION_LIMIT: usize = 64;
@@ -71,7 +70,7 @@ pub fn mode_of(table: &[u8], name: &[u8]) -> Mode
 // place past the section and how many names it has.
 fn read_section(table: &[u8], at: usize, earlier: usize) -> Answer
     requires { ⌜ (at ≤ length (now table)) × Whole earlier (drop 1 (now table)) ⌝ }
-    ensures { λ r. ⌜ told r ≡ toldOf length (now (table .entry)) (section (namesOf earlier (drop 1 (now (table .entry)))) (drop at (now (table .entry)))) ⌝ }
+    ensures { λ r. ⌜ told r ≡ toldOf length (now (table .entry)) (sectionAt (now (table .entry)) earlier at) ⌝ }
 {
     if at == table.len() {
         return refuse(at);
@@ -85,11 +84,7 @@ fn read_section(table: &[u8], at: usize, earlier: usize) -> Answer
     let mut i = 0;
     while i < count {
         let answer = read_name(table, place);
-        let Answer::Accepted {
-            place: end,
-            count: _,
-        } = answer
-        else {
+        let Answer::Accepted { place: end, .. } = answer else {
             return answer;
         };
         let letters = place + 1;
@@ -131,7 +126,7 @@ fn read_name(table: &[u8], at: usize) -> Answer
 // Whether the name is among the first `earlier` names of the table or the `count` names that stand from `start` on.
 fn stands_earlier(table: &[u8], earlier: usize, start: usize, count: usize, name: &[u8]) -> bool
     requires { ⌜ Whole earlier (drop 1 (now table)) × Whole count (drop start (now table)) ⌝ }
-    ensures { λ r. ⌜ r ≡ among (namesOf earlier (drop 1 (now (table .entry))) ++ namesOf count (drop start (now (table .entry)))) (now (name .entry)) ⌝ }
+    ensures { λ r. ⌜ r ≡ among (namesBefore (now (table .entry)) earlier start count) (now (name .entry)) ⌝ }
 {
     let Search::Past(_) = find(table, 1, earlier, name) else {
         return true;

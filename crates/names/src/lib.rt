@@ -8,7 +8,8 @@ ghost use mathlib.Core.Bool.{_&&_};
 ghost use Prim.Native.Nat.{_+_, _≤_};
 ghost use lib.ListN.{length, drop};
 ghost use lib.Dec.{leb};
-ghost use Rattle.paper.specs.Names.{nameLimit, runLength, fewCapitals, isConceptName, isTraitName};
+ghost use Rattle.paper.specs.Bytes.{within};
+ghost use Rattle.paper.specs.Names.{nameLimit, runLength, fewCapitals, isName, isConceptName, isTraitName};
 
 // Names are at most so many bytes.
 pub const LIMIT: usize = 32;
@@ -28,20 +29,24 @@ pub fn run_end(s: &[u8], at: usize) -> usize
 pub fn is_concept_name(name: &[u8]) -> bool
     ensures { λ r. ⌜ r ≡ isConceptName (now (name .entry)) ⌝ }
 {
-    if name.len() == 0 {
-        return false;
-    }
-    classes::is_upper(name[0]) && keeps_rule(name)
+    is_name(name, b'A', b'Z')
 }
 
 // Whether the name keeps to the rule of a trait's name.
 pub fn is_trait_name(name: &[u8]) -> bool
     ensures { λ r. ⌜ r ≡ isTraitName (now (name .entry)) ⌝ }
 {
+    is_name(name, b'a', b'z')
+}
+
+// Whether the name keeps to the rule and starts with a byte from `low` to `high`.
+fn is_name(name: &[u8], low: u8, high: u8) -> bool
+    ensures { λ r. ⌜ r ≡ isName (within low high) nameLimit (now (name .entry)) ⌝ }
+{
     if name.len() == 0 {
         return false;
     }
-    classes::is_lower(name[0]) && keeps_rule(name)
+    classes::is_within(low, high, name[0]) && keeps_rule(name)
 }
 
 // The rule but for how a name starts: letters and digits, few capitals in a row, within the limit.

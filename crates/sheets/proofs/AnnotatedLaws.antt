@@ -22,12 +22,11 @@ use Rattle.entries.specs.Laid.{lay, slotAfter}
 use Rattle.entries.specs.declared.Slot.{Slot}
 use Rattle.entries.proofs.Laying.{lay-append}
 use Rattle.entries.proofs.Slots.{fits-after}
-use Rattle.lines.specs.Parts.{Makes}
+use Rattle.lines.specs.Parts.{Makes, MakesNotes}
 use Rattle.lines.specs.declared.part.Part.{Part}
 use Rattle.lines.specs.declared.part.Part.the-variants.{Read, Refused}
 use Rattle.lines.proofs.Crossing.{FoundAt, found-at, makes-passed, makes-read}
 use Rattle.lines.proofs.Lengths.{notes-long}
-use Rattle.lines.proofs.NoteRuns.{All}
 use Rattle.sheets.specs.Concepts.{Ready, wholeConcept, ReadsConcept, annotatedEntries, ReadsAnnotated}
 use Rattle.sheets.proofs.Slots.{stands-on}
 
@@ -50,7 +49,7 @@ pub record NotesAt (table s : List ℕ) (at : ℕ) (cells : List ℕ) (slot : Sl
   pub laid : mid ≡ lay cells (slot .next) (annotationEntries (slot .parent) at it)
 
 module _ {table s : List ℕ} {at : ℕ} {cells : List ℕ} {slot : Slot} (h : Ready table s at cells slot) {notes : Part} {mid : List ℕ}
-    (n : All s at cells slot notes mid) where
+    (n : MakesNotes s at cells slot notes mid) where
   pub notes-refused : (deeper : ℕ) {why : Refusal} {place : ℕ} → notes ≡ Refused why place → ReadsAnnotated table s at deeper cells slot notes mid
   notes-refused deeper {why} {place} q =
       let room = slot .room - slot .next in

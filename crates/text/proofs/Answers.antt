@@ -25,7 +25,8 @@ pub record FoundTo {A : Type 0} (P : A → List ℕ → Type 0) (s : List ℕ) (
   pub ahead : at ≤ end
   pub inside : end ≤ length s
 
-pub found-to : {A : Type 0} (P : A → List ℕ → Type 0) (s : List ℕ) (at : ℕ) (x : Found A) (end : ℕ) → Tells s x 0 end → Reads (drop at s) P x → at ≤ length s → FoundTo P s at x end
+pub found-to : {A : Type 0} (P : A → List ℕ → Type 0) (s : List ℕ) (at : ℕ) (x : Found A) (end : ℕ) → Tells s x 0 end → Reads (drop at s) P x → at ≤ length s
+    → FoundTo P s at x end
 found-to P s at (found a left) end t h l =
     let k = left-at s at l (h .0) in
     let d : left ≡ drop end s = k .same ∙ ap (λ (k : ℕ). drop k s) (sym (t .1)) in

@@ -84,8 +84,14 @@ module _ (s : List ℕ) (at : ℕ) where
 
     pub check-on : mayStand v (drop next s) ≡ true → checkedAt s next ≡ checkedAt s at
     check-on m =
-        rw (here s at inside-here, scalars-on (length (drop (at + 1) s)) (getD s at 0) (drop (at + 1) s) v (drop next s) reads-here m, more-values s v (scalars (length (drop (at + 1) s)) (drop next s)))
-        (ap (checkedOf s) (scalars-fuel (length (drop next s)) (length (drop (at + 1) s)) (drop next s) (omega arith) (omega (arith, length-drop (at + 1) s, length-drop next s))))
+        rw (
+          here s at inside-here,
+          scalars-on (length (drop (at + 1) s)) (getD s at 0) (drop (at + 1) s) v (drop next s) reads-here m,
+          more-values s v (scalars (length (drop (at + 1) s)) (drop next s)),
+        )
+        (ap (checkedOf s)
+        (scalars-fuel (length (drop next s)) (length (drop (at + 1) s)) (drop next s) (omega arith)
+        (omega (arith, length-drop (at + 1) s, length-drop next s))))
 
 -- ---- plain bytes and walks
 
@@ -98,10 +104,12 @@ plain-printing b l h = (omega arith, λ left. sym (stand-other b left l (omega a
 -- behind a plain byte the check goes on
 pub plain-on : (s : List ℕ) (at : ℕ) → at < length s → Plain (getD s at 0) → checkedAt s (at + 1) ≡ checkedAt s at
 plain-on s at h p =
-    check-on s at (getD s at 0) (at + 1) (stepped s at (getD s at 0) (record { at = at + 1 }) (step-one s at h (row-one (getD s at 0) (p .0)))) (p .1 (drop (at + 1) s))
+    check-on s at (getD s at 0) (at + 1) (stepped s at (getD s at 0) (record { at = at + 1 }) (step-one s at h (row-one (getD s at 0) (p .0))))
+    (p .1 (drop (at + 1) s))
 
 -- behind some bytes, of which so many are plain
-pub block-on : (s : List ℕ) (at i count p : ℕ) → at + i < length s → count ≤ i → (count ≡ i → checkedAt s (at + i) ≡ checkedAt s at) → p ≤ 1 → (p ≡ 1 → Plain (getD s (at + i) 0)) → count + p ≡ i + 1 → checkedAt s (at + (i + 1)) ≡ checkedAt s at
+pub block-on : (s : List ℕ) (at i count p : ℕ) → at + i < length s → count ≤ i → (count ≡ i → checkedAt s (at + i) ≡ checkedAt s at) → p ≤ 1
+    → (p ≡ 1 → Plain (getD s (at + i) 0)) → count + p ≡ i + 1 → checkedAt s (at + (i + 1)) ≡ checkedAt s at
 block-on s at i count p h l inv few plain e =
     let next : at + (i + 1) ≡ at + i + 1 = omega arith in
     rw next (plain-on s (at + i) h (plain (omega arith)) ∙ inv (omega arith))
@@ -120,7 +128,8 @@ pub not-ended : (s : List ℕ) (at : ℕ) → at < length s → Step.End ≡ ste
 not-ended s at h e = omega (arith, length-drop at s, ap length (ended s at e))
 
 -- what a walk says, by its answer
-pub walked-to : (s : List ℕ) (at : ℕ) (r : Walked) (next : ℕ) → r ≡ Walked.To next → Walks s at r → (at < next) × (next ≤ length s) × (checkedAt s next ≡ checkedAt s at)
+pub walked-to : (s : List ℕ) (at : ℕ) (r : Walked) (next : ℕ) → r ≡ Walked.To next → Walks s at r
+    → (at < next) × (next ≤ length s) × (checkedAt s next ≡ checkedAt s at)
 walked-to s at r next e w = rw e at w
 
 pub walked-broken : (s : List ℕ) (at : ℕ) (r : Walked) (place : ℕ) → r ≡ Walked.Broken place → Walks s at r → Checked.Broken place ≡ checkedAt s at

@@ -38,7 +38,8 @@ same-out s t i h k = rw (drop-of-length-le s h, drop-of-length-le t k)
 -- ---- fixed bytes in front
 
 module _ (part s : List ℕ) (i place : ℕ) (h : i < length part) where
-  pub starts-on : place < length s → getD s place 0 ≡ getD part i 0 → startsWith (drop (i + 1) part) (drop (place + 1) s) ≡ startsWith (drop i part) (drop place s)
+  pub starts-on : place < length s → getD s place 0 ≡ getD part i 0
+      → startsWith (drop (i + 1) part) (drop (place + 1) s) ≡ startsWith (drop i part) (drop place s)
   unfolding startsWith
   starts-on k e = rw (here part i h, here s place k, startsWith, eq-eqb _ _ e)
 

@@ -36,7 +36,8 @@ left-back s i p left h e =
 -- a tail is what is left from its place on
 pub tail-place : {s left : List ℕ} → Tail s left → left ≡ drop (placeIn s left) s
 tail-place (whole {s = s}) = let n : length s - length s ≡ 0 = omega arith in rw n
-tail-place (past {s = s} {left = left} t) = let n : suc (length s) - length left ≡ suc (length s - length left) = omega (arith, tail-length t) in rw n (tail-place t)
+tail-place (past {s = s} {left = left} t) =
+    let n : suc (length s) - length left ≡ suc (length s - length left) = omega (arith, tail-length t) in rw n (tail-place t)
 
 -- what a reading from a place on leaves begins at a place ahead
 pub record Left (s : List ℕ) (at : ℕ) (left : List ℕ) : Type 0 where

@@ -1,14 +1,16 @@
 -- One step of UTF-8 at a place: a law for each way out of its functions, and what each answer says. Assumes nothing.
 -- Document 01, "The grammar", Bytes; RFC 3629 §4.
-use Prim.Native.Nat.{ℕ, _+_, _-_, _*_, _<_, _≤_}
-use mathlib.Core.Path.{_≡_, refl, ap, _∙_}
+use Prim.Native.Nat.{ℕ, zero, suc, _+_, _-_, _*_, _<_, _≤_}
+use mathlib.Core.Path.{_≡_, refl, sym, ap, _∙_}
 use mathlib.Core.List.{List, [], _∷_}
 use native.Mathlib.Omega.{arith}
 use lib.ListN.{length, getD, drop, length-drop, drop-of-length-le}
 use Rattle.paper.specs.Found.{Found, found, fault, andThen, placeIn}
 use Rattle.paper.specs.Bytes.{one, two, three, four, none, rowOf, follower, scalar, encode}
 use Rattle.paper.proofs.Finds.{Finds}
-use Rattle.paper.proofs.Scalars.{follower-in, follower-under, follower-over, Follows, follows, scalar-one, scalar-two, scalar-three, scalar-four, scalar-none, scalar-sound, spelt-shorter}
+use Rattle.paper.proofs.Scalars.{Three, Four, leads-as}
+use Rattle.paper.proofs.Scalars.{follower-in, follower-under, follower-over, Follows, follows, scalar-one, scalar-two, scalar-three, scalar-four, scalar-none}
+use Rattle.paper.proofs.Scalars.{scalar-sound, spelt-shorter}
 use Rattle.text.specs.declared.utf8.Bits.{Bits}
 use Rattle.text.specs.declared.utf8.Cursor.{Cursor}
 use Rattle.text.specs.declared.utf8.Step.{Step}
@@ -33,13 +35,13 @@ module _ (s : List ℕ) (at low high : ℕ) where
     bits-in f t = rw (here s at h, follower-in low high (getD s at 0) (drop (at + 1) s) f t)
 
   -- six bits were found, of a byte in the range, and what is left begins at the next place
-  pub record Followed (next c : ℕ) : Type 0 where
+  record Followed (next c : ℕ) : Type 0 where
     pub inside : next ≤ length s
     pub from : low ≤ 0x80 + c
     pub to : 0x80 + c ≤ high
     pub reads : follower low high (drop at s) ≡ found c (drop next s)
 
-  pub followed : 0x80 ≤ low → (next c : ℕ) → next ≡ at + 1 → Bits.Six c ≡ bitsOf (follower low high (drop at s)) → Followed next c
+  followed : 0x80 ≤ low → (next c : ℕ) → next ≡ at + 1 → Bits.Six c ≡ bitsOf (follower low high (drop at s)) → Followed next c
   followed h next c n e = go (follower low high (drop at s)) refl (follows low high h (drop at s)) e
     where
       go : (x : Found ℕ) → follower low high (drop at s) ≡ x → Finds (Follows low high (drop at s)) x → Bits.Six c ≡ bitsOf x → Followed next c
@@ -51,12 +53,12 @@ module _ (s : List ℕ) (at low high : ℕ) where
       go (fault m left) q f e = let z : _≡_ {A = ℕ} 0 1 = cc in absurd (omega arith)
 
   -- none were found
-  pub record Missed : Type 0 where
+  record Missed : Type 0 where
     pub number : ℕ
     pub left : List ℕ
     pub reads : follower low high (drop at s) ≡ fault number left
 
-  pub missed : Bits.Wrong ≡ bitsOf (follower low high (drop at s)) → Missed
+  missed : Bits.Wrong ≡ bitsOf (follower low high (drop at s)) → Missed
   missed e = go (follower low high (drop at s)) refl e
     where
       go : (x : Found ℕ) → follower low high (drop at s) ≡ x → Bits.Wrong ≡ bitsOf x → Missed
@@ -78,47 +80,62 @@ module _ (s : List ℕ) (at : ℕ) (h : at < length s) where
   pub step-one : rowOf (getD s at 0) ≡ one → Step.Scalar (getD s at 0) (record { at = at + 1 }) ≡ stepAt s at
   step-one row = rw (step-here, scalar-one (getD s at 0) (drop (at + 1) s) row, place-back s (at + 1) (omega arith))
 
-  -- two bytes
-  module _ (row : rowOf (getD s at 0) ≡ two) where
-    pub two-broken : Missed s (at + 1) 0x80 0xBF → Step.Broken ≡ stepAt s at
-    two-broken f = rw (step-here, scalar-two (getD s at 0) (drop (at + 1) s) row, f .reads)
+-- ---- a step over several bytes: six bits of each byte that follows are gathered behind those of the first
 
-    pub two-found : (c : ℕ) → Followed s (at + 1) 0x80 0xBF (at + 2) c → Step.Scalar ((getD s at 0 - 0xC0) * 64 + c) (record { at = at + 2 }) ≡ stepAt s at
-    two-found c f = rw (step-here, scalar-two (getD s at 0) (drop (at + 1) s) row, f .reads, place-back s (at + 2) (f .inside))
+-- so many bytes more, behind a value so far
+abbrev gather : ℕ → ℕ → List ℕ → Found ℕ
+gather zero v left = found v left
+gather (suc more) v left = andThen (follower 0x80 0xBF left) (λ c rest. gather more (v * 64 + c) rest)
 
-  -- three bytes
-  module _ (low high : ℕ) (row : rowOf (getD s at 0) ≡ three low high) where
-    step-three : stepAt s at ≡ stepOf s (andThen (follower low high (drop (at + 1) s)) (λ c r. andThen (follower 0x80 0xBF r) (λ d q. found (((getD s at 0 - 0xE0) * 64 + c) * 64 + d) q)))
-    step-three = rw (step-here, scalar-three (getD s at 0) (drop (at + 1) s) low high row)
+-- the step goes on with the byte at a place, due from low to high, and with so many more behind it
+pub record Awaits (s : List ℕ) (at place low high more v : ℕ) : Type 0 where
+  pub from : 0x80 ≤ low
+  pub to : high ≤ 0xBF
+  pub step : stepAt s at ≡ stepOf s (andThen (follower low high (drop place s)) (λ c left. gather more (v * 64 + c) left))
 
-    pub three-broken : Missed s (at + 1) low high → Step.Broken ≡ stepAt s at
-    three-broken f = rw (step-three, f .reads)
+module _ (s : List ℕ) (at : ℕ) (h : at < length s) where
+  pub awaits-two : rowOf (getD s at 0) ≡ two → Awaits s at (at + 1) 0x80 0xBF 0 (getD s at 0 - 0xC0)
+  awaits-two row = record { from = omega arith; to = omega arith; step = step-here s at h ∙ rw (scalar-two (getD s at 0) (drop (at + 1) s) row) }
 
-    module _ (c : ℕ) (f : Followed s (at + 1) low high (at + 2) c) where
-      pub three-broken-2 : Missed s (at + 2) 0x80 0xBF → Step.Broken ≡ stepAt s at
-      three-broken-2 g = rw (step-three, f .reads, g .reads)
+  pub awaits-three : (low high : ℕ) → rowOf (getD s at 0) ≡ three low high → Awaits s at (at + 1) low high 1 (getD s at 0 - 0xE0)
+  awaits-three low high row =
+      let lead : Three (getD s at 0) low high = leads-as _ _ row in
+      record {
+        from = omega (arith, lead .bounds);
+        to = omega (arith, lead .bounds);
+        step = step-here s at h ∙ rw (scalar-three (getD s at 0) (drop (at + 1) s) low high row);
+      }
 
-      pub three-found : (d : ℕ) → Followed s (at + 2) 0x80 0xBF (at + 3) d → Step.Scalar (((getD s at 0 - 0xE0) * 64 + c) * 64 + d) (record { at = at + 3 }) ≡ stepAt s at
-      three-found d g = rw (step-three, f .reads, g .reads, place-back s (at + 3) (g .inside))
+  pub awaits-four : (low high : ℕ) → rowOf (getD s at 0) ≡ four low high → Awaits s at (at + 1) low high 2 (getD s at 0 - 0xF0)
+  awaits-four low high row =
+      let lead : Four (getD s at 0) low high = leads-as _ _ row in
+      record {
+        from = omega (arith, lead .bounds);
+        to = omega (arith, lead .bounds);
+        step = step-here s at h ∙ rw (scalar-four (getD s at 0) (drop (at + 1) s) low high row);
+      }
 
-  -- four bytes
-  module _ (low high : ℕ) (row : rowOf (getD s at 0) ≡ four low high) where
-    step-four : stepAt s at ≡ stepOf s (andThen (follower low high (drop (at + 1) s)) (λ c r. andThen (follower 0x80 0xBF r) (λ d q. andThen (follower 0x80 0xBF q) (λ e p. found ((((getD s at 0 - 0xF0) * 64 + c) * 64 + d) * 64 + e) p))))
-    step-four = rw (step-here, scalar-four (getD s at 0) (drop (at + 1) s) low high row)
+module _ {s : List ℕ} {at place low high more v : ℕ} (so-far : Awaits s at place low high more v) {x : Bits}
+    (said : x ≡ bitsOf (follower low high (drop place s))) where
+  pub broken : x ≡ Bits.Wrong → Step.Broken ≡ stepAt s at
+  broken e = let none = missed s place low high (sym e ∙ said) in rw (so-far .step, none .reads)
 
-    pub four-broken : Missed s (at + 1) low high → Step.Broken ≡ stepAt s at
-    four-broken f = rw (step-four, f .reads)
+  -- the byte that is due is there, and has the bits c
+  module _ {c : ℕ} (e : x ≡ Bits.Six c) where
+    there : Followed s place low high (place + 1) c
+    there = followed s place low high (so-far .from) (place + 1) c refl (sym e ∙ said)
 
-    module _ (c : ℕ) (f : Followed s (at + 1) low high (at + 2) c) where
-      pub four-broken-2 : Missed s (at + 2) 0x80 0xBF → Step.Broken ≡ stepAt s at
-      four-broken-2 g = rw (step-four, f .reads, g .reads)
+    pub six : c ≤ 63
+    six = let f = there in omega (arith, so-far .to)
 
-      module _ (d : ℕ) (g : Followed s (at + 2) 0x80 0xBF (at + 3) d) where
-        pub four-broken-3 : Missed s (at + 3) 0x80 0xBF → Step.Broken ≡ stepAt s at
-        four-broken-3 i = rw (step-four, f .reads, g .reads, i .reads)
+    onward : (next : ℕ) → next ≡ place + 1 → stepAt s at ≡ stepOf s (gather more (v * 64 + c) (drop next s))
+    onward next n = so-far .step ∙ rw (there .reads, ← n)
 
-        pub four-found : (e : ℕ) → Followed s (at + 3) 0x80 0xBF (at + 4) e → Step.Scalar ((((getD s at 0 - 0xF0) * 64 + c) * 64 + d) * 64 + e) (record { at = at + 4 }) ≡ stepAt s at
-        four-found e i = rw (step-four, f .reads, g .reads, i .reads, place-back s (at + 4) (i .inside))
+    pub goes-on : {next : ℕ} → next ≡ place + 1 → (fewer : ℕ) → more ≡ suc fewer → Awaits s at next 0x80 0xBF fewer (v * 64 + c)
+    goes-on {next} n fewer m = record { from = omega arith; to = omega arith; step = onward next n ∙ rw m }
+
+    pub is-whole : {next : ℕ} → next ≡ place + 1 → more ≡ 0 → Step.Scalar (v * 64 + c) (record { at = next }) ≡ stepAt s at
+    is-whole {next} n m = let i : next ≤ length s = omega (arith, there .inside) in sym (onward next n ∙ rw (m, place-back s next i))
 
 -- ---- what each answer of a step says of the place
 
@@ -132,7 +149,8 @@ stepped-to : (s : List ℕ) (at v : ℕ) (left : List ℕ) → at < length s →
 stepped-to s at v left h e =
     let spelt = scalar-sound (drop at s) v left e in
     let less = spelt-shorter spelt in
-    record { ahead = omega (arith, length-drop at s); inside = omega arith; reads = e ∙ ap (found v) (left-back s at (encode v) left (omega arith) (spelt .whole)) }
+    record
+    { ahead = omega (arith, length-drop at s); inside = omega arith; reads = e ∙ ap (found v) (left-back s at (encode v) left (omega arith) (spelt .whole)) }
 
 module _ (s : List ℕ) (at : ℕ) where
   -- nothing is left

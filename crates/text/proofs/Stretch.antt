@@ -9,6 +9,7 @@ use native.Mathlib.Nat.{add-zero}
 use lib.ListN.{length, getD, take, drop, drop-of-length-le}
 use lib.Seq.{drop-drop}
 use borrow.Author.Tests.{ne-eqb}
+use Rattle.paper.proofs.Tests.{true-false}
 use Rattle.paper.specs.Bytes.{lf, cr, isLineEnd, lengthIn, front, behind}
 use Rattle.text.specs.declared.runs.Class.{Class}
 use Rattle.text.specs.Runs.{inClass, Skips}
@@ -66,11 +67,30 @@ module _ (class : ℕ → Bool) (s : List ℕ) (at : ℕ) where
   pub skips-end : (i end : ℕ) → Skips class s at i → Stretch class s i end → Stretch class s at end
   skips-end i end f g = (g .0 ∙ f .2, omega (arith, f .0, g .1), g .2)
 
+-- so many bytes from a place on, looked at one by one: where no other was seen, all so far are of the class
+pub record Looked (class : ℕ → Bool) (s : List ℕ) (at many : ℕ) (all : Bool) (i : ℕ) : Type 0 where
+  pub few : i ≤ many
+  pub skips : all ≡ true → Skips class s at (at + i)
+
+pub looked-none : (class : ℕ → Bool) (s : List ℕ) (at many : ℕ) → at ≤ length s → Looked class s at many true 0
+looked-none class s at many h = record { few = omega arith; skips = λ e. skips-none class s at h }
+
+module _ {class : ℕ → Bool} {s : List ℕ} {at many : ℕ} {all : Bool} {i : ℕ} (so-far : Looked class s at many all i) where
+  pub looked-other : i < many → (next : Bool) → next ≡ false → Looked class s at many next (i + 1)
+  looked-other h next f = record { few = omega arith; skips = λ e. true-false (sym e ∙ f) }
+
+  pub looked-one : i < many → at + many ≤ length s → class (getD s (at + i) 0) ≡ true → (next : Bool) → next ≡ all → Looked class s at many next (i + 1)
+  looked-one h k b next f = record { few = omega arith; skips = λ e. skips-on class s at i (omega arith) b (so-far .skips (sym f ∙ e)) }
+
+  pub looked-all : many ≤ i → all ≡ true → Skips class s at (at + many)
+  looked-all h e = let end : i ≡ many = omega (arith, so-far .few) in rw end at (so-far .skips e)
+
 -- a byte above every line end is text
 pub text-above : (b : ℕ) → cr < b → inClass Class.Text b ≡ true
 unfolding isLineEnd
 text-above b h = rw (ne-eqb b lf (omega arith), ne-eqb b cr (omega arith))
 
 -- the run of a class, from a place ahead on
-pub class-end : (class known : Class) (s : List ℕ) (at i end : ℕ) → class ≡ known → Skips (inClass known) s at i → Stretch (inClass known) s i end → Stretch (inClass class) s at end
+pub class-end : (class known : Class) (s : List ℕ) (at i end : ℕ) → class ≡ known → Skips (inClass known) s at i → Stretch (inClass known) s i end
+    → Stretch (inClass class) s at end
 class-end class known s at i end e f g = rw e (skips-end (inClass known) s at i end f g)

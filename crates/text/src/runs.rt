@@ -22,7 +22,7 @@ pub enum Class {
 }
 
 // Whether the byte is of the class.
-pub fn is_in(class: Class, b: u8) -> bool
+fn is_in(class: Class, b: u8) -> bool
     ensures { λ r. ⌜ r ≡ inClass class b ⌝ }
 {
     match class {

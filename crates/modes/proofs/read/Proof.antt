@@ -29,7 +29,8 @@ abbrev first : tie.After-known-told2 → tie.After-known-told
 first c = c .before .before .before .before
 
 second-read : (c : tie.After-known-told2)
-    → Read (table (first c)) (namesOf (children (first c)) (drop 1 (table (first c)))) (middle (first c)) (c .before .second .given .0 .0) (c .before .second .given .0 .1 .0)
+    → Read (table (first c)) (namesOf (children (first c)) (drop 1 (table (first c)))) (middle (first c)) (c .before .second .given .0 .0)
+    (c .before .second .given .0 .1 .0)
 second-read c = section-read _ _ _ _ _ (sym (ap told (c .before .second .given .1)) ∙ c .before .before .before .read-section2 .ensures)
 
 read-section-requires : tie.Need-read-section-requires

@@ -74,8 +74,10 @@ refuse-requires-4 c κs = search needs
 returns-4 : tie.Need-returns-4
 returns-4 c =
     c .refuse4 .ensures
-    ∙ name-broken _ _ (inside (c .before .before .before .before .before .before .before .before)) (c .before .before .before .before .before .before .if2 .left)
-    (ltb-false _ _ (c .before .before .before .before .before .if3 .left)) (c .before .before .before .before .if4 .left) _ (c .before .before .is-concept-name .ensures) (c .before .if5 .taken)
+    ∙ name-broken _ _ (inside (c .before .before .before .before .before .before .before .before))
+    (c .before .before .before .before .before .before .if2 .left)
+    (ltb-false _ _ (c .before .before .before .before .before .if3 .left)) (c .before .before .before .before .if4 .left) _
+    (c .before .before .is-concept-name .ensures) (c .before .if5 .taken)
 
 returns-5 : tie.Need-returns-5
 returns-5 c =

@@ -20,7 +20,8 @@ abbrev μ-loop : tie.MeasureT-loop
 
 -- the name of this turn
 name : (c : tie.After-known-told Inv-loop μ-loop)
-    → Named (c .before .before .before .before .before .before .before .before .before .before .args .table .now) (c .before .before .before .before .before .loop .place) (c .before .answer .given .0 .0)
+    → Named (c .before .before .before .before .before .before .before .before .before .before .args .table .now)
+    (c .before .before .before .before .before .loop .place) (c .before .answer .given .0 .0)
 name c = named _ _ _ _ (sym (ap told (c .before .answer .given .1)) ∙ c .before .before .before .read-name .ensures)
 
 refuse-requires : tie.Need-refuse-requires Inv-loop μ-loop

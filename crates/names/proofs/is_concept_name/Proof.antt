@@ -1,42 +1,15 @@
--- The name's first byte is looked at here, all else by `keeps_rule`.
-use mathlib.Core.Path.{sym, _∙_}
+-- The class of the first byte is the range that is asked for.
 use borrow.Author.Needs.{needs}
 use Rattle.paper.specs.Bytes.{isUpper}
-use Rattle.paper.specs.Names.{isName}
-use Rattle.names.proofs.Rule.{empty-name, good-start, bad-start}
 use Rattle.names.proofs.is_concept_name.Statement.{statement}
 use Rattle.names.proofs.is_concept_name.Tie as tie
 
+is-name-requires : tie.Need-is-name-requires
+is-name-requires c κs = search needs
+
 returns : tie.Need-returns
-unfolding isName
-returns c = empty-name isUpper _ (c .if1 .taken)
-
-shared-slice-read-is-upper : tie.Need-shared-slice-read-is-upper
-shared-slice-read-is-upper c = search needs
-
-is-upper-requires : tie.Need-is-upper-requires
-is-upper-requires c κs = search needs
-
-keeps-rule-requires : tie.Need-keeps-rule-requires
-keeps-rule-requires c κs = search needs
-
-returns-2 : tie.Need-returns-2
-unfolding isName
-returns-2 c =
-    let some = c .before .before .before .before in
-    c .keeps-rule .ensures ∙ good-start isUpper _ (some .if1 .left) (sym (c .before .before .is-upper .ensures) ∙ c .before .if2 .taken)
-
-returns-3 : tie.Need-returns-3
-unfolding isName
-returns-3 c = c .if2 .left ∙ bad-start isUpper _ (c .before .before .before .if1 .left) (sym (c .before .is-upper .ensures) ∙ c .if2 .left)
+unfolding isUpper
+returns c = c .is-name .ensures
 
 pub is-concept-name-spec : {M : Type 1} → statement M
-is-concept-name-spec =
-    tie.close
-    (tie.spec
-    returns
-    shared-slice-read-is-upper
-    is-upper-requires
-    keeps-rule-requires
-    returns-2
-    returns-3)
+is-concept-name-spec = tie.close (tie.spec is-name-requires returns)

@@ -43,14 +43,18 @@ add-read-one c =
     omega arith
 
 after-requires : tie.Need-after-requires Inv-loop μ-loop
-after-requires c κs = omega (arith, c .before .before .before .before .before .loop .inv .few, c .before .before .before .before .before .before .before .before .pre .1 .few)
+after-requires c κs =
+    omega (arith, c .before .before .before .before .before .loop .inv .few, c .before .before .before .before .before .before .before .before .pre .1 .few)
 
 read-one-requires : tie.Need-read-one-requires Inv-loop μ-loop
 read-one-requires c κs =
+    let top = c .before .before .before .before .before .before .before .before .before in
     let run = c .before .before .before .before .before in
-    let mark = c .before .before in (
-      record { within = c .before .before .before .before .before .before .before .before .before .pre .0 .within; inside = mark-inside _ _ _ _ _ _ _ (run .before .loop .inv) _ (run .end .ensures) _ (mark .before .starts-with .ensures) (mark .if1 .left) },
-      lent-fits _ _ _ _ _ _ _ (run .before .loop .inv) _ (run .end .ensures) _ (mark .before .starts-with .ensures) (mark .if1 .left) _ (c .after .ensures) (c .before .before .before .before .before .before .before .before .before .pre .1),
+    let mark = c .before .before in
+    let there = mark-inside _ _ _ _ _ _ _ (run .before .loop .inv) _ (run .end .ensures) _ (mark .before .starts-with .ensures) (mark .if1 .left) in (
+      record { within = top .pre .0 .within; inside = there },
+      lent-fits _ _ _ _ _ _ _ (run .before .loop .inv) _ (run .end .ensures) _ (mark .before .starts-with .ensures) (mark .if1 .left) _
+          (c .after .ensures) (top .pre .1),
     )
 
 enum-known-one : tie.Need-enum-known-one Inv-loop μ-loop
@@ -60,29 +64,42 @@ enum-told : tie.Need-enum-told Inv-loop μ-loop
 enum-told c = search needs
 
 same-length-2 : tie.Need-same-length-2 Inv-loop μ-loop
-same-length-2 c = c .before .before .before .before .read-one .kept .1 .1 .0 ∙ c .before .before .before .before .before .before .before .before .before .before .before .loop .inv .held
+same-length-2 c =
+    c .before .before .before .before .read-one .kept .1 .1 .0
+    ∙ c .before .before .before .before .before .before .before .before .before .before .before .loop .inv .held
 
 returns-2 : tie.Need-returns-2 Inv-loop μ-loop
 returns-2 c =
     let run = c .before .before .before .before .before .before .before .before .before .before in
     let mark = c .before .before .before .before .before .before .before in
-    notes-refused _ _ _ _ _ _ _ (run .before .loop .inv) _ (run .end .ensures) _ (mark .before .starts-with .ensures) (mark .if1 .left) _ (c .before .before .before .before .before .after .ensures) _ _ (c .before .before .before .before .read-one .ensures) _ _ (c .enum-told .given .1)
+    notes-refused _ _ _ _ _ _ _ (run .before .loop .inv) _ (run .end .ensures) _ (mark .before .starts-with .ensures) (mark .if1 .left) _
+    (c .before .before .before .before .before .after .ensures) _ _ (c .before .before .before .before .read-one .ensures) _ _ (c .enum-told .given .1)
 
 add-made : tie.Need-add-made Inv-loop μ-loop
-add-made c = omega (arith, c .before .before .before .before .before .before .before .before .before .before .before .before .loop .inv .few, c .before .before .before .before .before .before .before .before .before .before .before .before .before .before .before .pre .1 .few)
+add-made c =
+    omega (
+      arith,
+      c .before .before .before .before .before .before .before .before .before .before .before .before .loop .inv .few,
+      c .before .before .before .before .before .before .before .before .before .before .before .before .before .before .before .pre .1 .few,
+    )
 
 loop-less : tie.Need-loop-less Inv-loop μ-loop
 loop-less c =
     let run = c .before .before .before .before .before .before .before .before .before .before .before in
     let mark = c .before .before .before .before .before .before .before .before in
-    let n = note-ahead _ _ _ _ _ _ _ (run .before .loop .inv) _ (run .end .ensures) _ (mark .before .starts-with .ensures) (mark .if1 .left) _ (c .before .before .before .before .before .before .after .ensures) _ _ (c .before .before .before .before .before .read-one .ensures) _ _ _ (c .before .one .given .1) in
+    let n =
+    note-ahead _ _ _ _ _ _ _ (run .before .loop .inv) _ (run .end .ensures) _ (mark .before .starts-with .ensures) (mark .if1 .left) _
+    (c .before .before .before .before .before .before .after .ensures) _ _ (c .before .before .before .before .before .read-one .ensures) _ _ _
+    (c .before .one .given .1) in
     omega arith
 
 loop-again : tie.Need-loop-again Inv-loop μ-loop
 loop-again c =
     let run = c .before .before .before .before .before .before .before .before .before .before .before in
     let mark = c .before .before .before .before .before .before .before .before in
-    notes-on _ _ _ _ _ _ _ (run .before .loop .inv) _ (run .end .ensures) _ (mark .before .starts-with .ensures) (mark .if1 .left) _ (c .before .before .before .before .before .before .after .ensures) _ _ (c .before .before .before .before .before .read-one .ensures) _ _ _ (c .before .one .given .1) (c .before .before .before .before .before .read-one .kept .1 .1 .0)
+    notes-on _ _ _ _ _ _ _ (run .before .loop .inv) _ (run .end .ensures) _ (mark .before .starts-with .ensures) (mark .if1 .left) _
+    (c .before .before .before .before .before .before .after .ensures) _ _ (c .before .before .before .before .before .read-one .ensures) _ _ _
+    (c .before .one .given .1) (c .before .before .before .before .before .read-one .kept .1 .1 .0)
 
 pub read-all-spec : {M : Type 1} → statement M
 read-all-spec =

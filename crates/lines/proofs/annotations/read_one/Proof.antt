@@ -9,11 +9,19 @@ use Rattle.lines.proofs.annotations.read_one.Statement.{statement}
 use Rattle.lines.proofs.annotations.read_one.Tie as tie
 
 -- the text, and the rest of its line
-text : (c : tie.After-known-told) → TextAt (c .before .before .before .before .before .before .args .s .now) (c .before .before .before .before .before .before .args .at) (c .before .text .given .0 .0)
-text c = text-at _ _ _ _ _ _ (c .before .before .before .before .before .before .pre .0 .inside) (c .before .before .before .text-end .ensures) (c .before .text .given .1)
+text : (c : tie.After-known-told)
+    → TextAt (c .before .before .before .before .before .before .args .s .now) (c .before .before .before .before .before .before .args .at)
+    (c .before .text .given .0 .0)
+text c =
+    text-at _ _ _ _ _ _ (c .before .before .before .before .before .before .pre .0 .inside) (c .before .before .before .text-end .ensures)
+    (c .before .text .given .1)
 
-rest : (c : tie.After-known-told2) → RestAt (c .before .before .before .before .before .before .before .before .before .before .before .before .args .s .now) (c .before .before .before .before .before .before .before .text .given .0 .0) (c .before .rest .given .0 .0)
-rest c = rest-at _ _ _ _ _ _ (text (c .before .before .before .before .before .before) .inside) (c .before .before .before .line-rest .ensures) (c .before .rest .given .1)
+rest : (c : tie.After-known-told2)
+    → RestAt (c .before .before .before .before .before .before .before .before .before .before .before .before .args .s .now)
+    (c .before .before .before .before .before .before .before .text .given .0 .0) (c .before .rest .given .0 .0)
+rest c =
+    rest-at _ _ _ _ _ _ (text (c .before .before .before .before .before .before) .inside) (c .before .before .before .line-rest .ensures)
+    (c .before .rest .given .1)
 
 text-end-requires : tie.Need-text-end-requires
 text-end-requires c κs = search needs
@@ -34,7 +42,10 @@ refused-requires : tie.Need-refused-requires
 refused-requires c κs = search needs
 
 returns-2 : tie.Need-returns-2
-returns-2 c = λ tabs. note-full _ _ _ _ _ tabs _ _ _ _ (text (c .before .before .before)) _ (c .before .before .is-full .ensures) (c .before .if1 .taken) (c .before .before .before .before .before .before .before .before .before .pre .0 .inside) (c .refused .ensures)
+returns-2 c =
+    λ tabs.
+    note-full _ _ _ _ _ tabs _ _ _ _ (text (c .before .before .before)) _ (c .before .before .is-full .ensures) (c .before .if1 .taken)
+    (c .before .before .before .before .before .before .before .before .before .pre .0 .inside) (c .refused .ensures)
 
 line-rest-requires : tie.Need-line-rest-requires
 line-rest-requires c κs = text (c .before .before) .inside
@@ -46,7 +57,10 @@ enum-told-2 : tie.Need-enum-told-2
 enum-told-2 c = search needs
 
 returns-3 : tie.Need-returns-3
-returns-3 c = λ tabs. rest-refused _ _ _ _ _ tabs _ _ _ _ (text (c .before .before .before .before .before)) _ (c .before .before .before .before .is-full .ensures) (c .before .before .before .if1 .left) _ _ (c .before .before .line-rest .ensures) (c .enum-told2 .given .1)
+returns-3 c =
+    λ tabs.
+    rest-refused _ _ _ _ _ tabs _ _ _ _ (text (c .before .before .before .before .before)) _ (c .before .before .before .before .is-full .ensures)
+    (c .before .before .before .if1 .left) _ _ (c .before .before .line-rest .ensures) (c .enum-told2 .given .1)
 
 cast-nameless : tie.Need-cast-nameless
 cast-nameless c = search needs
@@ -55,19 +69,28 @@ sub-nameless : tie.Need-sub-nameless
 sub-nameless c = let t = text (c .before .before .before .before .before .before .before) in omega arith
 
 cast-nameless-2 : tie.Need-cast-nameless-2
-cast-nameless-2 c = let t = text (c .before .before .before .before .before .before .before) in omega (arith, c .before .before .before .before .before .before .before .before .before .before .before .before .before .pre .0 .within)
+cast-nameless-2 c =
+    let t = text (c .before .before .before .before .before .before .before) in
+    omega (arith, c .before .before .before .before .before .before .before .before .before .before .before .before .before .pre .0 .within)
 
 nameless-requires : tie.Need-nameless-requires
 nameless-requires c κs = search needs
 
 put-requires : tie.Need-put-requires
-put-requires c κs = room-left _ _ _ (c .before .before .before .before .before .before .before .before .before .before .before .before .before .before .pre .1) (c .before .before .before .before .before .before .before .is-full .ensures) (c .before .before .before .before .before .before .if1 .left)
+put-requires c κs =
+    room-left _ _ _ (c .before .before .before .before .before .before .before .before .before .before .before .before .before .before .pre .1)
+    (c .before .before .before .before .before .before .before .is-full .ensures) (c .before .before .before .before .before .before .if1 .left)
 
 same-length : tie.Need-same-length
 same-length c = search needs
 
 returns-4 : tie.Need-returns-4
-returns-4 c = λ tabs. note-made _ _ _ _ _ tabs _ _ _ _ (text (c .before .before .before .before .before .before .before .before .before .before .before)) _ (c .before .before .before .before .before .before .before .before .before .before .is-full .ensures) (c .before .before .before .before .before .before .before .before .before .if1 .left) _ (rest (c .before .before .before .before .before)) _ refl (c .before .before .before .nameless .ensures) (c .before .before .put .ensures)
+returns-4 c =
+    λ tabs.
+    note-made _ _ _ _ _ tabs _ _ _ _ (text (c .before .before .before .before .before .before .before .before .before .before .before)) _
+    (c .before .before .before .before .before .before .before .before .before .before .is-full .ensures)
+    (c .before .before .before .before .before .before .before .before .before .if1 .left) _ (rest (c .before .before .before .before .before)) _ refl
+    (c .before .before .before .nameless .ensures) (c .before .before .put .ensures)
 
 pub read-one-spec : {M : Type 1} → statement M
 read-one-spec =

@@ -30,7 +30,9 @@ past-requires : tie.Need-past-requires Inv-loop μ-loop
 past-requires c κs = search needs
 
 returns : tie.Need-returns Inv-loop μ-loop
-returns c = says-read _ _ _ _ _ _ _ _ _ (c .past .ensures) (omega arith) (text-over _ _ (c .before .before .before .loop-test .taken) (c .before .if1 .taken)) refl refl ∙ c .before .before .before .before .loop .inv .1
+returns c =
+    says-read _ _ _ _ _ _ _ _ _ (c .past .ensures) (omega arith) (text-over _ _ (c .before .before .before .loop-test .taken) (c .before .if1 .taken)) refl refl
+    ∙ c .before .before .before .before .loop .inv .1
 
 add-next : tie.Need-add-next Inv-loop μ-loop
 add-next c = search needs
@@ -39,7 +41,11 @@ cut-requires : tie.Need-cut-requires Inv-loop μ-loop
 cut-requires c κs = search needs
 
 returns-2 : tie.Need-returns-2 Inv-loop μ-loop
-returns-2 c = says-cut _ _ _ _ _ (c .cut .ensures) (escape-cut _ _ (c .before .before .before .before .before .loop-test .taken) (c .before .before .before .if1 .left) (c .before .before .if2 .taken) (c .before .if3 .taken)) ∙ c .before .before .before .before .before .before .loop .inv .1
+returns-2 c =
+    says-cut _ _ _ _ _ (c .cut .ensures)
+    (escape-cut _ _ (c .before .before .before .before .before .loop-test .taken) (c .before .before .before .if1 .left) (c .before .before .if2 .taken)
+    (c .before .if3 .taken))
+    ∙ c .before .before .before .before .before .before .loop .inv .1
 
 shared-slice-read-is-escaped : tie.Need-shared-slice-read-is-escaped Inv-loop μ-loop
 shared-slice-read-is-escaped c = search needs
@@ -51,7 +57,12 @@ refused-requires : tie.Need-refused-requires Inv-loop μ-loop
 refused-requires c κs = search needs
 
 returns-3 : tie.Need-returns-3 Inv-loop μ-loop
-returns-3 c = says-refused _ _ _ _ _ _ _ (c .refused .ensures) (omega arith) (escape-bad _ _ (c .before .before .before .before .before .before .before .before .loop-test .taken) (c .before .before .before .before .before .before .if1 .left) (c .before .before .before .before .before .if2 .taken) (c .before .before .before .before .if3 .left) _ (c .before .before .is-escaped .ensures) (c .before .if4 .taken)) ∙ c .before .before .before .before .before .before .before .before .before .loop .inv .1
+returns-3 c =
+    says-refused _ _ _ _ _ _ _ (c .refused .ensures) (omega arith)
+    (escape-bad _ _ (c .before .before .before .before .before .before .before .before .loop-test .taken)
+    (c .before .before .before .before .before .before .if1 .left) (c .before .before .before .before .before .if2 .taken)
+    (c .before .before .before .before .if3 .left) _ (c .before .before .is-escaped .ensures) (c .before .if4 .taken))
+    ∙ c .before .before .before .before .before .before .before .before .before .loop .inv .1
 
 add-i : tie.Need-add-i Inv-loop μ-loop
 add-i c = search needs
@@ -60,7 +71,13 @@ loop-less : tie.Need-loop-less Inv-loop μ-loop
 loop-less c = search needs
 
 loop-again : tie.Need-loop-again Inv-loop μ-loop
-loop-again c = (omega arith, escape-good _ _ (c .before .before .before .before .before .before .before .loop-test .taken) (c .before .before .before .before .before .if1 .left) (c .before .before .before .before .if2 .taken) (c .before .before .before .if3 .left) _ (c .before .is-escaped .ensures) (c .if4 .left) ∙ c .before .before .before .before .before .before .before .before .loop .inv .1)
+loop-again c = (
+  omega arith,
+  escape-good _ _ (c .before .before .before .before .before .before .before .loop-test .taken)
+      (c .before .before .before .before .before .if1 .left) (c .before .before .before .before .if2 .taken) (c .before .before .before .if3 .left) _
+      (c .before .is-escaped .ensures) (c .if4 .left)
+      ∙ c .before .before .before .before .before .before .before .before .loop .inv .1,
+)
 
 is-line-end-requires : tie.Need-is-line-end-requires Inv-loop μ-loop
 is-line-end-requires c κs = search needs
@@ -69,7 +86,11 @@ refused-requires-2 : tie.Need-refused-requires-2 Inv-loop μ-loop
 refused-requires-2 c κs = search needs
 
 returns-4 : tie.Need-returns-4 Inv-loop μ-loop
-returns-4 c = says-refused _ _ _ _ _ _ _ (c .refused2 .ensures) (omega arith) (text-line _ _ (c .before .before .before .before .before .before .loop-test .taken) (c .before .before .before .before .if1 .left) (c .before .before .before .if2 .left) _ (c .before .before .is-line-end .ensures) (c .before .if5 .taken)) ∙ c .before .before .before .before .before .before .before .loop .inv .1
+returns-4 c =
+    says-refused _ _ _ _ _ _ _ (c .refused2 .ensures) (omega arith)
+    (text-line _ _ (c .before .before .before .before .before .before .loop-test .taken) (c .before .before .before .before .if1 .left)
+    (c .before .before .before .if2 .left) _ (c .before .before .is-line-end .ensures) (c .before .if5 .taken))
+    ∙ c .before .before .before .before .before .before .before .loop .inv .1
 
 add-i-2 : tie.Need-add-i-2 Inv-loop μ-loop
 add-i-2 c = search needs
@@ -78,7 +99,12 @@ loop-less-2 : tie.Need-loop-less-2 Inv-loop μ-loop
 loop-less-2 c = search needs
 
 loop-again-2 : tie.Need-loop-again-2 Inv-loop μ-loop
-loop-again-2 c = (omega arith, text-on _ _ (c .before .before .before .before .before .loop-test .taken) (c .before .before .before .if1 .left) (c .before .before .if2 .left) _ (c .before .is-line-end .ensures) (c .if5 .left) ∙ c .before .before .before .before .before .before .loop .inv .1)
+loop-again-2 c = (
+  omega arith,
+  text-on _ _ (c .before .before .before .before .before .loop-test .taken) (c .before .before .before .if1 .left) (c .before .before .if2 .left)
+      _ (c .before .is-line-end .ensures) (c .if5 .left)
+      ∙ c .before .before .before .before .before .before .loop .inv .1,
+)
 
 cut-requires-2 : tie.Need-cut-requires-2 Inv-loop μ-loop
 cut-requires-2 c κs = search needs

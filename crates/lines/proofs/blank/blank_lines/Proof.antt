@@ -15,8 +15,12 @@ abbrev μ-loop : tie.MeasureT-loop
 μ-loop s at i₀ i = length s - i
 
 -- the blank line of this turn
-line : (c : tie.After-known-told Inv-loop μ-loop) → RestAt (c .before .before .before .before .before .before .before .before .args .s .now) (c .before .before .before .before .before .before .loop .i) (c .before .line .given .0 .0)
-line c = rest-at _ _ _ _ _ _ (c .before .before .before .before .before .before .loop .inv .inside) (c .before .before .before .line-rest .ensures) (c .before .line .given .1)
+line : (c : tie.After-known-told Inv-loop μ-loop)
+    → RestAt (c .before .before .before .before .before .before .before .before .args .s .now) (c .before .before .before .before .before .before .loop .i)
+    (c .before .line .given .0 .0)
+line c =
+    rest-at _ _ _ _ _ _ (c .before .before .before .before .before .before .loop .inv .inside) (c .before .before .before .line-rest .ensures)
+    (c .before .line .given .1)
 
 loop-holds : tie.Need-loop-holds Inv-loop μ-loop
 loop-holds c = lines-begin _ _ (omega arith)
@@ -34,13 +38,17 @@ enum-told : tie.Need-enum-told Inv-loop μ-loop
 enum-told c = search needs
 
 returns : tie.Need-returns Inv-loop μ-loop
-returns c = lines-refused _ _ _ (c .before .before .before .before .before .loop .inv) _ (c .before .before .before .before .is-blank-line .ensures) (c .before .before .before .if1 .taken) _ _ _ (c .before .before .line-rest .ensures) (c .enum-told .given .1)
+returns c =
+    lines-refused _ _ _ (c .before .before .before .before .before .loop .inv) _ (c .before .before .before .before .is-blank-line .ensures)
+    (c .before .before .before .if1 .taken) _ _ _ (c .before .before .line-rest .ensures) (c .enum-told .given .1)
 
 loop-less : tie.Need-loop-less Inv-loop μ-loop
 loop-less c = let l = line c in omega arith
 
 loop-again : tie.Need-loop-again Inv-loop μ-loop
-loop-again c = lines-on _ _ _ (c .before .before .before .before .before .before .loop .inv) _ (c .before .before .before .before .before .is-blank-line .ensures) (c .before .before .before .before .if1 .taken) _ (line c)
+loop-again c =
+    lines-on _ _ _ (c .before .before .before .before .before .before .loop .inv) _ (c .before .before .before .before .before .is-blank-line .ensures)
+    (c .before .before .before .before .if1 .taken) _ (line c)
 
 past-requires : tie.Need-past-requires Inv-loop μ-loop
 past-requires c κs = search needs

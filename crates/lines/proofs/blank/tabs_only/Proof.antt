@@ -29,13 +29,20 @@ refused-requires : tie.Need-refused-requires
 refused-requires c κs = search needs
 
 returns-2 : tie.Need-returns-2
-returns-2 c = says-refused _ _ _ _ _ _ _ (c .refused .ensures) (omega arith) (tabs-space _ _ _ (c .before .before .before .before .before .before .end .ensures) (c .before .before .before .before .before .if1 .left) _ (c .before .before .before .before .end2 .ensures) _ (c .before .before .starts-with .ensures) (c .before .if2 .taken))
+returns-2 c =
+    says-refused _ _ _ _ _ _ _ (c .refused .ensures) (omega arith)
+    (tabs-space _ _ _ (c .before .before .before .before .before .before .end .ensures) (c .before .before .before .before .before .if1 .left) _
+    (c .before .before .before .before .end2 .ensures) _ (c .before .before .starts-with .ensures) (c .before .if2 .taken))
 
 past-requires : tie.Need-past-requires
 past-requires c κs = search needs
 
 returns-3 : tie.Need-returns-3
-returns-3 c = says-read _ _ _ _ _ _ _ _ _ (c .past .ensures) (omega arith) (tabs-found _ _ _ (c .before .before .before .before .before .before .end .ensures) (c .before .before .before .before .before .if1 .left) _ (c .before .before .before .before .end2 .ensures) _ (c .before .before .starts-with .ensures) (c .before .if2 .left)) refl refl
+returns-3 c =
+    says-read _ _ _ _ _ _ _ _ _ (c .past .ensures) (omega arith)
+    (tabs-found _ _ _ (c .before .before .before .before .before .before .end .ensures) (c .before .before .before .before .before .if1 .left) _
+    (c .before .before .before .before .end2 .ensures) _ (c .before .before .starts-with .ensures) (c .before .if2 .left))
+    refl refl
 
 pub tabs-only-spec : {M : Type 1} → statement M
 tabs-only-spec =

@@ -1,9 +1,12 @@
 -- A law for each test that fails, and for the last one; what the tests passed says that the sums fit.
+use Prim.Native.Nat.{ℕ, _+_, _-_}
 use mathlib.Core.Path.{_≡_, sym, _∙_}
-use Prim.Native.Nat.{_-_}
+use mathlib.Core.Bool.{true}
+use mathlib.Core.List.{List}
 use native.Mathlib.Omega.{arith}
-use lib.ListN.{length}
+use lib.ListN.{length, drop}
 use borrow.Author.Tests.{not-true, not-false}
+use Rattle.paper.specs.Bytes.{bytes, startsWith}
 use Rattle.lines.specs.Parts.{part}
 use Rattle.lines.proofs.Closing.{other-tabs, no-mark, other-name, no-end, by-rest, name-inside, end-inside, part-length}
 use borrow.Author.Needs.{needs}
@@ -13,6 +16,26 @@ use Rattle.lines.proofs.content.closes.Tie as tie
 -- how long the name is
 size : (c : tie.Start) → length (part (c .args .s .now) (c .args .from) (c .args .to)) ≡ c .args .to - c .args .from
 size c = part-length (c .args .s .now) (c .args .from) (c .args .to) (c .pre .1) (c .pre .2)
+
+-- the places behind the tests that passed, and what they say
+abbrev start : tie.Else1 → tie.Start
+start c = c .before .before .before
+
+abbrev tabbed : tie.Else2 → tie.Else1
+tabbed c = c .before .before .before
+
+abbrev opened : tie.Else3 → tie.Else2
+opened c = c .before .before .before
+
+marked : (c : tie.Else2) → startsWith (bytes "</") (drop (tabbed c .before .end .result) (start (tabbed c) .args .s .now)) ≡ true
+marked c = sym (c .before .starts-with .ensures) ∙ not-false _ (c .if2 .left)
+
+abbrev name : tie.Start → List ℕ
+name c = part (c .args .s .now) (c .args .from) (c .args .to)
+
+named : (c : tie.Else3)
+    → startsWith (name (start (tabbed (opened c)))) (drop (tabbed (opened c) .before .end .result + 2) (start (tabbed (opened c)) .args .s .now)) ≡ true
+named c = sym (c .before .starts-with2 .ensures) ∙ not-false _ (c .if3 .left)
 
 end-requires : tie.Need-end-requires
 end-requires c κs = search needs
@@ -30,10 +53,12 @@ starts-with-requires : tie.Need-starts-with-requires
 starts-with-requires c κs = search needs
 
 returns-2 : tie.Need-returns-2
-returns-2 c = no-mark _ _ _ _ _ _ (c .before .before .before .before .end .ensures) (size (c .before .before .before .before .before .before)) (c .before .before .before .if1 .left) (sym (c .before .starts-with .ensures) ∙ not-true _ (c .if2 .taken))
+returns-2 c =
+    let tabs = c .before .before .before in
+    no-mark _ _ _ _ _ _ (tabs .before .end .ensures) (size (start tabs)) (tabs .if1 .left) (sym (c .before .starts-with .ensures) ∙ not-true _ (c .if2 .taken))
 
-add-starts-with : tie.Need-add-starts-with
-add-starts-with c = search needs
+add-start : tie.Need-add-start
+add-start c = search needs
 
 sub-starts-with : tie.Need-sub-starts-with
 sub-starts-with c = search needs
@@ -49,20 +74,18 @@ starts-with-requires-2 c κs = search needs
 
 returns-3 : tie.Need-returns-3
 returns-3 c =
-    let marked = sym (c .before .before .before .before .starts-with .ensures) ∙ not-false _ (c .before .before .before .if2 .left) in
-    other-name _ _ _ _ _ _ (c .before .before .before .before .before .before .before .end .ensures) (size (c .before .before .before .before .before .before .before .before .before)) (c .before .before .before .before .before .before .if1 .left) marked (sym (c .before .starts-with2 .ensures) ∙ not-true _ (c .if3 .taken))
-
-add-end : tie.Need-add-end
-add-end c = search needs
+    let mark = c .before .before .before in
+    let tabs = tabbed mark in
+    let other = sym (c .before .starts-with2 .ensures) ∙ not-true _ (c .if3 .taken) in
+    other-name _ _ _ _ _ _ (tabs .before .end .ensures) (size (start tabs)) (tabs .if1 .left) (marked mark) other
 
 sub-end : tie.Need-sub-end
 sub-end c = search needs
 
-add-end-2 : tie.Need-add-end-2
-add-end-2 c =
-    let marked = sym (c .before .before .before .before .starts-with .ensures) ∙ not-false _ (c .before .before .before .if2 .left) in
-    let named = sym (c .before .starts-with2 .ensures) ∙ not-false _ (c .if3 .left) in
-    let inside = name-inside _ _ _ _ _ _ (c .before .before .before .before .before .before .before .end .ensures) (size (c .before .before .before .before .before .before .before .before .before)) (c .before .before .before .before .before .before .if1 .left) marked named in
+add-end : tie.Need-add-end
+add-end c =
+    let tabs = tabbed (opened c) in
+    let inside = name-inside _ _ _ _ _ _ (tabs .before .end .ensures) (size (start tabs)) (tabs .if1 .left) (marked (opened c)) (named c) in
     omega arith
 
 slice-aggregate-starts-with-2 : tie.Need-slice-aggregate-starts-with-2
@@ -73,30 +96,32 @@ starts-with-requires-3 c κs = search needs
 
 returns-4 : tie.Need-returns-4
 returns-4 c =
-    let marked = sym (c .before .before .before .before .before .before .before .starts-with .ensures) ∙ not-false _ (c .before .before .before .before .before .before .if2 .left) in
-    let named = sym (c .before .before .before .before .starts-with2 .ensures) ∙ not-false _ (c .before .before .before .if3 .left) in
-    no-end _ _ _ _ _ _ (c .before .before .before .before .before .before .before .before .before .before .end .ensures) (size (c .before .before .before .before .before .before .before .before .before .before .before .before)) (c .before .before .before .before .before .before .before .before .before .if1 .left) marked named (sym (c .before .starts-with3 .ensures) ∙ not-true _ (c .if4 .taken))
+    let name = c .before .before .before in
+    let tabs = tabbed (opened name) in
+    let unended = sym (c .before .starts-with3 .ensures) ∙ not-true _ (c .if4 .taken) in
+    no-end _ _ _ _ _ _ (tabs .before .end .ensures) (size (start tabs)) (tabs .if1 .left) (marked (opened name)) (named name) unended
 
 add-is-over : tie.Need-add-is-over
 add-is-over c =
-    let marked = sym (c .before .before .before .before .before .before .before .starts-with .ensures) ∙ not-false _ (c .before .before .before .before .before .before .if2 .left) in
-    let named = sym (c .before .before .before .before .starts-with2 .ensures) ∙ not-false _ (c .before .before .before .if3 .left) in
-    let inside = name-inside _ _ _ _ _ _ (c .before .before .before .before .before .before .before .before .before .before .end .ensures) (size (c .before .before .before .before .before .before .before .before .before .before .before .before)) (c .before .before .before .before .before .before .before .before .before .if1 .left) marked named in
+    let name = c .before .before .before in
+    let tabs = tabbed (opened name) in
+    let inside = name-inside _ _ _ _ _ _ (tabs .before .end .ensures) (size (start tabs)) (tabs .if1 .left) (marked (opened name)) (named name) in
     omega arith
 
 is-over-requires : tie.Need-is-over-requires
 is-over-requires c κs =
-    let marked = sym (c .before .before .before .before .before .before .before .starts-with .ensures) ∙ not-false _ (c .before .before .before .before .before .before .if2 .left) in
-    let named = sym (c .before .before .before .before .starts-with2 .ensures) ∙ not-false _ (c .before .before .before .if3 .left) in
+    let name = c .before .before .before in
+    let tabs = tabbed (opened name) in
     let ended = sym (c .before .starts-with3 .ensures) ∙ not-false _ (c .if4 .left) in
-    end-inside _ _ _ _ _ _ (c .before .before .before .before .before .before .before .before .before .before .end .ensures) (size (c .before .before .before .before .before .before .before .before .before .before .before .before)) (c .before .before .before .before .before .before .before .before .before .if1 .left) marked named ended
+    end-inside _ _ _ _ _ _ (tabs .before .end .ensures) (size (start tabs)) (tabs .if1 .left) (marked (opened name)) (named name) ended
 
 returns-5 : tie.Need-returns-5
 returns-5 c =
-    let marked = sym (c .before .before .before .before .before .before .before .before .starts-with .ensures) ∙ not-false _ (c .before .before .before .before .before .before .before .if2 .left) in
-    let named = sym (c .before .before .before .before .before .starts-with2 .ensures) ∙ not-false _ (c .before .before .before .before .if3 .left) in
+    let name = c .before .before .before .before in
+    let tabs = tabbed (opened name) in
     let ended = sym (c .before .before .starts-with3 .ensures) ∙ not-false _ (c .before .if4 .left) in
-    c .is-over .ensures ∙ by-rest _ _ _ _ _ _ (c .before .before .before .before .before .before .before .before .before .before .before .end .ensures) (size (c .before .before .before .before .before .before .before .before .before .before .before .before .before)) (c .before .before .before .before .before .before .before .before .before .before .if1 .left) marked named ended
+    c .is-over .ensures
+    ∙ by-rest _ _ _ _ _ _ (tabs .before .end .ensures) (size (start tabs)) (tabs .if1 .left) (marked (opened name)) (named name) ended
 
 pub closes-spec : {M : Type 1} → statement M
 closes-spec =
@@ -108,15 +133,14 @@ closes-spec =
     slice-aggregate-starts-with
     starts-with-requires
     returns-2
-    add-starts-with
+    add-start
     sub-starts-with
     part-starts-with-start
     part-starts-with-end
     starts-with-requires-2
     returns-3
-    add-end
     sub-end
-    add-end-2
+    add-end
     slice-aggregate-starts-with-2
     starts-with-requires-3
     returns-4

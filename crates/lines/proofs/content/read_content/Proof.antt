@@ -40,13 +40,17 @@ abbrev Lines : tie.At-loop Inv-loop μ-loop → ℕ → Type 0
 Lines c end = LinesTo (top c .args .s .now) (part (top c .args .s .now) (top c .args .from) (top c .args .to)) (top c .args .tabs) (start c) end
 
 turn : (c : tie.After-known-told2 Inv-loop μ-loop) → (turned c .loop .i < c .before .line .given .0 .0) × Lines (turned c) (c .before .line .given .0 .0)
-turn c = lines-on _ _ _ _ _ (turned c .loop .inv) _ (c .before .before .before .before .before .closes .ensures) (c .before .before .before .before .if2 .taken) _ (c .before .before .before .read-line .ensures) _ _ _ (c .before .line .given .1)
+turn c =
+    lines-on _ _ _ _ _ (turned c .loop .inv) _ (c .before .before .before .before .before .closes .ensures) (c .before .before .before .before .if2 .taken) _
+    (c .before .before .before .read-line .ensures) _ _ _ (c .before .line .given .1)
 
 -- the closing line ends inside
 size : (c : tie.Start Inv-loop μ-loop) → length (part (c .args .s .now) (c .args .from) (c .args .to)) ≡ c .args .to - c .args .from
 size c = part-length (c .args .s .now) (c .args .from) (c .args .to) (c .pre .2) (c .pre .3)
 
-closing : (c : tie.Else2 Inv-loop μ-loop) → c .before .before .loop .i + top (c .before .before) .args .tabs + 3 + (top (c .before .before) .args .to - top (c .before .before) .args .from) ≤ length (top (c .before .before) .args .s .now)
+closing : (c : tie.Else2 Inv-loop μ-loop)
+    → c .before .before .loop .i + top (c .before .before) .args .tabs + 3 + (top (c .before .before) .args .to - top (c .before .before) .args .from) ≤
+    length (top (c .before .before) .args .s .now)
 closing c =
     let inside = closing-inside _ _ _ _ _ (c .before .before .loop .inv) _ (c .before .closes .ensures) (c .if2 .left) in
     omega (arith, size (top (c .before .before)))
@@ -61,7 +65,10 @@ enum-told : tie.Need-enum-told Inv-loop μ-loop
 enum-told c = search needs
 
 returns : tie.Need-returns Inv-loop μ-loop
-returns c = λ k named. rest-refused _ _ _ (c .before .before .before .before .before .args .at) _ _ _ _ k named _ _ _ _ (c .before .before .line-rest .ensures) (c .enum-told .given .1)
+returns c =
+    λ k named.
+    rest-refused _ _ _ (c .before .before .before .before .before .args .at) _ _ _ _ k named _ _ _ _ (c .before .before .line-rest .ensures)
+    (c .enum-told .given .1)
 
 is-full-requires : tie.Need-is-full-requires Inv-loop μ-loop
 is-full-requires c κs = search needs
@@ -70,7 +77,10 @@ refused-requires : tie.Need-refused-requires Inv-loop μ-loop
 refused-requires c κs = search needs
 
 returns-2 : tie.Need-returns-2 Inv-loop μ-loop
-returns-2 c = λ k named. no-room _ _ _ (c .before .before .before .before .before .before .before .before .before .args .at) _ _ _ _ k named _ _ _ (rest (c .before .before .before)) _ (c .before .before .is-full .ensures) (c .before .if1 .taken) (c .refused .ensures)
+returns-2 c =
+    λ k named.
+    no-room _ _ _ (c .before .before .before .before .before .before .before .before .before .args .at) _ _ _ _ k named _ _ _ (rest (c .before .before .before))
+    _ (c .before .before .is-full .ensures) (c .before .if1 .taken) (c .refused .ensures)
 
 loop-holds : tie.Need-loop-holds Inv-loop μ-loop
 loop-holds c = lines-begin _ _ _ _ (rest (c .before .before) .inside)
@@ -90,8 +100,13 @@ enum-told-2 c = search needs
 returns-3 : tie.Need-returns-3 Inv-loop μ-loop
 returns-3 c =
     λ k named.
-    let refused = lines-refused _ _ _ _ _ (c .before .before .before .before .before .loop .inv) _ (c .before .before .before .before .closes .ensures) (c .before .before .before .if2 .taken) _ (c .before .before .read-line .ensures) _ _ (c .enum-told2 .given .1) in
-    line-refused _ _ _ (c .before .before .before .before .before .before .before .before .before .before .before .before .before .before .args .at) _ _ _ _ k named _ _ _ (rest (c .before .before .before .before .before .before .before .before)) _ (c .before .before .before .before .before .before .before .is-full .ensures) (c .before .before .before .before .before .before .if1 .left) _ _ refused (c .enum-told2 .given .1)
+    let refused =
+    lines-refused _ _ _ _ _ (c .before .before .before .before .before .loop .inv) _ (c .before .before .before .before .closes .ensures)
+    (c .before .before .before .if2 .taken) _ (c .before .before .read-line .ensures) _ _ (c .enum-told2 .given .1) in
+    line-refused _ _ _ (c .before .before .before .before .before .before .before .before .before .before .before .before .before .before .args .at) _ _ _ _ k
+    named _ _ _ (rest (c .before .before .before .before .before .before .before .before)) _
+    (c .before .before .before .before .before .before .before .is-full .ensures) (c .before .before .before .before .before .before .if1 .left) _ _ refused
+    (c .enum-told2 .given .1)
 
 loop-less : tie.Need-loop-less Inv-loop μ-loop
 loop-less c = let t = turn (c) in omega arith
@@ -109,7 +124,9 @@ nameless-requires : tie.Need-nameless-requires Inv-loop μ-loop
 nameless-requires c κs = search needs
 
 put-requires : tie.Need-put-requires Inv-loop μ-loop
-put-requires c κs = room-left _ _ _ (c .before .before .before .before .before .before .before .before .before .before .before .before .before .pre .1) (c .before .before .before .before .before .before .is-full .ensures) (c .before .before .before .before .before .if1 .left)
+put-requires c κs =
+    room-left _ _ _ (c .before .before .before .before .before .before .before .before .before .before .before .before .before .pre .1)
+    (c .before .before .before .before .before .before .is-full .ensures) (c .before .before .before .before .before .if1 .left)
 
 add-t24 : tie.Need-add-t24 Inv-loop μ-loop
 add-t24 c = omega (arith, closing (c .before .before .before .before .before))
@@ -123,14 +140,22 @@ sub-t26 c = search needs
 add-t27 : tie.Need-add-t27 Inv-loop μ-loop
 add-t27 c = omega (arith, closing (c .before .before .before .before .before))
 
+add-t28 : tie.Need-add-t28 Inv-loop μ-loop
+add-t28 c = omega (arith, closing (c .before .before .before .before .before))
+
 same-length : tie.Need-same-length Inv-loop μ-loop
 same-length c = search needs
 
 returns-4 : tie.Need-returns-4 Inv-loop μ-loop
 returns-4 c =
     λ k named.
-    entered _ _ _ (c .before .before .before .before .before .before .before .before .before .before .before .before .before .before .before .before .args .at) _ _ _ _ k named _ _ _ (rest (c .before .before .before .before .before .before .before .before .before .before)) _ (c .before .before .before .before .before .before .before .before .before .is-full .ensures) (c .before .before .before .before .before .before .before .before .if1 .left) _ (c .before .before .before .before .before .before .before .loop .inv) _ (c .before .before .before .before .before .before .closes .ensures) (c .before .before .before .before .before .if2 .left)
-    _ (omega (arith, size (c .before .before .before .before .before .before .before .before .before .before .before .before .before .before .before .before))) refl _ (c .before .before .before .nameless .ensures) (c .before .before .put .ensures)
+    entered _ _ _ (c .before .before .before .before .before .before .before .before .before .before .before .before .before .before .before .before .args .at)
+    _ _ _ _ k named _ _ _ (rest (c .before .before .before .before .before .before .before .before .before .before)) _
+    (c .before .before .before .before .before .before .before .before .before .is-full .ensures)
+    (c .before .before .before .before .before .before .before .before .if1 .left) _ (c .before .before .before .before .before .before .before .loop .inv) _
+    (c .before .before .before .before .before .before .closes .ensures) (c .before .before .before .before .before .if2 .left)
+    _ (omega (arith, size (c .before .before .before .before .before .before .before .before .before .before .before .before .before .before .before .before)))
+    refl _ (c .before .before .before .nameless .ensures) (c .before .before .put .ensures)
 
 pub read-content-spec : {M : Type 1} → statement M
 read-content-spec =
@@ -161,5 +186,6 @@ read-content-spec =
     add-t25
     sub-t26
     add-t27
+    add-t28
     same-length
     returns-4)

@@ -14,7 +14,10 @@ line-rest-requires : tie.Need-line-rest-requires
 line-rest-requires c κs = search needs
 
 returns : tie.Need-returns
-returns c = λ w unclosed. c .line-rest .ensures ∙ line-blank _ w (c .before .before .before .before .args .at) _ unclosed (sym (c .before .before .is-blank-line .ensures) ∙ c .before .if1 .taken)
+returns c =
+    λ w unclosed.
+    c .line-rest .ensures
+    ∙ line-blank _ w (c .before .before .before .before .args .at) _ unclosed (sym (c .before .before .is-blank-line .ensures) ∙ c .before .if1 .taken)
 
 end-requires : tie.Need-end-requires
 end-requires c κs = search needs
@@ -25,7 +28,9 @@ cut-requires c κs = search needs
 returns-2 : tie.Need-returns-2
 returns-2 c =
     λ w unclosed.
-    ap seen (c .cut .ensures) ∙ line-cut _ w _ _ unclosed (sym (c .before .before .before .before .is-blank-line .ensures) ∙ c .before .before .before .if1 .left) _ (c .before .before .end .ensures) (c .before .if2 .taken)
+    ap seen (c .cut .ensures)
+    ∙ line-cut _ w _ _ unclosed (sym (c .before .before .before .before .is-blank-line .ensures) ∙ c .before .before .before .if1 .left) _
+    (c .before .before .end .ensures) (c .before .if2 .taken)
 
 end-requires-2 : tie.Need-end-requires-2
 end-requires-2 c κs = search needs
@@ -40,7 +45,9 @@ returns-3 : tie.Need-returns-3
 returns-3 c =
     λ w unclosed.
     let text = sym (c .before .before .before .before .before .before .is-blank-line .ensures) ∙ c .before .before .before .before .before .if1 .left in
-    ap seen (c .refused .ensures) ∙ line-shallow _ w _ _ unclosed text _ (c .before .before .before .before .end .ensures) (omega arith) _ (c .before .before .end2 .ensures) (c .before .if3 .taken)
+    ap seen (c .refused .ensures)
+    ∙ line-shallow _ w _ _ unclosed text _ (c .before .before .before .before .end .ensures) (omega arith) _ (c .before .before .end2 .ensures)
+    (c .before .if3 .taken)
 
 add-end : tie.Need-add-end
 add-end c = search needs
@@ -57,8 +64,11 @@ line-end-requires c κs = search needs
 returns-4 : tie.Need-returns-4
 returns-4 c =
     λ w unclosed.
-    let text = sym (c .before .before .before .before .before .before .before .is-blank-line .ensures) ∙ c .before .before .before .before .before .before .if1 .left in
-    c .line-end .ensures ∙ line-text _ w _ _ unclosed text _ (c .before .before .before .before .before .end .ensures) (omega arith) _ (c .before .before .before .end2 .ensures) _ (c .before .before .if3 .left) (c .before .end3 .ensures)
+    let text =
+    sym (c .before .before .before .before .before .before .before .is-blank-line .ensures) ∙ c .before .before .before .before .before .before .if1 .left in
+    c .line-end .ensures
+    ∙ line-text _ w _ _ unclosed text _ (c .before .before .before .before .before .end .ensures) (omega arith) _ (c .before .before .before .end2 .ensures) _
+    (c .before .before .if3 .left) (c .before .end3 .ensures)
 
 pub read-line-spec : {M : Type 1} → statement M
 read-line-spec =

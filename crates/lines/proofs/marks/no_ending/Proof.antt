@@ -1,12 +1,11 @@
+-- A law for each way out.
 use Rattle.lines.proofs.MarkLaws.{fault-cut, fault-there}
 use Rattle.lines.proofs.marks.no_ending.Statement.{statement}
 use Rattle.lines.proofs.marks.no_ending.Tie as tie
 
--- src/marks.rt:65:9
 returns : tie.Need-returns
 returns c = fault-cut _ _ (c .if1 .taken)
 
--- src/marks.rt:61:1
 returns-2 : tie.Need-returns-2
 returns-2 c = fault-there _ _ (c .if1 .left)
 

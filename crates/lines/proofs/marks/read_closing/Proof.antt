@@ -1,65 +1,73 @@
--- A law for each way out: each mark is due where the one before it ends; the names are compared as parts of the sheet.
+-- A law for each way out: the fixed bytes, the name, the names compared as parts of the sheet, the end.
 use mathlib.Core.Path.{sym, _∙_}
-use native.Mathlib.Omega.{arith}
-use borrow.Author.Tests.{not-true, not-false}
-use Rattle.lines.proofs.MarkLaws.{no-less, less-inside, no-slash, mark-inside, no-name, name-ahead, name-inside, other-name, same-name}
+use mathlib.Core.Bool.{true}
 use borrow.Author.Needs.{needs}
+use borrow.Author.Tests.{not-true, not-false}
+use Rattle.paper.specs.Bytes.{bytes}
+use Rattle.lines.proofs.ReadAt.{AllDueAt, all-due-at, NameAt, name-at}
+use Rattle.lines.proofs.MarkLaws.{no-mark, no-name, other-name, same-name}
 use Rattle.lines.proofs.marks.read_closing.Statement.{statement}
 use Rattle.lines.proofs.marks.read_closing.Tie as tie
 
-byte-due-requires : tie.Need-byte-due-requires
-byte-due-requires c κs = search needs
+-- the function's start, and what was read at places further on
+abbrev top : tie.After-known-told → tie.Start
+top c = c .before .before .before .before .before .before
 
-enum-known-less : tie.Need-enum-known-less
-enum-known-less c = search needs
+mark : (c : tie.After-known-told) → AllDueAt (bytes "</") (top c .args .s .now) (top c .args .at) (c .before .mark .given .0 .0)
+mark c = all-due-at _ _ _ _ _ _ _ (top c .pre .0) (c .before .before .before .bytes-due .ensures) (c .before .mark .given .1)
+
+abbrev marked : tie.After-known-told2 → tie.After-known-told
+marked c = c .before .before .before .before
+
+named : (c : tie.After-known-told2) → NameAt (λ v. true) (top (marked c) .args .s .now) (marked c .before .mark .given .0 .0) (c .before .name .given .0 .0)
+named c = name-at _ _ _ _ _ _ _ (mark (marked c) .inside) (c .before .before .before .name-end .ensures) (c .before .name .given .1)
+
+slice-aggregate-bytes-due : tie.Need-slice-aggregate-bytes-due
+slice-aggregate-bytes-due c = search needs
+
+bytes-due-requires : tie.Need-bytes-due-requires
+bytes-due-requires c κs = search needs
+
+enum-known-mark : tie.Need-enum-known-mark
+enum-known-mark c = search needs
 
 enum-told : tie.Need-enum-told
 enum-told c = search needs
 
 returns : tie.Need-returns
-returns c = no-less (c .before .before .before .before .args .s .now) (c .before .before .before .before .args .at) _ _ _ _ (c .before .before .byte-due .ensures) (c .enum-told .given .1)
+returns c =
+    no-mark (c .before .before .before .before .before .args .s .now) _ (c .before .before .before .before .before .args .at) _ _ _
+    (c .before .before .bytes-due .ensures) (c .enum-told .given .1)
 
-byte-due-requires-2 : tie.Need-byte-due-requires-2
-byte-due-requires-2 c κs = less-inside _ _ (c .before .before .before .before .before .pre .0) _ _ _ _ (c .before .before .before .byte-due .ensures) (c .before .less .given .1)
+name-end-requires : tie.Need-name-end-requires
+name-end-requires c κs = mark c .inside
 
-enum-known-mark : tie.Need-enum-known-mark
-enum-known-mark c = search needs
+enum-known-name : tie.Need-enum-known-name
+enum-known-name c = search needs
 
 enum-told-2 : tie.Need-enum-told-2
 enum-told-2 c = search needs
 
 returns-2 : tie.Need-returns-2
-returns-2 c = no-slash _ _ (c .before .before .before .before .before .before .before .before .pre .0) _ _ _ _ (c .before .before .before .before .before .before .byte-due .ensures) (c .before .before .before .before .less .given .1) _ _ _ _ (c .before .before .byte-due2 .ensures) (c .enum-told2 .given .1)
-
-name-end-requires : tie.Need-name-end-requires
-name-end-requires c κs = mark-inside _ _ (c .before .before .before .before .before .before .before .before .before .pre .0) _ _ _ _ (c .before .before .before .before .before .before .before .byte-due .ensures) (c .before .before .before .before .before .less .given .1) _ _ _ _ (c .before .before .before .byte-due2 .ensures) (c .before .mark .given .1)
-
-enum-known-name : tie.Need-enum-known-name
-enum-known-name c = search needs
-
-enum-told-3 : tie.Need-enum-told-3
-enum-told-3 c = search needs
-
-returns-3 : tie.Need-returns-3
-returns-3 c = no-name _ _ (c .before .before .before .before .before .before .before .before .before .before .before .before .pre .0) _ _ _ _ (c .before .before .before .before .before .before .before .before .before .before .byte-due .ensures) (c .before .before .before .before .before .before .before .before .less .given .1) _ _ _ _ (c .before .before .before .before .before .before .byte-due2 .ensures) (c .before .before .before .before .mark .given .1) _ _ _ _ (c .before .before .name-end .ensures) (c .enum-told3 .given .1)
+returns-2 c = no-name _ _ _ _ (mark (c .before .before .before)) _ _ _ (c .before .before .name-end .ensures) (c .enum-told2 .given .1)
 
 sub-same : tie.Need-sub-same
 sub-same c = search needs
 
 part-same-start : tie.Need-part-same-start
-part-same-start c = omega (arith, c .before .before .before .before .before .before .before .before .before .before .before .before .before .pre)
+part-same-start c = search needs
 
 part-same-end : tie.Need-part-same-end
-part-same-end c = omega (arith, c .before .before .before .before .before .before .before .before .before .before .before .before .before .pre)
+part-same-end c = search needs
 
 sub-same-2 : tie.Need-sub-same-2
-sub-same-2 c = name-ahead _ _ (c .before .before .before .before .before .before .before .before .before .before .before .before .before .before .pre .0) _ _ _ _ (c .before .before .before .before .before .before .before .before .before .before .before .before .byte-due .ensures) (c .before .before .before .before .before .before .before .before .before .before .less .given .1) _ _ _ _ (c .before .before .before .before .before .before .before .before .byte-due2 .ensures) (c .before .before .before .before .before .before .mark .given .1) _ _ _ _ (c .before .before .before .before .name-end .ensures) (c .before .before .name .given .1)
+sub-same-2 c = named (c .before) .ahead
 
 part-same-start-2 : tie.Need-part-same-start-2
-part-same-start-2 c = name-ahead _ _ (c .before .before .before .before .before .before .before .before .before .before .before .before .before .before .pre .0) _ _ _ _ (c .before .before .before .before .before .before .before .before .before .before .before .before .byte-due .ensures) (c .before .before .before .before .before .before .before .before .before .before .less .given .1) _ _ _ _ (c .before .before .before .before .before .before .before .before .byte-due2 .ensures) (c .before .before .before .before .before .before .mark .given .1) _ _ _ _ (c .before .before .before .before .name-end .ensures) (c .before .before .name .given .1)
+part-same-start-2 c = named (c .before) .ahead
 
 part-same-end-2 : tie.Need-part-same-end-2
-part-same-end-2 c = name-inside _ _ (c .before .before .before .before .before .before .before .before .before .before .before .before .before .before .pre .0) _ _ _ _ (c .before .before .before .before .before .before .before .before .before .before .before .before .byte-due .ensures) (c .before .before .before .before .before .before .before .before .before .before .less .given .1) _ _ _ _ (c .before .before .before .before .before .before .before .before .byte-due2 .ensures) (c .before .before .before .before .before .before .mark .given .1) _ _ _ _ (c .before .before .before .before .name-end .ensures) (c .before .before .name .given .1)
+part-same-end-2 c = named (c .before) .inside
 
 same-requires : tie.Need-same-requires
 same-requires c κs = search needs
@@ -67,31 +75,37 @@ same-requires c κs = search needs
 refused-requires : tie.Need-refused-requires
 refused-requires c κs = search needs
 
+returns-3 : tie.Need-returns-3
+returns-3 c =
+    let name = c .before .before .before .before .before in
+    let other = sym (c .before .before .same .ensures) ∙ not-true _ (c .before .if1 .taken) in
+    other-name _ _ _ _ (mark (marked name)) _ (named name) _ other (c .refused .ensures)
+
+slice-aggregate-bytes-due-2 : tie.Need-slice-aggregate-bytes-due-2
+slice-aggregate-bytes-due-2 c = search needs
+
+bytes-due-requires-2 : tie.Need-bytes-due-requires-2
+bytes-due-requires-2 c κs = named (c .before .before .before .before .before) .inside
+
 returns-4 : tie.Need-returns-4
-returns-4 c = other-name _ _ (c .before .before .before .before .before .before .before .before .before .before .before .before .before .before .before .before .before .before .pre .0) _ _ _ _ (c .before .before .before .before .before .before .before .before .before .before .before .before .before .before .before .before .byte-due .ensures) (c .before .before .before .before .before .before .before .before .before .before .before .before .before .before .less .given .1) _ _ _ _ (c .before .before .before .before .before .before .before .before .before .before .before .before .byte-due2 .ensures) (c .before .before .before .before .before .before .before .before .before .before .mark .given .1) _ _ _ _ (c .before .before .before .before .before .before .before .before .name-end .ensures) (c .before .before .before .before .before .before .name .given .1) _ _ (sym (c .before .before .same .ensures) ∙ not-true _ (c .before .if1 .taken)) (c .refused .ensures)
-
-byte-due-requires-3 : tie.Need-byte-due-requires-3
-byte-due-requires-3 c κs = name-inside _ _ (c .before .before .before .before .before .before .before .before .before .before .before .before .before .before .before .before .before .pre .0) _ _ _ _ (c .before .before .before .before .before .before .before .before .before .before .before .before .before .before .before .byte-due .ensures) (c .before .before .before .before .before .before .before .before .before .before .before .before .before .less .given .1) _ _ _ _ (c .before .before .before .before .before .before .before .before .before .before .before .byte-due2 .ensures) (c .before .before .before .before .before .before .before .before .before .mark .given .1) _ _ _ _ (c .before .before .before .before .before .before .before .name-end .ensures) (c .before .before .before .before .before .name .given .1)
-
-returns-5 : tie.Need-returns-5
-returns-5 c = same-name _ _ (c .before .before .before .before .before .before .before .before .before .before .before .before .before .before .before .before .before .before .pre .0) _ _ _ _ (c .before .before .before .before .before .before .before .before .before .before .before .before .before .before .before .before .byte-due .ensures) (c .before .before .before .before .before .before .before .before .before .before .before .before .before .before .less .given .1) _ _ _ _ (c .before .before .before .before .before .before .before .before .before .before .before .before .byte-due2 .ensures) (c .before .before .before .before .before .before .before .before .before .before .mark .given .1) _ _ _ _ (c .before .before .before .before .before .before .before .before .name-end .ensures) (c .before .before .before .before .before .before .name .given .1) _ (c .byte-due3 .result) (sym (c .before .before .same .ensures) ∙ not-false _ (c .before .if1 .left)) (c .byte-due3 .ensures)
+returns-4 c =
+    let name = c .before .before .before .before .before .before in
+    let alike = sym (c .before .before .before .same .ensures) ∙ not-false _ (c .before .before .if1 .left) in
+    same-name _ _ _ _ (mark (marked name)) _ (named name) (c .bytes-due2 .result) alike (c .bytes-due2 .ensures)
 
 pub read-closing-spec : {M : Type 1} → statement M
 read-closing-spec =
     tie.close
     (tie.spec
-    byte-due-requires
-    enum-known-less
+    slice-aggregate-bytes-due
+    bytes-due-requires
+    enum-known-mark
     enum-told
     returns
-    byte-due-requires-2
-    enum-known-mark
-    enum-told-2
-    returns-2
     name-end-requires
     enum-known-name
-    enum-told-3
-    returns-3
+    enum-told-2
+    returns-2
     sub-same
     part-same-start
     part-same-end
@@ -100,6 +114,7 @@ read-closing-spec =
     part-same-end-2
     same-requires
     refused-requires
-    returns-4
-    byte-due-requires-3
-    returns-5)
+    returns-3
+    slice-aggregate-bytes-due-2
+    bytes-due-requires-2
+    returns-4)

@@ -29,7 +29,8 @@ past-requires : tie.Need-past-requires
 past-requires c κs = search needs
 
 returns-3 : tie.Need-returns-3
-returns-3 c = says-read _ _ _ _ _ _ _ _ _ (c .past .ensures) (omega arith) (due-here _ _ _ (c .before .before .before .if1 .left) (c .before .if2 .left)) refl refl
+returns-3 c =
+    says-read _ _ _ _ _ _ _ _ _ (c .past .ensures) (omega arith) (due-here _ _ _ (c .before .before .before .if1 .left) (c .before .if2 .left)) refl refl
 
 pub byte-due-spec : {M : Type 1} → statement M
 byte-due-spec =

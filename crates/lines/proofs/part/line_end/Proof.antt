@@ -25,7 +25,8 @@ past-requires : tie.Need-past-requires
 past-requires c κs = search needs
 
 returns-2 : tie.Need-returns-2
-returns-2 c = says-read _ _ _ _ _ _ _ _ _ (c .past .ensures) (omega arith) (line-lf _ _ _ (c .before .before .before .if1 .left) (c .before .if2 .taken)) refl refl
+returns-2 c =
+    says-read _ _ _ _ _ _ _ _ _ (c .past .ensures) (omega arith) (line-lf _ _ _ (c .before .before .before .if1 .left) (c .before .if2 .taken)) refl refl
 
 slice-aggregate-starts-with : tie.Need-slice-aggregate-starts-with
 slice-aggregate-starts-with c = search needs
@@ -40,13 +41,25 @@ past-requires-2 : tie.Need-past-requires-2
 past-requires-2 c κs = search needs
 
 returns-3 : tie.Need-returns-3
-returns-3 c = says-read _ _ _ _ _ _ _ _ _ (c .past2 .ensures) (omega (arith, stands-inside (bytes "\r\n") (c .before .before .before .before .before .before .before .before .args .s .now) (c .before .before .before .before .before .before .before .before .args .at) (sym (c .before .before .starts-with .ensures) ∙ c .before .if3 .taken))) (line-crlf _ _ _ (c .before .before .before .before .before .before .if1 .left) (c .before .before .before .before .if2 .left) _ (c .before .before .starts-with .ensures) (c .before .if3 .taken)) refl refl
+returns-3 c =
+    says-read _ _ _ _ _ _ _ _ _ (c .past2 .ensures)
+    (omega (
+      arith,
+      stands-inside (bytes "\r\n") (c .before .before .before .before .before .before .before .before .args .s .now)
+          (c .before .before .before .before .before .before .before .before .args .at) (sym (c .before .before .starts-with .ensures) ∙ c .before .if3 .taken),
+    ))
+    (line-crlf _ _ _ (c .before .before .before .before .before .before .if1 .left) (c .before .before .before .before .if2 .left) _
+    (c .before .before .starts-with .ensures) (c .before .if3 .taken))
+    refl refl
 
 refused-requires : tie.Need-refused-requires
 refused-requires c κs = search needs
 
 returns-4 : tie.Need-returns-4
-returns-4 c = says-refused _ _ _ _ _ _ _ (c .refused .ensures) (omega arith) (line-other _ _ _ (c .before .before .before .before .before .before .if1 .left) (c .before .before .before .before .if2 .left) _ (c .before .before .starts-with .ensures) (c .before .if3 .left))
+returns-4 c =
+    says-refused _ _ _ _ _ _ _ (c .refused .ensures) (omega arith)
+    (line-other _ _ _ (c .before .before .before .before .before .before .if1 .left) (c .before .before .before .before .if2 .left) _
+    (c .before .before .starts-with .ensures) (c .before .if3 .left))
 
 pub line-end-spec : {M : Type 1} → statement M
 line-end-spec =

@@ -20,7 +20,9 @@ refused-requires : tie.Need-refused-requires
 refused-requires c κs = search needs
 
 returns-2 : tie.Need-returns-2
-returns-2 c = says-refused _ _ _ _ _ _ _ (c .refused .ensures) (omega arith) (name-none _ _ _ _ (c .before .before .before .end .ensures) (c .before .before .if1 .left) (c .before .if2 .taken))
+returns-2 c =
+    says-refused _ _ _ _ _ _ _ (c .refused .ensures) (omega arith)
+    (name-none _ _ _ _ (c .before .before .before .end .ensures) (c .before .before .if1 .left) (c .before .if2 .taken))
 
 sub-keeps-rule : tie.Need-sub-keeps-rule
 sub-keeps-rule c = search needs
@@ -38,13 +40,20 @@ refused-requires-2 : tie.Need-refused-requires-2
 refused-requires-2 c κs = search needs
 
 returns-3 : tie.Need-returns-3
-returns-3 c = says-refused _ _ _ _ _ _ _ (c .refused2 .ensures) (omega arith) (name-bad _ _ _ _ (c .before .before .before .before .before .before .end .ensures) (c .before .before .before .before .before .if1 .left) (c .before .before .before .before .if2 .left) _ (c .before .before .keeps-rule .ensures) (c .before .if3 .taken))
+returns-3 c =
+    says-refused _ _ _ _ _ _ _ (c .refused2 .ensures) (omega arith)
+    (name-bad _ _ _ _ (c .before .before .before .before .before .before .end .ensures) (c .before .before .before .before .before .if1 .left)
+    (c .before .before .before .before .if2 .left) _ (c .before .before .keeps-rule .ensures) (c .before .if3 .taken))
 
 past-requires : tie.Need-past-requires
 past-requires c κs = search needs
 
 returns-4 : tie.Need-returns-4
-returns-4 c = says-read _ _ _ _ _ _ _ _ _ (c .past .ensures) (omega arith) (name-good _ _ _ _ (c .before .before .before .before .before .before .end .ensures) (c .before .before .before .before .before .if1 .left) (c .before .before .before .before .if2 .left) _ (c .before .before .keeps-rule .ensures) (c .before .if3 .left)) refl refl
+returns-4 c =
+    says-read _ _ _ _ _ _ _ _ _ (c .past .ensures) (omega arith)
+    (name-good _ _ _ _ (c .before .before .before .before .before .before .end .ensures) (c .before .before .before .before .before .if1 .left)
+    (c .before .before .before .before .if2 .left) _ (c .before .before .keeps-rule .ensures) (c .before .if3 .left))
+    refl refl
 
 pub name-end-spec : {M : Type 1} → statement M
 name-end-spec =

@@ -37,7 +37,12 @@ loop-less : tie.Need-loop-less Inv-loop μ-loop
 loop-less c = search needs
 
 loop-again : tie.Need-loop-again Inv-loop μ-loop
-loop-again c = (omega arith, search needs, same-on _ _ _ (c .before .before .before .loop-test .taken) (omega arith) (c .if2 .left) ∙ c .before .before .before .before .loop .inv .2)
+loop-again c = (
+  omega arith,
+  search needs,
+  same-on _ _ _ (c .before .before .before .loop-test .taken) (omega arith) (c .if2 .left)
+      ∙ c .before .before .before .before .loop .inv .2,
+)
 
 returns-3 : tie.Need-returns-3 Inv-loop μ-loop
 returns-3 c = same-out _ _ _ (c .loop-test .left) (omega arith) ∙ c .before .loop .inv .2

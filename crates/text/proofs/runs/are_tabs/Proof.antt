@@ -1,26 +1,23 @@
--- The invariant: where no other byte was seen, all before are of the class. The measure is what is left of the 8. Assumes nothing.
-use Prim.Native.Nat.{_+_, _-_, _≤_}
-use mathlib.Core.Path.{_≡_, sym, _∙_}
-use mathlib.Core.Bool.{true}
+-- The invariant: so many bytes were looked at. The measure is what is left of the 8. Assumes nothing.
+use Prim.Native.Nat.{_-_}
 use mathlib.Core.Logic.{⊎-elim}
 use native.Mathlib.Omega.{arith}
 use borrow.Author.Needs.{needs}
 use borrow.Author.Tests.{eq-eqb}
-use Rattle.paper.proofs.Tests.{true-false}
 use Rattle.text.specs.declared.runs.Class.{Class}
-use Rattle.text.specs.Runs.{inClass, Skips}
-use Rattle.text.proofs.Stretch.{skips-none, skips-on}
+use Rattle.text.specs.Runs.{inClass}
+use Rattle.text.proofs.Stretch.{Looked, looked-none, looked-other, looked-one, looked-all}
 use Rattle.text.proofs.runs.are_tabs.Statement.{statement}
 use Rattle.text.proofs.runs.are_tabs.Tie as tie
 
 abbrev Inv-loop : tie.InvT-loop
-Inv-loop s at all₀ i₀ all i = (i ≤ 8) × (all ≡ true → Skips (inClass Class.Tab) s at (at + i))
+Inv-loop s at all₀ i₀ all i = Looked (inClass Class.Tab) s at 8 all i
 
 abbrev μ-loop : tie.MeasureT-loop
 μ-loop s at all₀ i₀ all i = 8 - i
 
 loop-holds : tie.Need-loop-holds Inv-loop μ-loop
-loop-holds c = (omega arith, λ e. skips-none _ _ _ (omega arith))
+loop-holds c = looked-none _ _ _ _ (omega arith)
 
 add-if1 : tie.Need-add-if1 Inv-loop μ-loop
 add-if1 c = search needs
@@ -36,18 +33,12 @@ loop-less c = search needs
 
 loop-again : tie.Need-loop-again Inv-loop μ-loop
 loop-again c =
-    let start = c .before .before .before .before in
-    let turn = c .before .before .before in (
-      omega arith,
-      λ e. ⊎-elim (λ w. true-false (sym e ∙ w .1))
-          (λ w. skips-on _ (start .args .s .now) (start .args .at) (turn .loop .i) (omega arith) (eq-eqb _ _ (w .0 .left)) (turn .loop .inv .1 (sym (w .1) ∙ e)))
-          (c .if1 .came),
-    )
+    let so-far = c .before .before .before .loop .inv in
+    ⊎-elim (λ w. looked-other so-far (omega arith) _ (w .1)) (λ w. looked-one so-far (omega arith) (omega arith) (eq-eqb _ _ (w .0 .left)) _ (w .1))
+    (c .if1 .came)
 
 returns : tie.Need-returns Inv-loop μ-loop
-returns c = λ e.
-    let end : c .before .loop .i ≡ 8 = omega arith in
-    rw end at (c .before .loop .inv .1 e)
+returns c = λ e. looked-all (c .before .loop .inv) (omega arith) e
 
 pub are-tabs-spec : {M : Type 1} → statement M
 are-tabs-spec =

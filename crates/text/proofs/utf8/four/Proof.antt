@@ -1,31 +1,63 @@
--- Each way out is a law of four bytes; `second`, `third` and `fourth` are what the calls found, `lead` what the row says. Assumes nothing.
-use mathlib.Core.Path.{sym, _∙_}
-use Prim.Native.Nat.{_+_}
+-- Each byte that follows is a turn of one law; `first` is the row of the first byte, the others what the calls found. Assumes nothing.
+use mathlib.Core.Path.{_≡_, refl}
+use Prim.Native.Nat.{ℕ, _+_, _-_, _*_, _<_, _≤_}
 use native.Mathlib.Omega.{arith}
 use lib.ListN.{getD}
-use Rattle.paper.proofs.Scalars.{Four, leads-as}
-use Rattle.text.proofs.Steps.{Followed, followed, missed, four-broken, four-broken-2, four-broken-3, four-found}
 use borrow.Author.Needs.{needs}
+use Rattle.paper.proofs.Scalars.{leads-as}
+use Rattle.text.proofs.Steps.{Awaits, awaits-four, broken, six, goes-on, is-whole}
 use Rattle.text.proofs.utf8.four.Statement.{statement}
 use Rattle.text.proofs.utf8.four.Tie as tie
 
-lead : (c : tie.Start) → Four (getD (c .args .s .now) (c .args .at) 0) (c .args .low) (c .args .high)
-lead c = leads-as _ _ (c .pre .1)
+abbrev byte : tie.Start → ℕ
+byte c = getD (c .args .s .now) (c .args .at) 0
 
-second : (c : tie.After-known-told) → Followed (c .before .before .before .before .before .args .s .now) (c .before .before .before .before .before .args .at + 1) (c .before .before .before .before .before .args .low) (c .before .before .before .before .before .args .high) (c .before .before .before .before .before .args .at + 2) (c .before .second .given .0 .0)
-second c = followed _ _ _ _ (lead (c .before .before .before .before .before) .bounds .2) _ _ (omega arith) (sym (c .before .second .given .1) ∙ c .before .before .before .follower .ensures)
+first : (c : tie.Start) → Awaits (c .args .s .now) (c .args .at) (c .args .at + 1) (c .args .low) (c .args .high) 2 (byte c - 0xF0)
+first c = awaits-four _ _ (c .pre .0) _ _ (c .pre .1)
 
-third : (c : tie.After-known-told2) → Followed (c .before .before .before .before .before .before .before .before .before .args .s .now) (c .before .before .before .before .before .before .before .before .before .args .at + 2) 0x80 0xBF (c .before .before .before .before .before .before .before .before .before .args .at + 3) (c .before .third .given .0 .0)
-third c = followed _ _ _ _ (omega arith) _ _ (omega arith) (sym (c .before .third .given .1) ∙ c .before .before .before .follower2 .ensures)
+abbrev top : tie.After-known-told → tie.Start
+top c = c .before .before .before .before .before
 
-fourth : (c : tie.After-known-told3) → Followed (c .before .before .before .before .before .before .before .before .before .before .before .before .before .args .s .now) (c .before .before .before .before .before .before .before .before .before .before .before .before .before .args .at + 3) 0x80 0xBF (c .before .before .before .before .before .before .before .before .before .before .before .before .before .args .at + 4) (c .before .fourth .given .0 .0)
-fourth c = followed _ _ _ _ (omega arith) _ _ (omega arith) (sym (c .before .fourth .given .1) ∙ c .before .before .before .follower3 .ensures)
+second : (c : tie.After-known-told)
+    → Awaits (top c .args .s .now) (top c .args .at) (top c .args .at + 2) 0x80 0xBF 1
+    ((byte (top c) - 0xF0) * 64 + c .before .second .given .0 .0)
+second c = goes-on (first (top c)) (c .before .before .before .follower .ensures) (c .before .second .given .1) (omega arith) 1 refl
+
+second-bits : (c : tie.After-known-told) → c .before .second .given .0 .0 ≤ 63
+second-bits c = six (first (top c)) (c .before .before .before .follower .ensures) (c .before .second .given .1)
+
+abbrev top2 : tie.After-known-told2 → tie.Start
+top2 c = top (c .before .before .before .before)
+
+third : (c : tie.After-known-told2)
+    → Awaits (top2 c .args .s .now) (top2 c .args .at) (top2 c .args .at + 3) 0x80 0xBF 0
+    (((byte (top2 c) - 0xF0) * 64 + c .before .before .before .before .before .second .given .0 .0) * 64 + c .before .third .given .0 .0)
+third c = goes-on (second (c .before .before .before .before)) (c .before .before .before .follower2 .ensures) (c .before .third .given .1) (omega arith) 0 refl
+
+third-bits : (c : tie.After-known-told2) → c .before .third .given .0 .0 ≤ 63
+third-bits c = six (second (c .before .before .before .before)) (c .before .before .before .follower2 .ensures) (c .before .third .given .1)
+
+abbrev top3 : tie.After-known-told3 → tie.Start
+top3 c = top2 (c .before .before .before .before)
+
+fourth-bits : (c : tie.After-known-told3) → c .before .fourth .given .0 .0 ≤ 63
+fourth-bits c = six (third (c .before .before .before .before)) (c .before .before .before .follower3 .ensures) (c .before .fourth .given .1)
+
+numbers : (c : tie.After-shared-slice-known2)
+    → (byte (top3 (c .before)) < 256) × (c .before .before .before .before .before .before .before .before .before .before .second .given .0 .0 ≤ 63) ×
+    (c .before .before .before .before .before .before .third .given .0 .0 ≤ 63) × (c .before .before .fourth .given .0 .0 ≤ 63)
+numbers c = (
+  omega (arith, c .shared-slice-known2 .given (top3 (c .before) .args .at)),
+  second-bits (c .before .before .before .before .before .before .before .before .before),
+  third-bits (c .before .before .before .before .before),
+  fourth-bits (c .before),
+)
 
 add-follower : tie.Need-add-follower
 add-follower c = search needs
 
 follower-requires : tie.Need-follower-requires
-follower-requires c κs = lead (c .before) .bounds .2
+follower-requires c κs = first (c .before) .from
 
 enum-known-second : tie.Need-enum-known-second
 enum-known-second c = search needs
@@ -34,7 +66,7 @@ enum-told : tie.Need-enum-told
 enum-told c = search needs
 
 returns : tie.Need-returns
-returns c = four-broken _ _ (c .before .before .before .before .pre .0) _ _ (c .before .before .before .before .pre .1) (missed _ _ _ _ (sym (c .enum-told .given .1) ∙ c .before .before .follower .ensures))
+returns c = broken (first (c .before .before .before .before)) (c .before .before .follower .ensures) (c .enum-told .given .1)
 
 add-follower-2 : tie.Need-add-follower-2
 add-follower-2 c = search needs
@@ -49,7 +81,7 @@ enum-told-2 : tie.Need-enum-told-2
 enum-told-2 c = search needs
 
 returns-2 : tie.Need-returns-2
-returns-2 c = four-broken-2 _ _ (c .before .before .before .before .before .before .before .before .pre .0) _ _ (c .before .before .before .before .before .before .before .before .pre .1) _ (second (c .before .before .before)) (missed _ _ _ _ (sym (c .enum-told2 .given .1) ∙ c .before .before .follower2 .ensures))
+returns-2 c = broken (second (c .before .before .before)) (c .before .before .follower2 .ensures) (c .enum-told2 .given .1)
 
 add-follower-3 : tie.Need-add-follower-3
 add-follower-3 c = search needs
@@ -64,40 +96,42 @@ enum-told-3 : tie.Need-enum-told-3
 enum-told-3 c = search needs
 
 returns-3 : tie.Need-returns-3
-returns-3 c = four-broken-3 _ _ (c .before .before .before .before .before .before .before .before .before .before .before .before .pre .0) _ _ (c .before .before .before .before .before .before .before .before .before .before .before .before .pre .1) _ (second (c .before .before .before .before .before .before .before)) _ (third (c .before .before .before)) (missed _ _ _ _ (sym (c .enum-told3 .given .1) ∙ c .before .before .follower3 .ensures))
+returns-3 c = broken (third (c .before .before .before)) (c .before .before .follower3 .ensures) (c .enum-told3 .given .1)
 
 shared-slice-read-b : tie.Need-shared-slice-read-b
 shared-slice-read-b c = search needs
 
 sub-b : tie.Need-sub-b
-sub-b c = omega (arith, lead (c .before .before .before .before .before .before .before .before .before .before .before .before .before .before) .bounds)
+sub-b c = omega (arith, leads-as _ _ (top3 (c .before) .pre .1) .bounds)
 
 cast-b : tie.Need-cast-b
-cast-b c = omega (arith, c .shared-slice-known2 .given (c .before .before .before .before .before .before .before .before .before .before .before .before .before .before .args .at))
+cast-b c = omega (arith, numbers c)
 
 mul-t16 : tie.Need-mul-t16
-mul-t16 c = omega (arith, c .shared-slice-known2 .given (c .before .before .before .before .before .before .before .before .before .before .before .before .before .before .args .at))
+mul-t16 c = omega (arith, numbers c)
 
 add-t17 : tie.Need-add-t17
-add-t17 c = omega (arith, c .shared-slice-known2 .given (c .before .before .before .before .before .before .before .before .before .before .before .before .before .before .args .at), second (c .before .before .before .before .before .before .before .before .before), lead (c .before .before .before .before .before .before .before .before .before .before .before .before .before .before) .bounds)
+add-t17 c = omega (arith, numbers c)
 
 mul-t18 : tie.Need-mul-t18
-mul-t18 c = omega (arith, c .shared-slice-known2 .given (c .before .before .before .before .before .before .before .before .before .before .before .before .before .before .args .at), second (c .before .before .before .before .before .before .before .before .before), lead (c .before .before .before .before .before .before .before .before .before .before .before .before .before .before) .bounds)
+mul-t18 c = omega (arith, numbers c)
 
 add-t19 : tie.Need-add-t19
-add-t19 c = omega (arith, c .shared-slice-known2 .given (c .before .before .before .before .before .before .before .before .before .before .before .before .before .before .args .at), second (c .before .before .before .before .before .before .before .before .before), third (c .before .before .before .before .before), lead (c .before .before .before .before .before .before .before .before .before .before .before .before .before .before) .bounds)
+add-t19 c = omega (arith, numbers c)
 
 mul-t20 : tie.Need-mul-t20
-mul-t20 c = omega (arith, c .shared-slice-known2 .given (c .before .before .before .before .before .before .before .before .before .before .before .before .before .before .args .at), second (c .before .before .before .before .before .before .before .before .before), third (c .before .before .before .before .before), lead (c .before .before .before .before .before .before .before .before .before .before .before .before .before .before) .bounds)
+mul-t20 c = omega (arith, numbers c)
 
 add-t21 : tie.Need-add-t21
-add-t21 c = omega (arith, c .shared-slice-known2 .given (c .before .before .before .before .before .before .before .before .before .before .before .before .before .before .args .at), second (c .before .before .before .before .before .before .before .before .before), third (c .before .before .before .before .before), fourth (c .before), lead (c .before .before .before .before .before .before .before .before .before .before .before .before .before .before) .bounds)
+add-t21 c = omega (arith, numbers c)
 
 add-t12 : tie.Need-add-t12
 add-t12 c = search needs
 
 returns-4 : tie.Need-returns-4
-returns-4 c = four-found _ _ (c .before .before .before .before .before .before .before .before .before .before .before .before .before .before .pre .0) _ _ (c .before .before .before .before .before .before .before .before .before .before .before .before .before .before .pre .1) _ (second (c .before .before .before .before .before .before .before .before .before)) _ (third (c .before .before .before .before .before)) _ (fourth (c .before))
+returns-4 c =
+    is-whole (third (c .before .before .before .before .before)) (c .before .before .before .before .follower3 .ensures) (c .before .before .fourth .given .1)
+    (omega arith) refl
 
 pub four-spec : {M : Type 1} → statement M
 four-spec =

@@ -1,4 +1,5 @@
--- The invariant: so many of the bytes before are plain; where all are, the check goes on behind them. The measure is what is left of the block. Assumes nothing.
+-- The invariant: so many of the bytes before are plain; where all are, the check goes on behind them.
+-- The measure is what is left of the block. Assumes nothing.
 use Prim.Native.Nat.{_+_, _-_, _≤_}
 use mathlib.Core.Path.{_≡_}
 use native.Mathlib.Omega.{arith}
@@ -41,8 +42,12 @@ loop-less c = search needs
 loop-again : tie.Need-loop-again Inv-loop μ-loop
 loop-again c =
     let turn = c .before .before .before in
-    let p = c .plain .ensures in
-    (omega arith, omega (arith, p .0), λ e. block-on _ (c .before .before .before .before .before .args .at) (turn .loop .i) (turn .loop .count) (c .plain .result) (omega arith) (turn .loop .inv .1) (turn .loop .inv .2) (p .0) (p .1) e)
+    let p = c .plain .ensures in (
+      omega arith,
+      omega (arith, p .0),
+      λ e. block-on _ (c .before .before .before .before .before .args .at) (turn .loop .i) (turn .loop .count)
+          (c .plain .result) (omega arith) (turn .loop .inv .1) (turn .loop .inv .2) (p .0) (p .1) e,
+    )
 
 returns : tie.Need-returns Inv-loop μ-loop
 returns c = λ e.

@@ -21,7 +21,8 @@ returns : tie.Need-returns
 returns c = (
   omega arith,
   λ e. ⊎-elim (λ w. tab-or-lf (c .before .before) (w .0 .taken))
-      (⊎-elim (λ w. plain-printing _ (w .1 .taken) (leb-true _ _ (sym (w .2) ∙ c .if4 .taken))) (λ w. true-false (sym (c .if4 .taken) ∙ w .2 ∙ lt-leb _ _ (w .1 .left))))
+      (⊎-elim (λ w. plain-printing _ (w .1 .taken) (leb-true _ _ (sym (w .2) ∙ c .if4 .taken)))
+      (λ w. true-false (sym (c .if4 .taken) ∙ w .2 ∙ lt-leb _ _ (w .1 .left))))
       (c .before .if2 .came),
 )
 

@@ -1,28 +1,51 @@
--- Each way out is a law of three bytes; `second` and `third` are what the calls found, `lead` what the row says. Assumes nothing.
-use mathlib.Core.Path.{sym, _∙_}
-use Prim.Native.Nat.{_+_}
+-- Each byte that follows is a turn of one law; `first` is the row of the first byte, the others what the calls found. Assumes nothing.
+use mathlib.Core.Path.{_≡_, refl}
+use Prim.Native.Nat.{ℕ, _+_, _-_, _*_, _<_, _≤_}
 use native.Mathlib.Omega.{arith}
 use lib.ListN.{getD}
-use Rattle.paper.proofs.Scalars.{Three, leads-as}
-use Rattle.text.proofs.Steps.{Followed, followed, missed, three-broken, three-broken-2, three-found}
 use borrow.Author.Needs.{needs}
+use Rattle.paper.proofs.Scalars.{leads-as}
+use Rattle.text.proofs.Steps.{Awaits, awaits-three, broken, six, goes-on, is-whole}
 use Rattle.text.proofs.utf8.three.Statement.{statement}
 use Rattle.text.proofs.utf8.three.Tie as tie
 
-lead : (c : tie.Start) → Three (getD (c .args .s .now) (c .args .at) 0) (c .args .low) (c .args .high)
-lead c = leads-as _ _ (c .pre .1)
+abbrev byte : tie.Start → ℕ
+byte c = getD (c .args .s .now) (c .args .at) 0
 
-second : (c : tie.After-known-told) → Followed (c .before .before .before .before .before .args .s .now) (c .before .before .before .before .before .args .at + 1) (c .before .before .before .before .before .args .low) (c .before .before .before .before .before .args .high) (c .before .before .before .before .before .args .at + 2) (c .before .second .given .0 .0)
-second c = followed _ _ _ _ (lead (c .before .before .before .before .before) .bounds .2) _ _ (omega arith) (sym (c .before .second .given .1) ∙ c .before .before .before .follower .ensures)
+first : (c : tie.Start) → Awaits (c .args .s .now) (c .args .at) (c .args .at + 1) (c .args .low) (c .args .high) 1 (byte c - 0xE0)
+first c = awaits-three _ _ (c .pre .0) _ _ (c .pre .1)
 
-third : (c : tie.After-known-told2) → Followed (c .before .before .before .before .before .before .before .before .before .args .s .now) (c .before .before .before .before .before .before .before .before .before .args .at + 2) 0x80 0xBF (c .before .before .before .before .before .before .before .before .before .args .at + 3) (c .before .third .given .0 .0)
-third c = followed _ _ _ _ (omega arith) _ _ (omega arith) (sym (c .before .third .given .1) ∙ c .before .before .before .follower2 .ensures)
+abbrev top : tie.After-known-told → tie.Start
+top c = c .before .before .before .before .before
+
+second : (c : tie.After-known-told)
+    → Awaits (top c .args .s .now) (top c .args .at) (top c .args .at + 2) 0x80 0xBF 0
+    ((byte (top c) - 0xE0) * 64 + c .before .second .given .0 .0)
+second c = goes-on (first (top c)) (c .before .before .before .follower .ensures) (c .before .second .given .1) (omega arith) 0 refl
+
+second-bits : (c : tie.After-known-told) → c .before .second .given .0 .0 ≤ 63
+second-bits c = six (first (top c)) (c .before .before .before .follower .ensures) (c .before .second .given .1)
+
+abbrev top2 : tie.After-known-told2 → tie.Start
+top2 c = top (c .before .before .before .before)
+
+third-bits : (c : tie.After-known-told2) → c .before .third .given .0 .0 ≤ 63
+third-bits c = six (second (c .before .before .before .before)) (c .before .before .before .follower2 .ensures) (c .before .third .given .1)
+
+numbers : (c : tie.After-shared-slice-known2)
+    → (byte (top2 (c .before)) < 256) × (c .before .before .before .before .before .before .second .given .0 .0 ≤ 63) ×
+    (c .before .before .third .given .0 .0 ≤ 63)
+numbers c = (
+  omega (arith, c .shared-slice-known2 .given (top2 (c .before) .args .at)),
+  second-bits (c .before .before .before .before .before),
+  third-bits (c .before),
+)
 
 add-follower : tie.Need-add-follower
 add-follower c = search needs
 
 follower-requires : tie.Need-follower-requires
-follower-requires c κs = lead (c .before) .bounds .2
+follower-requires c κs = first (c .before) .from
 
 enum-known-second : tie.Need-enum-known-second
 enum-known-second c = search needs
@@ -31,7 +54,7 @@ enum-told : tie.Need-enum-told
 enum-told c = search needs
 
 returns : tie.Need-returns
-returns c = three-broken _ _ (c .before .before .before .before .pre .0) _ _ (c .before .before .before .before .pre .1) (missed _ _ _ _ (sym (c .enum-told .given .1) ∙ c .before .before .follower .ensures))
+returns c = broken (first (c .before .before .before .before)) (c .before .before .follower .ensures) (c .enum-told .given .1)
 
 add-follower-2 : tie.Need-add-follower-2
 add-follower-2 c = search needs
@@ -46,34 +69,36 @@ enum-told-2 : tie.Need-enum-told-2
 enum-told-2 c = search needs
 
 returns-2 : tie.Need-returns-2
-returns-2 c = three-broken-2 _ _ (c .before .before .before .before .before .before .before .before .pre .0) _ _ (c .before .before .before .before .before .before .before .before .pre .1) _ (second (c .before .before .before)) (missed _ _ _ _ (sym (c .enum-told2 .given .1) ∙ c .before .before .follower2 .ensures))
+returns-2 c = broken (second (c .before .before .before)) (c .before .before .follower2 .ensures) (c .enum-told2 .given .1)
 
 shared-slice-read-b : tie.Need-shared-slice-read-b
 shared-slice-read-b c = search needs
 
 sub-b : tie.Need-sub-b
-sub-b c = omega (arith, lead (c .before .before .before .before .before .before .before .before .before .before) .bounds)
+sub-b c = omega (arith, leads-as _ _ (top2 (c .before) .pre .1) .bounds)
 
 cast-b : tie.Need-cast-b
-cast-b c = omega (arith, c .shared-slice-known2 .given (c .before .before .before .before .before .before .before .before .before .before .args .at))
+cast-b c = omega (arith, numbers c)
 
 mul-t14 : tie.Need-mul-t14
-mul-t14 c = omega (arith, c .shared-slice-known2 .given (c .before .before .before .before .before .before .before .before .before .before .args .at))
+mul-t14 c = omega (arith, numbers c)
 
 add-t15 : tie.Need-add-t15
-add-t15 c = omega (arith, c .shared-slice-known2 .given (c .before .before .before .before .before .before .before .before .before .before .args .at), second (c .before .before .before .before .before), lead (c .before .before .before .before .before .before .before .before .before .before) .bounds)
+add-t15 c = omega (arith, numbers c)
 
 mul-t16 : tie.Need-mul-t16
-mul-t16 c = omega (arith, c .shared-slice-known2 .given (c .before .before .before .before .before .before .before .before .before .before .args .at), second (c .before .before .before .before .before), lead (c .before .before .before .before .before .before .before .before .before .before) .bounds)
+mul-t16 c = omega (arith, numbers c)
 
 add-t17 : tie.Need-add-t17
-add-t17 c = omega (arith, c .shared-slice-known2 .given (c .before .before .before .before .before .before .before .before .before .before .args .at), second (c .before .before .before .before .before), third (c .before), lead (c .before .before .before .before .before .before .before .before .before .before) .bounds)
+add-t17 c = omega (arith, numbers c)
 
 add-t10 : tie.Need-add-t10
 add-t10 c = search needs
 
 returns-3 : tie.Need-returns-3
-returns-3 c = three-found _ _ (c .before .before .before .before .before .before .before .before .before .before .pre .0) _ _ (c .before .before .before .before .before .before .before .before .before .before .pre .1) _ (second (c .before .before .before .before .before)) _ (third (c .before))
+returns-3 c =
+    is-whole (second (c .before .before .before .before .before)) (c .before .before .before .before .follower2 .ensures) (c .before .before .third .given .1)
+    (omega arith) refl
 
 pub three-spec : {M : Type 1} → statement M
 three-spec =

@@ -1,15 +1,32 @@
--- Each way out is a law of two bytes; `second` is what the call found. Assumes nothing.
-use mathlib.Core.Path.{sym, _∙_}
-use Prim.Native.Nat.{_+_}
+-- Each byte that follows is a turn of one law; `first` is the row of the first byte, the others what the calls found. Assumes nothing.
+use mathlib.Core.Path.{_≡_, refl}
+use Prim.Native.Nat.{ℕ, _+_, _-_, _*_, _<_, _≤_}
 use native.Mathlib.Omega.{arith}
-use Rattle.paper.proofs.Scalars.{leads-as}
-use Rattle.text.proofs.Steps.{Followed, followed, missed, two-broken, two-found}
+use lib.ListN.{getD}
 use borrow.Author.Needs.{needs}
+use Rattle.paper.proofs.Scalars.{leads-as}
+use Rattle.text.proofs.Steps.{Awaits, awaits-two, broken, six, goes-on, is-whole}
 use Rattle.text.proofs.utf8.two.Statement.{statement}
 use Rattle.text.proofs.utf8.two.Tie as tie
 
-second : (c : tie.After-known-told) → Followed (c .before .before .before .before .before .args .s .now) (c .before .before .before .before .before .args .at + 1) 0x80 0xBF (c .before .before .before .before .before .args .at + 2) (c .before .second .given .0 .0)
-second c = followed _ _ _ _ (omega arith) _ _ (omega arith) (sym (c .before .second .given .1) ∙ c .before .before .before .follower .ensures)
+abbrev byte : tie.Start → ℕ
+byte c = getD (c .args .s .now) (c .args .at) 0
+
+first : (c : tie.Start) → Awaits (c .args .s .now) (c .args .at) (c .args .at + 1) 0x80 0xBF 0 (byte c - 0xC0)
+first c = awaits-two _ _ (c .pre .0) (c .pre .1)
+
+abbrev top : tie.After-known-told → tie.Start
+top c = c .before .before .before .before .before
+
+second-bits : (c : tie.After-known-told) → c .before .second .given .0 .0 ≤ 63
+second-bits c = six (first (top c)) (c .before .before .before .follower .ensures) (c .before .second .given .1)
+
+numbers : (c : tie.After-shared-slice-known2)
+    → (byte (top (c .before)) < 256) × (c .before .before .second .given .0 .0 ≤ 63)
+numbers c = (
+  omega (arith, c .shared-slice-known2 .given (top (c .before) .args .at)),
+  second-bits (c .before),
+)
 
 add-follower : tie.Need-add-follower
 add-follower c = search needs
@@ -24,28 +41,28 @@ enum-told : tie.Need-enum-told
 enum-told c = search needs
 
 returns : tie.Need-returns
-returns c = two-broken _ _ (c .before .before .before .before .pre .0) (c .before .before .before .before .pre .1) (missed _ _ _ _ (sym (c .enum-told .given .1) ∙ c .before .before .follower .ensures))
+returns c = broken (first (c .before .before .before .before)) (c .before .before .follower .ensures) (c .enum-told .given .1)
 
 shared-slice-read-b : tie.Need-shared-slice-read-b
 shared-slice-read-b c = search needs
 
 sub-b : tie.Need-sub-b
-sub-b c = let lead = leads-as _ _ (c .before .before .before .before .before .before .pre .1) in omega arith
+sub-b c = let lead = leads-as _ _ (top (c .before) .pre .1) in omega arith
 
 cast-b : tie.Need-cast-b
-cast-b c = omega (arith, c .shared-slice-known2 .given (c .before .before .before .before .before .before .args .at))
+cast-b c = omega (arith, numbers c)
 
 mul-t10 : tie.Need-mul-t10
-mul-t10 c = omega (arith, c .shared-slice-known2 .given (c .before .before .before .before .before .before .args .at))
+mul-t10 c = omega (arith, numbers c)
 
 add-t11 : tie.Need-add-t11
-add-t11 c = omega (arith, c .shared-slice-known2 .given (c .before .before .before .before .before .before .args .at), second (c .before))
+add-t11 c = omega (arith, numbers c)
 
 add-t6 : tie.Need-add-t6
 add-t6 c = search needs
 
 returns-2 : tie.Need-returns-2
-returns-2 c = two-found _ _ (c .before .before .before .before .before .before .pre .0) (c .before .before .before .before .before .before .pre .1) _ (second (c .before))
+returns-2 c = is-whole (first (top (c .before))) (c .before .before .before .before .follower .ensures) (c .before .before .second .given .1) (omega arith) refl
 
 pub two-spec : {M : Type 1} → statement M
 two-spec =

@@ -40,8 +40,13 @@ loop-less c = search needs
 
 loop-again : tie.Need-loop-again Inv-loop μ-loop
 loop-again c =
-    let turn = c .before .before .before .before in
-    (omega arith, omega arith, plain-on (c .before .before .before .before .before .before .args .s .now) (turn .loop .i) (omega arith) (c .before .plain .ensures .1 (c .if1 .left)) ∙ turn .loop .inv .2)
+    let turn = c .before .before .before .before in (
+      omega arith,
+      omega arith,
+      plain-on (c .before .before .before .before .before .before .args .s .now) (turn .loop .i) (omega arith)
+          (c .before .plain .ensures .1 (c .if1 .left))
+          ∙ turn .loop .inv .2,
+    )
 
 returns-2 : tie.Need-returns-2 Inv-loop μ-loop
 returns-2 c = (omega arith, omega arith, c .before .loop .inv .2)

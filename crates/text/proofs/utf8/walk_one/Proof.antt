@@ -26,7 +26,10 @@ may-stand-requires c κs = search needs
 returns : tie.Need-returns
 returns c =
     let start = c .before .before .before .before .before .before .before in
-    check-stop _ _ _ _ (stepped (start .args .s .now) (start .args .at) _ _ (sym (c .before .before .before .v .given .1) ∙ c .before .before .before .before .before .step .ensures)) (sym (c .before .may-stand .ensures) ∙ not-true _ (c .if1 .taken))
+    check-stop _ _ _ _
+    (stepped (start .args .s .now) (start .args .at) _ _
+    (sym (c .before .before .before .v .given .1) ∙ c .before .before .before .before .before .step .ensures))
+    (sym (c .before .may-stand .ensures) ∙ not-true _ (c .if1 .taken))
 
 returns-2 : tie.Need-returns-2
 returns-2 c =
@@ -39,7 +42,9 @@ returns-3 c = check-broken _ _ (sym (c .enum-told2 .given .1) ∙ c .before .bef
 returns-4 : tie.Need-returns-4
 returns-4 c =
     let start = c .before .before .before .before .before .before .before in
-    let f = stepped (start .args .s .now) (start .args .at) _ _ (sym (c .before .before .before .v .given .1) ∙ c .before .before .before .before .before .step .ensures) in
+    let f =
+    stepped (start .args .s .now) (start .args .at) _ _
+    (sym (c .before .before .before .v .given .1) ∙ c .before .before .before .before .before .step .ensures) in
     (f .ahead, f .inside, check-on _ _ _ _ f (sym (c .before .may-stand .ensures) ∙ not-false _ (c .if1 .left)))
 
 pub walk-one-spec : {M : Type 1} → statement M
