@@ -1,4 +1,4 @@
--- One trait: where the entries of a value's items start, and a law for each way out of `value_end`, `enter_trait` and `read_trait` (src/traits.rt).
+-- One trait: where the entries of a value's items start, and a law for each way out of `enter_trait` and `read_trait` (src/traits.rt).
 -- Over plain lists. Assumes nothing.
 use Prim.Native.Nat.{ℕ, zero, suc, _+_, _-_, _≤_, _<_}
 use mathlib.Core.Path.{_≡_, refl, sym, ap, _∙_}
@@ -15,7 +15,7 @@ use Rattle.paper.specs.Found.{Found, found, fault, andThen, placeIn}
 use Rattle.paper.specs.Limits.{sheetLimit, entryLimit, listLimit}
 use Rattle.paper.specs.Values.{Value, leaf, emptyList, list, More, close, comma, valueOnto, moreOnto, valueForm}
 use Rattle.paper.specs.Tree.{Trait}
-use Rattle.paper.specs.ReadingValues.{valueOf, wholeValue}
+use Rattle.paper.specs.ReadingValues.{wholeValue}
 use Rattle.paper.specs.Entries.{Entry, valueWidth, itemsOf, itemSize, itemEntry, itemEntries, moreEntries, traitSize}
 use Rattle.paper.specs.Reading.{enters, name, due, trait, boundsOf}
 use Rattle.paper.specs.Bytes.{byte}
@@ -23,7 +23,7 @@ use Rattle.paper.specs.Names.{isTraitName}
 use Rattle.paper.specs.Modes.{Modes}
 use Rattle.paper.proofs.Tests.{upTo}
 use Rattle.paper.proofs.Sizes.{item-size}
-use Rattle.paper.proofs.ReadValues.{ReadValue, value-length, whole-fault, whole-found, whole-reads}
+use Rattle.paper.proofs.ReadValues.{ReadValue, value-length, whole-reads}
 use Rattle.paper.proofs.Markers.{enters-complete}
 use Rattle.text.proofs.Places.{place-back}
 use Rattle.entries.specs.Laid.{lay, slotUnder, Fits}
@@ -35,31 +35,13 @@ use Rattle.values.specs.declared.entering.Entered.{Entered}
 use Rattle.values.specs.declared.entering.Entered.the-variants.{Items, Full}
 use Rattle.values.specs.Seen.{Seen as WholeSeen, seen as whole-seen, seenOf as whole-of, Reading}
 use Rattle.values.specs.Entering.{Stands, leftOf, firstOver, Ahead, Enters}
+use Rattle.values.proofs.Seeing.{stands}
 use Rattle.lines.specs.Parts.{Seen, seen, passed, Makes, In}
 use Rattle.lines.specs.declared.part.Part.{Part}
 use Rattle.lines.specs.declared.part.Part.the-variants.{Read, Refused}
-use Rattle.lines.proofs.Crossing.{found-at, makes-refused, makes-passed, makes-read}
+use Rattle.lines.proofs.Crossing.{makes-refused, makes-passed, makes-read}
 use Rattle.lines.proofs.ReadAt.{DueAt, NameAt}
 use Rattle.sheets.specs.Traits.{valueIn, oneTrait}
-
--- ---- a value's answer as that of a part, without its form
-
-abbrev formless : WholeSeen → Seen
-formless y = record { number = y .number; place = y .place; made = 0; own = 0 }
-
-module _ {A : Type 0} (form : A → ℕ) (s : List ℕ) (at : ℕ) (x : Found A) (read : Whole) (h : Reading form s at x read) (r : Part) where
-  as-passed : formless (whole-seen read) ≡ passed s x
-  as-passed = ap formless (h .same) ∙ go x
-    where
-      go : (x : Found A) → formless (whole-of form s x) ≡ passed s x
-      go (found a left) = refl
-      go (fault n left) = refl
-
-  pub part-found : (f end : ℕ) → read ≡ Whole.Found f end → r ≡ Read end 0 0 → seen r ≡ passed s x
-  part-found f end q e = ap seen e ∙ ap (λ (y : Whole). formless (whole-seen y)) (sym q) ∙ as-passed
-
-  pub part-refused : (why : Refusal) (place : ℕ) → read ≡ Whole.Refused why place → r ≡ Refused why place → seen r ≡ passed s x
-  part-refused why place q e = ap seen e ∙ ap (λ (y : Whole). formless (whole-seen y)) (sym q) ∙ as-passed
 
 -- ---- where the entries of a value's items start
 
@@ -100,33 +82,35 @@ mutual
 
 -- ---- a whole value that stands at a place
 
+abbrev formless : WholeSeen → Seen
+formless y = record { number = y .number; place = y .place; made = 0; own = 0 }
+
 pub record ValueAt (s : List ℕ) (at : ℕ) : Type 0 where
   pub it : Value
   pub end : ℕ
   pub whole : wholeValue listLimit (drop at s) ≡ found it (drop end s)
-  pub reads : valueOf listLimit [] (drop at s) ≡ found it (drop end s)
   pub wide : end ≡ at + valueWidth it
   pub inside : end ≤ length s
 
--- what is found of a whole value is what is found of the value
-value-found : (lists : ℕ) (s : List ℕ) (v : Value) (left : List ℕ) → wholeValue lists s ≡ found v left → valueOf lists [] s ≡ found v left
-value-found lists s v left e = go (valueOf lists [] s) refl
-  where
-    go : (x : Found Value) → valueOf lists [] s ≡ x → x ≡ found v left
-    go (found u end) q = sym (whole-found lists s u end q) ∙ e
-    go (fault n end) q = let f = sym (whole-fault lists s n end q) ∙ e in let z : _≡_ {A = ℕ} 0 1 = cc in absurd (omega arith)
+module _ {s : List ℕ} {at : ℕ} {value : Whole} (h : Reading valueForm s at (wholeValue listLimit (drop at s)) value) where
+  pub value-at : (form end : ℕ) → value ≡ Whole.Found form end → ValueAt s at
+  value-at form end q =
+      let f = stands h (ReadValue listLimit [] (drop at s)) (whole-reads listLimit (drop at s)) form end q in
+      record {
+        it = f .it;
+        end = end;
+        whole = f .finds;
+        wide = omega (arith, ap length (f .holds .covers), value-length (f .it) (drop end s), length-drop at s, length-drop end s, f .inside, f .ahead);
+        inside = f .inside;
+      }
 
-pub value-at : (s : List ℕ) (at : ℕ) (r : Part) (end made mine : ℕ) → at ≤ length s → seen r ≡ passed s (wholeValue listLimit (drop at s)) → r ≡ Read end made mine → ValueAt s at
-value-at s at r end made mine h e q =
-    let f = found-at (λ v. 0) (λ v. 0) s r (ReadValue listLimit [] (drop at s)) at (wholeValue listLimit (drop at s)) end made mine e (whole-reads listLimit (drop at s)) h q in
-    record {
-      it = f .it;
-      end = end;
-      whole = f .finds;
-      reads = value-found listLimit (drop at s) (f .it) (drop end s) (f .finds);
-      wide = omega (arith, ap length (f .holds .covers), value-length (f .it) (drop end s), length-drop at s, length-drop end s, f .inside, f .ahead);
-      inside = f .inside;
-    }
+  -- a value's refusal as that of a part
+  value-passed : {why : Refusal} {place : ℕ} → value ≡ Whole.Refused why place → seen (Refused why place) ≡ passed s (wholeValue listLimit (drop at s))
+  value-passed {why} {place} q = ap (λ (y : Whole). formless (whole-seen y)) (sym q) ∙ ap formless (h .same) ∙ go (wholeValue listLimit (drop at s))
+    where
+      go : (x : Found Value) → formless (whole-of valueForm s x) ≡ passed s x
+      go (found v left) = refl
+      go (fault n left) = refl
 
 -- ---- the room for a trait and its items
 
@@ -149,8 +133,8 @@ pub record Far (end made own : ℕ) : Type 0 where
   pub few : made ≤ entryLimit
   pub owned : own ≤ made
 
-module _ {s : List ℕ} {at : ℕ} (place : In s at) {cells : List ℕ} {slot : Slot} (fits : Fits cells slot) {under : Slot} (u : under ≡ slotUnder slot) {lists : ℕ} (l : lists ≡ listLimit) where
-  pub items-stand : {o : Bool} → o ≡ leb (slot .room) (slot .next) → o ≡ false → Stands s at lists cells under
+module _ {s : List ℕ} {at : ℕ} (place : In s at) {cells : List ℕ} {slot : Slot} (fits : Fits cells slot) {under : Slot} (u : under ≡ slotUnder slot) where
+  pub items-stand : {o : Bool} → o ≡ leb (slot .room) (slot .next) → o ≡ false → Stands s at listLimit cells under
   items-stand asked f =
       rw u (record {
         place = place .inside;
@@ -159,7 +143,7 @@ module _ {s : List ℕ} {at : ℕ} (place : In s at) {cells : List ℕ} {slot : 
         fits = fits-under fits asked f refl;
       })
 
-  pub far-end : {items : Entered} → Ahead s at lists (leftOf under) items → {form end made own : ℕ} → items ≡ Items form end made own → Far end made own
+  pub far-end : {items : Entered} → Ahead s at listLimit (leftOf under) items → {form end made own : ℕ} → items ≡ Items form end made own → Far end made own
   far-end h {form} {end} {made} {own} q =
       let f = h .far form end made own q in
       let n : leftOf under ≡ leftOf (slotUnder slot) = ap leftOf u in
@@ -175,8 +159,8 @@ module _ {s : List ℕ} {from to : ℕ} (place : In s (to + 1)) (between : from 
   abbrev of-value : Found Value → Found Trait
   of-value x = andThen x (λ v left. enters (leftOf slot) (drop from s) (drop (to + 1) s) (record { white = white; name = w; value = v }) left)
 
-  pub trait-refused : (r : Part) → seen r ≡ passed s (wholeValue listLimit (drop (to + 1) s)) → {why : Refusal} {at : ℕ} → r ≡ Refused why at → Made r cells
-  trait-refused r e {why} {at} q = makes-passed _ _ _ _ _ _ _ r cells (λ v. 0) (λ v. 0) of-value (λ k left. refl) (wholeValue listLimit (drop (to + 1) s)) why at e q refl
+  pub trait-refused : {value : Whole} → Reading valueForm s (to + 1) (wholeValue listLimit (drop (to + 1) s)) value → {why : Refusal} {at : ℕ} → value ≡ Whole.Refused why at → {r : Part} → r ≡ Refused why at → Made r cells
+  trait-refused h {why} {at} q {r} e = makes-passed _ _ _ _ _ _ _ r cells (λ v. 0) (λ v. 0) of-value (λ k left. refl) (wholeValue listLimit (drop (to + 1) s)) why at (ap seen e ∙ value-passed h q) e refl
 
   module _ (value : ValueAt s (to + 1)) {o : Bool} (asked : o ≡ leb (slot .room) (slot .next)) where
     abbrev it : Trait
@@ -188,21 +172,21 @@ module _ {s : List ℕ} {from to : ℕ} (place : In s (to + 1)) (between : from 
     pub trait-full : o ≡ true → {r : Part} → r ≡ Refused NoEntryLeft from → Made r cells
     trait-full t {r} q = makes-refused _ _ _ _ _ _ _ r cells NoEntryLeft from q (omega (arith, place .inside)) (by-value ∙ no-room _ _ _ it _ (omega (arith, leb-true (slot .room) (slot .next) (sym asked ∙ t))))
 
-    module _ (f : o ≡ false) {under : Slot} (u : under ≡ slotUnder slot) {lists : ℕ} (l : lists ≡ listLimit) {items : Entered} {mid : List ℕ} (h : Enters s (to + 1) cells under (valueOf lists [] (drop (to + 1) s)) items mid) where
+    module _ (f : o ≡ false) {under : Slot} (u : under ≡ slotUnder slot) {items : Entered} {mid : List ℕ} (h : Enters s (to + 1) cells under (wholeValue listLimit (drop (to + 1) s)) items mid) where
       one-left : leftOf slot ≡ suc (leftOf (slotUnder slot))
       one-left = omega (arith, leb-false (slot .room) (slot .next) (sym asked ∙ f))
 
-      entered : Enters s (to + 1) cells (slotUnder slot) (valueOf listLimit [] (drop (to + 1) s)) items mid
-      entered = rw (u, l) at h
+      entered : Enters s (to + 1) cells (slotUnder slot) (wholeValue listLimit (drop (to + 1) s)) items mid
+      entered = rw u at h
 
       -- an item has no entry left
       pub items-full : {at : ℕ} → items ≡ Full at → {r : Part} → r ≡ Refused NoEntryLeft at → {after : List ℕ} → Made r after
       items-full {at} q {r} e {after} =
           upTo (itemSize (value .it)) (leftOf (slotUnder slot))
-          (λ k. let g = entered .fits (value .it) _ (value .reads) k .0 in
+          (λ k. let g = entered .fits (value .it) _ (value .whole) k .0 in
           let z : _≡_ {A = ℕ} 0 1 = cc in
           absurd (omega arith))
-          (λ k. let g : Full at ≡ Full (firstOver (leftOf (slotUnder slot)) (itemEntries (slot .next) (slot .next + 1) (to + 1) (value .it))) = sym q ∙ entered .full (value .it) _ (value .reads) k in
+          (λ k. let g : Full at ≡ Full (firstOver (leftOf (slotUnder slot)) (itemEntries (slot .next) (slot .next + 1) (to + 1) (value .it))) = sym q ∙ entered .full (value .it) _ (value .whole) k in
           let p : at ≡ firstOver (leftOf (slotUnder slot)) (itemEntries (slot .next) (slot .next + 1) (to + 1) (value .it)) = cc in
           let m = moved-first (to + 1) (length s) (leftOf (slotUnder slot)) (item-moved (value .it) (to + 1) (length s) (slot .next) (slot .next + 1) (to + 1) 0 0 0 (omega arith) (omega (arith, value .wide, value .inside))) (omega (arith, item-size (value .it) (slot .next) (slot .next + 1) (to + 1))) in
           makes-refused _ _ _ _ _ _ _ r after NoEntryLeft at e (omega (arith, m .1))
@@ -217,7 +201,7 @@ module _ {s : List ℕ} {from to : ℕ} (place : In s (to + 1)) (between : from 
           → {after : List ℕ} → after ≡ lay mid (slot .next) (own-entry form count end ∷ []) → {r : Part} → r ≡ Read end (1 + inside) 1 → Made r after
       trait-made n {form} {end} {inside} {count} q {after} p {r} z =
           upTo (itemSize (value .it)) (leftOf (slotUnder slot))
-          (λ fit. let g = entered .fits (value .it) _ (value .reads) fit in
+          (λ fit. let g = entered .fits (value .it) _ (value .whole) fit in
           let a : Items form end inside count ≡ Items (valueForm (value .it)) (placeIn s (drop (value .end) s)) (itemSize (value .it)) (itemsOf (value .it)) = sym q ∙ g .0 in
           let formed : form ≡ valueForm (value .it) = cc in
           let ends : end ≡ placeIn s (drop (value .end) s) = cc in
@@ -232,7 +216,7 @@ module _ {s : List ℕ} {from to : ℕ} (place : In s (to + 1)) (between : from 
           ∙ ap (λ (x : List ℕ). lay x (slot .next) (own-entry form count end ∷ [])) (g .1)
           ∙ lay-before cells (slot .next) (own-entry form count end) (itemEntries (slot .next) (slot .next + 1) (to + 1) (value .it))
           ∙ rw (formed, own, there, value .wide, past)))
-          (λ over. let g = entered .full (value .it) _ (value .reads) over in
+          (λ over. let g = entered .full (value .it) _ (value .whole) over in
           let z : _≡_ {A = ℕ} 0 1 = cc in
           absurd (omega arith))
 

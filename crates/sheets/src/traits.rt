@@ -9,40 +9,25 @@ use lines::part::Whose;
 use lines::part::byte_due;
 use lines::part::cut;
 use lines::part::name_end;
-use lines::part::past;
 use lines::part::refused;
 use paper::Refusal;
 use text::classes::is_one_of;
 use text::runs;
 use text::runs::Class;
 use values::entering::Entered;
-use values::entering::enter;
+use values::entering::enter_whole;
 use values::lists::read_whole;
-use values::nesting::Nesting;
 use values::read::Read;
 ghost use mathlib.Core.Path.{_≡_};
 ghost use mathlib.Core.List.{List};
 ghost use Prim.Native.Nat.{ℕ, _+_, _-_, _≤_};
 ghost use lib.ListN.{length, drop};
-ghost use Rattle.paper.specs.Limits.{listLimit};
 ghost use Rattle.paper.specs.Modes.{Modes};
-ghost use Rattle.paper.specs.ReadingValues.{wholeValue};
 ghost use Rattle.paper.specs.Entries.{traitSize, traitsSize, traitEntries};
 ghost use Rattle.paper.specs.Reading.{trait, boundsOf};
 ghost use Rattle.entries.specs.Laid.{Fits};
-ghost use Rattle.lines.specs.Parts.{seen, passed, Makes, In};
+ghost use Rattle.lines.specs.Parts.{Makes, In};
 ghost use Rattle.sheets.specs.Traits.{traitsOf, valueIn, oneTrait};
-
-// Past the whole value that stands at `at`.
-fn value_end(s: &[u8], at: usize) -> Part
-    requires { ⌜ at ≤ length (now s) ⌝ }
-    ensures { λ r. ⌜ seen r ≡ passed (now (s .entry)) (wholeValue listLimit (drop at (now (s .entry)))) ⌝ }
-{
-    match read_whole(s, at) {
-        Read::Found { form: _, end } => past(end),
-        Read::Refused { refusal, place } => refused(refusal, place),
-    }
-}
 
 // Reads the value behind the "=" that stands at `to`, whole before anything is entered; then enters the trait, whose name
 // stands from `from` to `to`, and the items of its value.
@@ -51,26 +36,14 @@ fn enter_trait(s: &[u8], from: usize, to: usize, cells: &mut [u32], slot: Slot) 
     ensures { λ r. ⌜ ((white w : List ℕ) → length w ≡ to - from → Makes traitSize (λ t. 1) (oneTrait (slot .parent) (slot .next) from) (now (s .entry)) (now (cells .entry)) (slot .next) (valueIn (slot .room - slot .next) (drop from (now (s .entry))) white w (drop (to + 1) (now (s .entry)))) r (now (cells .exit))) ⌝ }
 {
     let at = to + 1;
-    let value = value_end(s, at);
-    let Part::Read {
-        end: _,
-        made: _,
-        own: _,
-    } = value
-    else {
-        return value;
-    };
+    let value = read_whole(s, at);
+    if let Read::Refused { refusal, place } = value {
+        return refused(refusal, place);
+    }
     if slot.is_full() {
         return refused(Refusal::NoEntryLeft, from);
     }
-    match enter(
-        s,
-        at,
-        Nesting::new(Nesting::LISTS),
-        false,
-        cells,
-        slot.under(),
-    ) {
+    match enter_whole(s, at, value, cells, slot.under()) {
         Entered::Full { place } => refused(Refusal::NoEntryLeft, place),
         Entered::Items {
             form,

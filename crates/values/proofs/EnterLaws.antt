@@ -10,14 +10,14 @@ use Rattle.paper.specs.declared.Refusal.the-variants.{TooDeep}
 use Rattle.paper.specs.Found.{Found, found, fault, andThen, placeIn}
 use Rattle.paper.specs.Bytes.{byte, bytes, isWhite, lengthIn, front, behind, startsWith}
 use Rattle.paper.specs.Values.{listEnders, Leaf, leafForm, Value, leaf, emptyList, list, valueForm, More, close, comma}
-use Rattle.paper.specs.ReadingValues.{leafOf, valueOf, moreOf, itemAnd}
+use Rattle.paper.specs.ReadingValues.{leafOf, valueOf, moreOf, itemAnd, wholeValue}
 use Rattle.paper.specs.Entries.{Entry, unnamed, valueWidth, itemsOf, moreItems, itemSize, moreSize, itemEntry, itemEntries, moreEntries}
 use Rattle.paper.specs.Answer.{numberOf}
 use Rattle.paper.proofs.Told.{number-positive}
 use Rattle.paper.proofs.Tests.{upTo}
 use Rattle.paper.proofs.Lists.{starts-is, length-in}
 use Rattle.paper.proofs.Finds.{Reads}
-use Rattle.paper.proofs.ReadValues.{ReadValue, value-reads, value-length, value-of-leaf, more-of-comma}
+use Rattle.paper.proofs.ReadValues.{ReadValue, value-reads, value-length, value-of-leaf, more-of-comma, whole-found, whole-fault}
 use Rattle.paper.proofs.Sizes.{item-size}
 use Rattle.text.proofs.Places.{left-at}
 use Rattle.text.proofs.Stretch.{Stretch, behind-at}
@@ -298,15 +298,19 @@ module _ (s : List ℕ) (at lists : ℕ) (also cells : List ℕ) (slot : Slot) w
   bare-ahead x (Read.Refused why place) h room = ahead-full s at lists room (Full place) place refl
 
   -- no list
-  pub leaf-enters : (read : Read) → startsWith (bytes "[") (drop at s) ≡ false → Reading leafForm s at (leafOf also (drop at s)) read → (r : Entered) → r ≡ withoutItems read
-      → Ahead s at lists (leftOf slot) r × Enters s at cells slot (valueOf lists also (drop at s)) r cells
-  leaf-enters read e h r q =
-      let k = leaf-value s at lists also read e h in
-      rw q (bare-ahead (valueOf lists also (drop at s)) read k (leftOf slot), bare-enters (valueOf lists also (drop at s)) read k (λ v left q. go (leafOf also (drop at s)) v left (sym (value-of-leaf lists also (drop at s) e) ∙ q)))
+  leaf-bare : startsWith (bytes "[") (drop at s) ≡ false → (v : Value) (left : List ℕ) → valueOf lists also (drop at s) ≡ found v left → Bare v
+  leaf-bare e v left q = go (leafOf also (drop at s)) v left (sym (value-of-leaf lists also (drop at s) e) ∙ q)
     where
       go : (x : Found Leaf) (v : Value) (left : List ℕ) → andThen x (λ u end. found (leaf u) end) ≡ found v left → Bare v
       go (found u end) v left q = let k : leaf u ≡ v = cc in rw (← k) (bare-leaf u)
       go (fault n end) v left q = let z : _≡_ {A = ℕ} 0 1 = cc in absurd (omega arith)
+
+  pub leaf-enters : (read : Read) → startsWith (bytes "[") (drop at s) ≡ false → Reading leafForm s at (leafOf also (drop at s)) read → (r : Entered) → r ≡ withoutItems read
+      → Ahead s at lists (leftOf slot) r × Enters s at cells slot (valueOf lists also (drop at s)) r cells
+  leaf-enters read e h r q =
+      let x = valueOf lists also (drop at s) in
+      let k = leaf-value s at lists also read e h in
+      rw q (bare-ahead x read k (leftOf slot), bare-enters x read k (leaf-bare e))
 
   -- a list too deep
   pub deep-enters : at ≤ length s → startsWith (bytes "[") (drop at s) ≡ true → lists ≡ 0
@@ -354,3 +358,33 @@ module _ (s : List ℕ) (at lists : ℕ) (also cells : List ℕ) (slot : Slot) w
           let n : slot .next + 0 ≡ slot .next = omega arith in
           let a : leftOf slot - 0 ≡ leftOf slot = omega arith in
           h .1 .full v more left q (omega arith) ∙ ap₂ (λ (m o : ℕ). Full (firstOver m (entriesFrom (slot .parent) o (at + 1) v more))) a n
+
+-- ---- the items of a trait's whole value
+
+module _ (s : List ℕ) (at lists : ℕ) (cells : List ℕ) (slot : Slot) where
+  -- what is found of it is what is found of the value
+  value-found : (v : Value) (left : List ℕ) → wholeValue lists (drop at s) ≡ found v left → valueOf lists [] (drop at s) ≡ found v left
+  value-found v left e = go (valueOf lists [] (drop at s)) refl
+    where
+      go : (x : Found Value) → valueOf lists [] (drop at s) ≡ x → x ≡ found v left
+      go (found u end) q = sym (whole-found lists (drop at s) u end q) ∙ e
+      go (fault n end) q =
+          let f = sym (whole-fault lists (drop at s) n end q) ∙ e in
+          let z : _≡_ {A = ℕ} 0 1 = cc in
+          absurd (omega arith)
+
+  abbrev Whole : Entered → List ℕ → Type 0
+  Whole r after = Ahead s at lists (leftOf slot) r × Enters s at cells slot (wholeValue lists (drop at s)) r after
+
+  -- a list is entered as the value that it is
+  pub whole-list : (r : Entered) (after : List ℕ) (n : ℕ) → n ≡ lists → Ahead s at n (leftOf slot) r × Enters s at cells slot (valueOf n [] (drop at s)) r after → Whole r after
+  whole-list r after n e h =
+      let k : Ahead s at lists (leftOf slot) r × Enters s at cells slot (valueOf lists [] (drop at s)) r after = rw e at h in
+      (k .0, record { fits = λ v left q. k .1 .fits v left (value-found v left q); full = λ v left q. k .1 .full v left (value-found v left q) })
+
+  -- what is no list was judged when it was read
+  pub whole-bare : (read : Read) → startsWith (bytes "[") (drop at s) ≡ false → Reading valueForm s at (wholeValue lists (drop at s)) read → (r : Entered) → r ≡ withoutItems read → Whole r cells
+  whole-bare read e h r q =
+      let x = wholeValue lists (drop at s) in
+      let bare : (v : Value) (left : List ℕ) → x ≡ found v left → Bare v = λ v left p. leaf-bare s at lists [] cells slot e v left (value-found v left p) in
+      rw q (bare-ahead s at lists [] cells slot x read h (leftOf slot), bare-enters s at lists [] cells slot x read h bare)

@@ -15,8 +15,10 @@ use text::runs::Class;
 ghost use mathlib.Core.Path.{_≡_};
 ghost use Prim.Native.Nat.{_+_};
 ghost use lib.ListN.{drop};
-ghost use Rattle.paper.specs.Values.{list};
-ghost use Rattle.paper.specs.ReadingValues.{valueOf, itemAnd};
+ghost use Rattle.paper.specs.Limits.{listLimit};
+ghost use Rattle.paper.specs.Values.{list, valueForm};
+ghost use Rattle.paper.specs.ReadingValues.{valueOf, itemAnd, wholeValue};
+ghost use Rattle.values.specs.Seen.{Reading};
 ghost use Rattle.values.specs.Kinds.{endersOf};
 ghost use Rattle.values.specs.Entering.{withoutItems, Stands, leftOf, Ahead, Enters, EntersFrom};
 
@@ -34,8 +36,19 @@ pub enum Entered {
     },
 }
 
+// Enters the items of a trait's whole value, which was read as `value`. What is no list was judged by that reading, and has none.
+pub fn enter_whole(s: &[u8], at: usize, value: Read, cells: &mut [u32], slot: Slot) -> Entered
+    requires { ⌜ Stands (now s) at listLimit (now cells) slot × Reading valueForm (now s) at (wholeValue listLimit (drop at (now s))) value ⌝ }
+    ensures { λ r. ⌜ Ahead (now (s .entry)) at listLimit (leftOf slot) r × Enters (now (s .entry)) at (now (cells .entry)) slot (wholeValue listLimit (drop at (now (s .entry)))) r (now (cells .exit)) ⌝ }
+{
+    if starts_with(s, at, b"[") {
+        return enter(s, at, Nesting::new(Nesting::LISTS), false, cells, slot);
+    }
+    without_items(value)
+}
+
 // Enters the items of the value that stands at `at`, which was read without refusal.
-pub fn enter(
+fn enter(
     s: &[u8],
     at: usize,
     nesting: Nesting,
