@@ -5,7 +5,7 @@ use mathlib.Core.Bool.{true, false}
 use mathlib.Core.List.{List, [], _∷_, _++_, append-nil}
 use native.Mathlib.Omega.{arith}
 use lib.ListN.{length, drop, length-drop}
-use lib.Seq.{drop-drop, length-take-le}
+use lib.Seq.{length-take-le}
 use Rattle.paper.specs.declared.Refusal.the-variants.{TooDeep}
 use Rattle.paper.specs.Found.{Found, found, fault, andThen, placeIn}
 use Rattle.paper.specs.Bytes.{byte, bytes, isWhite, lengthIn, front, behind, startsWith}
@@ -15,7 +15,7 @@ use Rattle.paper.specs.Entries.{Entry, unnamed, valueWidth, itemsOf, moreItems,
 use Rattle.paper.specs.Answer.{numberOf}
 use Rattle.paper.proofs.Told.{number-positive}
 use Rattle.paper.proofs.Tests.{upTo}
-use Rattle.paper.proofs.Lists.{starts-is, length-in}
+use Rattle.paper.proofs.Lists.{length-in}
 use Rattle.paper.proofs.Finds.{Reads}
 use Rattle.paper.proofs.ReadValues.{ReadValue, value-reads, value-length, value-of-leaf, more-of-comma, whole-found, whole-fault}
 use Rattle.paper.proofs.Sizes.{item-size}
@@ -30,7 +30,7 @@ use Rattle.values.specs.declared.entering.Entered.the-variants.{Items, F
 use Rattle.values.specs.Entering.{withoutItems, leftOf, firstOver, entriesFrom, sizeFrom, Ahead, Enters, EntersFrom}
 use Rattle.values.specs.Seen.{Seen, foundAt, refusedAt, seen, seenOf, Reading}
 use Rattle.values.proofs.Seeing.{fails}
-use Rattle.values.proofs.ListLaws.{leaf-value, deep-value, empty-found, empty-value, list-found}
+use Rattle.values.proofs.ListLaws.{byte-at, Opened, leaf-value, deep-value, empty-found, empty-value, list-found}
 use Rattle.values.proofs.ItemsFound.{Parts, MadeOf, made-of, together, list-parts, closed, first-in, first-past}
 
 -- what was found at a place: where it ends, and what is left there
@@ -167,7 +167,7 @@ module _ (s : List ℕ) (i lists : ℕ) (cells : List ℕ) (slot : Slot) (made o
         behind-comma : moreOf lists (drop end s) ≡ itemAnd lists (comma white) (drop next s)
         unfolding white
         behind-comma =
-            ap (moreOf lists) (starts-is (bytes ",") (drop end s) c ∙ ap (λ (l : List ℕ). byte "," ∷ l) (drop-drop 1 end s))
+            ap (moreOf lists) (byte-at (byte ",") s end c)
             ∙ more-of-comma lists (drop (end + 1) s)
             ∙ ap (itemAnd lists (comma white)) (behind-at isWhite s (end + 1) next run)
 
@@ -297,6 +297,10 @@ module _ (s : List ℕ) (at lists : ℕ) (also cells : List ℕ) (slot : Slot) w
   bare-ahead x (Read.Found form end) h room = let k = h .ahead form end refl in ahead-items s at lists room form end 0 0 (omega arith) (omega arith) (omega arith) (omega arith)
   bare-ahead x (Read.Refused why place) h room = ahead-full s at lists room (Full place) place refl
 
+  -- it is entered so
+  abbrev Entering : Entered → List ℕ → Type 0
+  Entering r after = Ahead s at lists (leftOf slot) r × Enters s at cells slot (valueOf lists also (drop at s)) r after
+
   -- no list
   leaf-bare : startsWith (bytes "[") (drop at s) ≡ false → (v : Value) (left : List ℕ) → valueOf lists also (drop at s) ≡ found v left → Bare v
   leaf-bare e v left q = go (leafOf also (drop at s)) v left (sym (value-of-leaf lists also (drop at s) e) ∙ q)
@@ -305,59 +309,74 @@ module _ (s : List ℕ) (at lists : ℕ) (also cells : List ℕ) (slot : Slot) w
       go (found u end) v left q = let k : leaf u ≡ v = cc in rw (← k) (bare-leaf u)
       go (fault n end) v left q = let z : _≡_ {A = ℕ} 0 1 = cc in absurd (omega arith)
 
-  pub leaf-enters : (read : Read) → startsWith (bytes "[") (drop at s) ≡ false → Reading leafForm s at (leafOf also (drop at s)) read → (r : Entered) → r ≡ withoutItems read
-      → Ahead s at lists (leftOf slot) r × Enters s at cells slot (valueOf lists also (drop at s)) r cells
+  pub leaf-enters : (read : Read) → startsWith (bytes "[") (drop at s) ≡ false → Reading leafForm s at (leafOf also (drop at s)) read
+      → (r : Entered) → r ≡ withoutItems read → Entering r cells
   leaf-enters read e h r q =
       let x = valueOf lists also (drop at s) in
       let k = leaf-value s at lists also read e h in
       rw q (bare-ahead x read k (leftOf slot), bare-enters x read k (leaf-bare e))
 
   -- a list too deep
-  pub deep-enters : at ≤ length s → startsWith (bytes "[") (drop at s) ≡ true → lists ≡ 0
-      → Ahead s at lists (leftOf slot) (Full at) × Enters s at cells slot (valueOf lists also (drop at s)) (Full at) cells
+  pub deep-enters : at ≤ length s → startsWith (bytes "[") (drop at s) ≡ true → lists ≡ 0 → Entering (Full at) cells
   deep-enters l e z =
       let k = deep-value s at lists also l e z in
-      (bare-ahead (valueOf lists also (drop at s)) _ k (leftOf slot), bare-enters (valueOf lists also (drop at s)) _ k (λ v left q. let f = fails k TooDeep at refl .faults in let y : _≡_ {A = ℕ} 0 1 = cc in absurd (omega arith)))
+      let f = fails k TooDeep at refl .faults in
+      let x = valueOf lists also (drop at s) in
+      (bare-ahead x _ k (leftOf slot), bare-enters x _ k (λ v left q. let y : _≡_ {A = ℕ} 0 1 = cc in absurd (omega arith)))
 
-  -- an empty list
-  pub empty-enters : startsWith (bytes "[]") (drop at s) ≡ true → (fewer : ℕ) → lists ≡ suc fewer
-      → Ahead s at lists (leftOf slot) (Items 12 (at + 2) 0 0) × Enters s at cells slot (valueOf lists also (drop at s)) (Items 12 (at + 2) 0 0) cells
-  empty-enters e fewer z =
-      let k = empty-value s at lists also e fewer z in
-      let f = empty-found s at lists also e fewer z in
-      (bare-ahead (valueOf lists also (drop at s)) _ k (leftOf slot), bare-enters (valueOf lists also (drop at s)) _ k (λ v left q. let y : emptyList ≡ v = cc in rw (← y) bare-empty))
+  module _ (fewer : ℕ) (o : Opened s at lists fewer) where
+    -- an empty list
+    pub empty-enters : startsWith (bytes "]") (drop (at + 1) s) ≡ true → Entering (Items 12 (at + 1 + 1) 0 0) cells
+    empty-enters e =
+        let k = empty-value s at lists also fewer o e in
+        let f = empty-found s at lists also fewer o e in
+        let x = valueOf lists also (drop at s) in
+        (bare-ahead x _ k (leftOf slot), bare-enters x _ k (λ v left q. let y : emptyList ≡ v = cc in rw (← y) bare-empty))
 
-  -- a list of items
-  pub list-enters : startsWith (bytes "[") (drop at s) ≡ true → startsWith (bytes "[]") (drop at s) ≡ false → (fewer : ℕ) → lists ≡ suc fewer → (r : Entered) (after : List ℕ)
-      → Ahead s (at + 1) (fewer + 1) (leftOf slot) r × EntersFrom s (at + 1) cells slot 0 0 (itemAnd fewer list (drop (at + 1) s)) r after
-      → Ahead s at lists (leftOf slot) r × Enters s at cells slot (valueOf lists also (drop at s)) r after
-  unfolding itemSize itemsOf itemEntries
-  list-enters e f fewer z r after h = (
-    record { far = λ form end made own q. omega (arith, h .0 .far form end made own q) },
-    record {
-      fits = λ v left q k. let p = is-list v left q in subst⁻¹ (λ (u : Value). itemSize u ≤ leftOf slot → (r ≡ Items (valueForm u) (placeIn s left) (itemSize u) (itemsOf u)) × (after ≡ lay cells (slot .next) (itemEntries (slot .parent) (slot .next) at u))) (p .made) (fits (p .first) (p .rest) left (together fewer list _ (p .first) (p .rest) left (p .parts))) k;
-      full = λ v left q k. let p = is-list v left q in subst⁻¹ (λ (u : Value). leftOf slot < itemSize u → r ≡ Full (firstOver (leftOf slot) (itemEntries (slot .parent) (slot .next) at u))) (p .made) (full (p .first) (p .rest) left (together fewer list _ (p .first) (p .rest) left (p .parts))) k;
-    },
-  )
-    where
-      is-list : (v : Value) (left : List ℕ) → valueOf lists also (drop at s) ≡ found v left → MadeOf fewer list (valueOf fewer listEnders (drop (at + 1) s)) v left
-      is-list v left q = made-of fewer list (valueOf fewer listEnders (drop (at + 1) s)) v left (sym (list-found s at lists also e f fewer z) ∙ q)
+    -- a list of items
+    pub list-enters : startsWith (bytes "]") (drop (at + 1) s) ≡ false → (r : Entered) (after : List ℕ)
+        → Ahead s (at + 1) (fewer + 1) (leftOf slot) r × EntersFrom s (at + 1) cells slot 0 0 (itemAnd fewer list (drop (at + 1) s)) r after → Entering r after
+    unfolding itemSize itemsOf itemEntries
+    list-enters e r after h = (
+      record { far = λ form end made own q. omega (arith, h .0 .far form end made own q, o .deeper) },
+      record {
+        fits = λ v left q. let p = is-list v left q in subst⁻¹ (λ (u : Value). Fitting u left) (p .made) (fits (p .first) (p .rest) left (made-list left p));
+        full = λ v left q. let p = is-list v left q in subst⁻¹ Filled (p .made) (full (p .first) (p .rest) left (made-list left p));
+      },
+    )
+      where
+        Fitting : Value → List ℕ → Type 0
+        Fitting u left =
+            itemSize u ≤ leftOf slot
+            → (r ≡ Items (valueForm u) (placeIn s left) (itemSize u) (itemsOf u)) × (after ≡ lay cells (slot .next) (itemEntries (slot .parent) (slot .next) at u))
 
-      fits : (v : Value) (more : More) (left : List ℕ) → itemAnd fewer list (drop (at + 1) s) ≡ found (list v more) left → itemSize (list v more) ≤ leftOf slot
-          → (r ≡ Items (valueForm (list v more)) (placeIn s left) (itemSize (list v more)) (itemsOf (list v more))) × (after ≡ lay cells (slot .next) (itemEntries (slot .parent) (slot .next) at (list v more)))
-      fits v more left q k =
-          let x = h .1 .fits v more left q (omega arith) in
-          let n : slot .next + 0 ≡ slot .next = omega arith in
-          let a : 0 + sizeFrom v more ≡ sizeFrom v more = omega arith in
-          let b : 0 + suc (moreItems more) ≡ suc (moreItems more) = omega arith in
-          (x .0 ∙ ap₂ (λ (m o : ℕ). Items 12 (placeIn s left) m o) a b, x .1 ∙ ap (λ (m : ℕ). lay cells m (entriesFrom (slot .parent) m (at + 1) v more)) n)
+        Filled : Value → Type 0
+        Filled u = leftOf slot < itemSize u → r ≡ Full (firstOver (leftOf slot) (itemEntries (slot .parent) (slot .next) at u))
 
-      full : (v : Value) (more : More) (left : List ℕ) → itemAnd fewer list (drop (at + 1) s) ≡ found (list v more) left → leftOf slot < itemSize (list v more)
-          → r ≡ Full (firstOver (leftOf slot) (itemEntries (slot .parent) (slot .next) at (list v more)))
-      full v more left q k =
-          let n : slot .next + 0 ≡ slot .next = omega arith in
-          let a : leftOf slot - 0 ≡ leftOf slot = omega arith in
-          h .1 .full v more left q (omega arith) ∙ ap₂ (λ (m o : ℕ). Full (firstOver m (entriesFrom (slot .parent) o (at + 1) v more))) a n
+        first-of : Found Value
+        first-of = valueOf fewer listEnders (drop (at + 1) s)
+
+        is-list : (v : Value) (left : List ℕ) → valueOf lists also (drop at s) ≡ found v left → MadeOf fewer list first-of v left
+        is-list v left q = made-of fewer list first-of v left (sym (list-found s at lists also fewer o e) ∙ q)
+
+        made-list : {v : Value} (left : List ℕ) (p : MadeOf fewer list first-of v left) → itemAnd fewer list (drop (at + 1) s) ≡ found (list (p .first) (p .rest)) left
+        made-list left p = together fewer list _ (p .first) (p .rest) left (p .parts)
+
+        fits : (v : Value) (more : More) (left : List ℕ) → itemAnd fewer list (drop (at + 1) s) ≡ found (list v more) left → Fitting (list v more) left
+        fits v more left q k =
+            let x = h .1 .fits v more left q (omega arith) in
+            let n : slot .next + 0 ≡ slot .next = omega arith in
+            let a : 0 + sizeFrom v more ≡ sizeFrom v more = omega arith in
+            let b : 0 + suc (moreItems more) ≡ suc (moreItems more) = omega arith in (
+              x .0 ∙ ap₂ (λ (m o : ℕ). Items 12 (placeIn s left) m o) a b,
+              x .1 ∙ ap (λ (m : ℕ). lay cells m (entriesFrom (slot .parent) m (at + 1) v more)) n,
+            )
+
+        full : (v : Value) (more : More) (left : List ℕ) → itemAnd fewer list (drop (at + 1) s) ≡ found (list v more) left → Filled (list v more)
+        full v more left q k =
+            let n : slot .next + 0 ≡ slot .next = omega arith in
+            let a : leftOf slot - 0 ≡ leftOf slot = omega arith in
+            h .1 .full v more left q (omega arith) ∙ ap₂ (λ (m o : ℕ). Full (firstOver m (entriesFrom (slot .parent) o (at + 1) v more))) a n
 
 -- ---- the items of a trait's whole value
 

@@ -18,11 +18,15 @@ use Rattle.values.specs.declared.entering.Entered.the-variants.{Items, F
 use Rattle.values.specs.Entering.{Stands, leftOf, Ahead, Enters, EntersFrom}
 use Rattle.text.proofs.Compared.{stands-inside}
 use Rattle.text.proofs.Stretch.{Stretch}
+use Rattle.values.proofs.ListLaws.{Opened}
 use Rattle.values.proofs.EnterLaws.{ahead-items, none-left, none-inside, last-item, next-item}
 
 -- behind "[", one list deeper
-pub stands-deeper : (s : List ℕ) (at lists : ℕ) (cells : List ℕ) (slot : Slot) → Stands s at lists cells slot → startsWith (bytes "[") (drop at s) ≡ true → (fewer : ℕ) → lists ≡ suc fewer → Stands s (at + 1) fewer cells slot
-stands-deeper s at lists cells slot h l fewer e = record { place = omega (arith, stands-inside (bytes "[") s at l); short = h .short; few = omega (arith, h .few); fits = h .fits }
+pub stands-deeper : {s : List ℕ} {at lists : ℕ} {cells : List ℕ} {slot : Slot} → Stands s at lists cells slot
+    → {fewer : ℕ} → Opened s at lists fewer → Stands s (at + 1) fewer cells slot
+stands-deeper {s} {at} h o =
+    let k = stands-inside (bytes "[") s at (o .opens) in
+    record { place = omega arith; short = h .short; few = omega (arith, h .few, o .deeper); fits = h .fits }
 
 -- ---- one turn
 

@@ -1,5 +1,9 @@
 // Entering the items of a value that was read whole.
 // Document 01, "Entries": list items in depth-first order; refusal 11.
+use crate::brackets::Around;
+use crate::brackets::closes;
+use crate::brackets::goes_on;
+use crate::brackets::opens;
 use crate::forms::LIST;
 use crate::leaves::read_leaf;
 use crate::nesting::Deeper;
@@ -9,7 +13,6 @@ use entries::ITEM;
 use entries::Slot;
 use entries::nameless;
 use entries::put;
-use text::parts::starts_with;
 use text::runs;
 use text::runs::Class;
 ghost use mathlib.Core.Path.{_≡_};
@@ -41,8 +44,15 @@ pub fn enter_whole(s: &[u8], at: usize, value: Read, cells: &mut [u32], slot: Sl
     requires { ⌜ Stands (now s) at listLimit (now cells) slot × Reading valueForm (now s) at (wholeValue listLimit (drop at (now s))) value ⌝ }
     ensures { λ r. ⌜ Ahead (now (s .entry)) at listLimit (leftOf slot) r × Enters (now (s .entry)) at (now (cells .entry)) slot (wholeValue listLimit (drop at (now (s .entry)))) r (now (cells .exit)) ⌝ }
 {
-    if starts_with(s, at, b"[") {
-        return enter(s, at, Nesting::new(Nesting::LISTS), false, cells, slot);
+    if opens(s, at) {
+        return enter(
+            s,
+            at,
+            Nesting::new(Nesting::LISTS),
+            Around::Nothing,
+            cells,
+            slot,
+        );
     }
     without_items(value)
 }
@@ -52,28 +62,29 @@ fn enter(
     s: &[u8],
     at: usize,
     nesting: Nesting,
-    in_list: bool,
+    around: Around,
     cells: &mut [u32],
     slot: Slot,
 ) -> Entered
     requires { ⌜ Stands (now s) at (nesting .left) (now cells) slot ⌝ }
-    ensures { λ r. ⌜ Ahead (now (s .entry)) at (nesting .left) (leftOf slot) r × Enters (now (s .entry)) at (now (cells .entry)) slot (valueOf (nesting .left) (endersOf in_list) (drop at (now (s .entry)))) r (now (cells .exit)) ⌝ }
+    ensures { λ r. ⌜ Ahead (now (s .entry)) at (nesting .left) (leftOf slot) r × Enters (now (s .entry)) at (now (cells .entry)) slot (valueOf (nesting .left) (endersOf around) (drop at (now (s .entry)))) r (now (cells .exit)) ⌝ }
 {
-    if !starts_with(s, at, b"[") {
-        return without_items(read_leaf(s, at, in_list));
+    if !opens(s, at) {
+        return without_items(read_leaf(s, at, around));
     }
     let Deeper::Inside(fewer) = nesting.step() else {
         return Entered::Full { place: at };
     };
-    if starts_with(s, at, b"[]") {
+    let first = at + 1;
+    if closes(s, first) {
         return Entered::Items {
             form: LIST,
-            end: at + 2,
+            end: first + 1,
             made: 0,
             own: 0,
         };
     }
-    enter_items(s, at + 1, fewer, cells, slot)
+    enter_items(s, first, fewer, cells, slot)
 }
 
 // A value that is no list has no items; what was refused is never entered.
@@ -87,7 +98,7 @@ fn without_items(read: Read) -> Entered
             made: 0,
             own: 0,
         },
-        Read::Refused { refusal: _, place } => Entered::Full { place },
+        Read::Refused { place, .. } => Entered::Full { place },
     }
 }
 
@@ -104,7 +115,7 @@ fn enter_items(s: &[u8], at: usize, nesting: Nesting, cells: &mut [u32], slot: S
         if next.is_full() {
             return Entered::Full { place: i };
         }
-        let item = enter(s, i, nesting, true, cells, next.under());
+        let item = enter(s, i, nesting, Around::List, cells, next.under());
         let Entered::Items {
             form,
             end,
@@ -122,7 +133,7 @@ fn enter_items(s: &[u8], at: usize, nesting: Nesting, cells: &mut [u32], slot: S
         );
         made += 1 + inside;
         own += 1;
-        if !starts_with(s, end, b",") {
+        if !goes_on(s, end) {
             return Entered::Items {
                 form: LIST,
                 end: end + 1,

@@ -1,5 +1,6 @@
 // Values that are no lists, by their first byte.
 // Document 01, "The grammar", Values.
+use crate::brackets::Around;
 use crate::forms;
 use crate::quoted;
 use crate::read;
@@ -12,9 +13,9 @@ ghost use Rattle.paper.specs.ReadingValues.{wordLeaf, leafOf};
 ghost use Rattle.values.specs.Seen.{Reading};
 ghost use Rattle.values.specs.Kinds.{endersOf};
 
-// Reads the value that stands at `at` and is no list itself, in a list or outside of any.
-pub fn read_leaf(s: &[u8], at: usize, in_list: bool) -> Read
-    ensures { λ r. ⌜ Reading leafForm (now (s .entry)) at (leafOf (endersOf in_list) (drop at (now (s .entry)))) r ⌝ }
+// Reads the value that stands at `at` and is no list itself.
+pub fn read_leaf(s: &[u8], at: usize, around: Around) -> Read
+    ensures { λ r. ⌜ Reading leafForm (now (s .entry)) at (leafOf (endersOf around) (drop at (now (s .entry)))) r ⌝ }
 {
     if s.len() <= at {
         return read::cut(s);
@@ -23,16 +24,16 @@ pub fn read_leaf(s: &[u8], at: usize, in_list: bool) -> Read
         b'"' => quoted::string_end(s, at + 1),
         b'\'' => quoted::character_end(s, at + 1),
         b'`' => quoted::backtick_end(s, at + 1),
-        _ => read_word(s, at, in_list),
+        _ => read_word(s, at, around),
     }
 }
 
 // Reads the word that stands at `at`; it is judged only where something ends it.
-fn read_word(s: &[u8], at: usize, in_list: bool) -> Read
+fn read_word(s: &[u8], at: usize, around: Around) -> Read
     requires { ⌜ at ≤ length (now s) ⌝ }
-    ensures { λ r. ⌜ Reading leafForm (now (s .entry)) at (wordLeaf (endersOf in_list) (drop at (now (s .entry)))) r ⌝ }
+    ensures { λ r. ⌜ Reading leafForm (now (s .entry)) at (wordLeaf (endersOf around) (drop at (now (s .entry)))) r ⌝ }
 {
-    let end = words::word_end(s, at, in_list);
+    let end = words::word_end(s, at, around);
     if end == s.len() {
         return read::cut(s);
     }

@@ -1,5 +1,6 @@
 // Values: strings, characters, backticks, words and lists, and entering the items of lists.
 // Document 01, "The grammar", Values; "Entries".
+mod brackets;
 pub mod entering;
 mod escapes;
 pub mod forms;

@@ -1,5 +1,9 @@
 // Values of every kind, lists among them, and a trait's whole value.
 // Document 01, "The grammar", Values, and refusals 6, 9 and 10 of "Refusal numbers" and "Order".
+use crate::brackets::Around;
+use crate::brackets::closes;
+use crate::brackets::goes_on;
+use crate::brackets::opens;
 use crate::forms::LIST;
 use crate::leaves::read_leaf;
 use crate::nesting::Deeper;
@@ -8,8 +12,6 @@ use crate::read::Read;
 use crate::read::cut;
 use crate::read::no_value;
 use paper::Refusal;
-use paper::number;
-use text::parts::starts_with;
 use text::runs;
 use text::runs::Class;
 ghost use Prim.Native.Nat.{_≤_};
@@ -25,23 +27,23 @@ pub fn read_whole(s: &[u8], at: usize) -> Read
     requires { ⌜ at ≤ length (now s) ⌝ }
     ensures { λ r. ⌜ Reading valueForm (now (s .entry)) at (wholeValue listLimit (drop at (now (s .entry)))) r ⌝ }
 {
-    let read = read_value(s, at, Nesting::new(Nesting::LISTS), false);
-    let Read::Refused { refusal, place: _ } = read else {
+    let read = read_value(s, at, Nesting::new(Nesting::LISTS), Around::Nothing);
+    let Read::Refused { refusal, .. } = read else {
         return read;
     };
-    if number(refusal) != number(Refusal::Value) {
-        return read;
+    match refusal {
+        Refusal::Value => no_value(at),
+        _ => read,
     }
-    no_value(at)
 }
 
-// Reads the value that stands at `at`, in a list or outside of any. The place of a refusal is that of the inner fault.
-pub fn read_value(s: &[u8], at: usize, nesting: Nesting, in_list: bool) -> Read
+// Reads the value that stands at `at`. The place of a refusal is that of the inner fault.
+fn read_value(s: &[u8], at: usize, nesting: Nesting, around: Around) -> Read
     requires { ⌜ at ≤ length (now s) ⌝ }
-    ensures { λ r. ⌜ Reading valueForm (now (s .entry)) at (valueOf (nesting .left) (endersOf in_list) (drop at (now (s .entry)))) r ⌝ }
+    ensures { λ r. ⌜ Reading valueForm (now (s .entry)) at (valueOf (nesting .left) (endersOf around) (drop at (now (s .entry)))) r ⌝ }
 {
-    if !starts_with(s, at, b"[") {
-        return read_leaf(s, at, in_list);
+    if !opens(s, at) {
+        return read_leaf(s, at, around);
     }
     let Deeper::Inside(fewer) = nesting.step() else {
         return Read::Refused {
@@ -49,13 +51,14 @@ pub fn read_value(s: &[u8], at: usize, nesting: Nesting, in_list: bool) -> Read
             place: at,
         };
     };
-    if starts_with(s, at, b"[]") {
+    let first = at + 1;
+    if closes(s, first) {
         return Read::Found {
             form: LIST,
-            end: at + 2,
+            end: first + 1,
         };
     }
-    read_items(s, at + 1, fewer)
+    read_items(s, first, fewer)
 }
 
 // Reads the items of a list, the first of which stands at `at`, up to its closing bracket.
@@ -65,26 +68,22 @@ fn read_items(s: &[u8], at: usize, nesting: Nesting) -> Read
 {
     let mut i = at;
     loop {
-        let item = read_value(s, i, nesting, true);
-        let Read::Found { form: _, end } = item else {
+        let item = read_value(s, i, nesting, Around::List);
+        let Read::Found { end, .. } = item else {
             return item;
         };
         if s.len() <= end {
             return cut(s);
         }
-        match s[end] {
-            b']' => {
-                return Read::Found {
-                    form: LIST,
-                    end: end + 1,
-                };
-            }
-            b',' => {
-                i = runs::end(s, end + 1, Class::White);
-            }
-            _ => {
-                return no_value(end);
-            }
+        if closes(s, end) {
+            return Read::Found {
+                form: LIST,
+                end: end + 1,
+            };
         }
+        if !goes_on(s, end) {
+            return no_value(end);
+        }
+        i = runs::end(s, end + 1, Class::White);
     }
 }

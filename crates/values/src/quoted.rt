@@ -28,7 +28,7 @@ pub fn string_end(s: &[u8], at: usize) -> Read
             }
             b'\\' => {
                 let escape = escape_end(s, i, b'"');
-                let Read::Found { form: _, end } = escape else {
+                let Read::Found { end, .. } = escape else {
                     return escape;
                 };
                 i = end;
@@ -55,7 +55,7 @@ pub fn character_end(s: &[u8], at: usize) -> Read
         b'\'' | b'\n' | b'\r' => read::no_value(at),
         b'\\' => {
             let escape = escape_end(s, at, b'\'');
-            let Read::Found { form: _, end } = escape else {
+            let Read::Found { end, .. } = escape else {
                 return escape;
             };
             closing_quote(s, end)

@@ -5,11 +5,8 @@ use Rattle.values.proofs.EnterLaws.{whole-list, whole-bare}
 use Rattle.values.proofs.entering.enter_whole.Statement.{statement}
 use Rattle.values.proofs.entering.enter_whole.Tie as tie
 
-slice-aggregate-starts-with : tie.Need-slice-aggregate-starts-with
-slice-aggregate-starts-with c = search needs
-
-starts-with-requires : tie.Need-starts-with-requires
-starts-with-requires c κs = search needs
+opens-requires : tie.Need-opens-requires
+opens-requires c κs = search needs
 
 new-requires : tie.Need-new-requires
 new-requires c κs = search needs
@@ -28,15 +25,14 @@ without-items-requires c κs = search needs
 
 returns-2 : tie.Need-returns-2
 returns-2 c =
-    let top = c .before .before .before .before .before .before in
-    whole-bare _ _ 8 _ _ _ (sym (c .before .before .starts-with .ensures) ∙ c .before .if1 .left) (top .pre .1) _ (c .without-items .ensures)
+    let top = c .before .before .before .before .before in
+    whole-bare _ _ 8 _ _ _ (sym (c .before .before .opens .ensures) ∙ c .before .if1 .left) (top .pre .1) _ (c .without-items .ensures)
 
 pub enter-whole-spec : {M : Type 1} → statement M
 enter-whole-spec =
     tie.close
     (tie.spec
-    slice-aggregate-starts-with
-    starts-with-requires
+    opens-requires
     new-requires
     enter-requires
     same-length

@@ -11,10 +11,10 @@ use Rattle.values.proofs.words.word_end.Statement.{statement}
 use Rattle.values.proofs.words.word_end.Tie as tie
 
 abbrev Inv-loop : tie.InvT-loop
-Inv-loop s at in-list i₀ i = (at ≤ i) × (i ≤ length s) × (i + wordLength (endersOf in-list) (drop i s) ≡ at + wordLength (endersOf in-list) (drop at s))
+Inv-loop s at around i₀ i = (at ≤ i) × (i ≤ length s) × (i + wordLength (endersOf around) (drop i s) ≡ at + wordLength (endersOf around) (drop at s))
 
 abbrev μ-loop : tie.MeasureT-loop
-μ-loop s at in-list i₀ i = length s - i
+μ-loop s at around i₀ i = length s - i
 
 loop-holds : tie.Need-loop-holds Inv-loop μ-loop
 loop-holds c = search needs
