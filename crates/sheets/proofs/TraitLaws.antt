@@ -30,18 +30,18 @@ use Rattle.entries.specs.Laid.{lay, slotUnder, Fits}
 use Rattle.entries.specs.declared.Slot.{Slot}
 use Rattle.entries.proofs.Laying.{lay-before}
 use Rattle.entries.proofs.Slots.{fits-under}
-use Rattle.values.specs.declared.read.Read.{Read as Whole}
+use Rattle.values.specs.declared.judged.Judged.{Judged}
 use Rattle.values.specs.declared.entering.Entered.{Entered}
 use Rattle.values.specs.declared.entering.Entered.the-variants.{Items, Full}
-use Rattle.values.specs.Seen.{Seen as WholeSeen, seen as whole-seen, seenOf as whole-of, Reading}
-use Rattle.values.specs.Entering.{Stands, leftOf, firstOver, Ahead, Enters}
-use Rattle.values.proofs.Seeing.{stands}
+use Rattle.values.specs.Shown.{Shown, shown, shownOf, Judges}
+use Rattle.values.specs.Entering.{Ready, leftOf, firstOver, Ahead, Enters}
+use Rattle.values.proofs.Showing.{stands}
 use Rattle.lines.specs.Parts.{Seen, seen, passed, Makes, In}
 use Rattle.lines.specs.declared.part.Part.{Part}
 use Rattle.lines.specs.declared.part.Part.the-variants.{Read, Refused}
 use Rattle.lines.proofs.Crossing.{makes-refused, makes-passed, makes-read}
 use Rattle.lines.proofs.ReadAt.{DueAt, NameAt}
-use Rattle.sheets.specs.Traits.{valueIn, oneTrait}
+use Rattle.sheets.specs.Traits.{valueIn, MakesTrait, MakesValued}
 
 -- ---- where the entries of a value's items start
 
@@ -82,7 +82,7 @@ mutual
 
 -- ---- a whole value that stands at a place
 
-abbrev formless : WholeSeen → Seen
+abbrev formless : Shown → Seen
 formless y = record { number = y .number; place = y .place; made = 0; own = 0 }
 
 pub record ValueAt (s : List ℕ) (at : ℕ) : Type 0 where
@@ -92,8 +92,8 @@ pub record ValueAt (s : List ℕ) (at : ℕ) : Type 0 where
   pub wide : end ≡ at + valueWidth it
   pub inside : end ≤ length s
 
-module _ {s : List ℕ} {at : ℕ} {value : Whole} (h : Reading valueForm s at (wholeValue listLimit (drop at s)) value) where
-  pub value-at : (form end : ℕ) → value ≡ Whole.Found form end → ValueAt s at
+module _ {s : List ℕ} {at : ℕ} {value : Judged} (h : Judges valueForm s at (wholeValue listLimit (drop at s)) value) where
+  pub value-at : (form end : ℕ) → value ≡ Judged.Found form end → ValueAt s at
   value-at form end q =
       let f = stands h (ReadValue listLimit [] (drop at s)) (whole-reads listLimit (drop at s)) form end q in
       record {
@@ -105,10 +105,10 @@ module _ {s : List ℕ} {at : ℕ} {value : Whole} (h : Reading valueForm s at (
       }
 
   -- a value's refusal as that of a part
-  value-passed : {why : Refusal} {place : ℕ} → value ≡ Whole.Refused why place → seen (Refused why place) ≡ passed s (wholeValue listLimit (drop at s))
-  value-passed {why} {place} q = ap (λ (y : Whole). formless (whole-seen y)) (sym q) ∙ ap formless (h .same) ∙ go (wholeValue listLimit (drop at s))
+  value-passed : {why : Refusal} {place : ℕ} → value ≡ Judged.Refused why place → seen (Refused why place) ≡ passed s (wholeValue listLimit (drop at s))
+  value-passed {why} {place} q = ap (λ (y : Judged). formless (shown y)) (sym q) ∙ ap formless (h .same) ∙ go (wholeValue listLimit (drop at s))
     where
-      go : (x : Found Value) → formless (whole-of valueForm s x) ≡ passed s x
+      go : (x : Found Value) → formless (shownOf valueForm s x) ≡ passed s x
       go (found v left) = refl
       go (fault n left) = refl
 
@@ -134,7 +134,7 @@ pub record Far (end made own : ℕ) : Type 0 where
   pub owned : own ≤ made
 
 module _ {s : List ℕ} {at : ℕ} (place : In s at) {cells : List ℕ} {slot : Slot} (fits : Fits cells slot) {under : Slot} (u : under ≡ slotUnder slot) where
-  pub items-stand : {o : Bool} → o ≡ leb (slot .room) (slot .next) → o ≡ false → Stands s at listLimit cells under
+  pub items-stand : {o : Bool} → o ≡ leb (slot .room) (slot .next) → o ≡ false → Ready s at listLimit cells under
   items-stand asked f =
       rw u (record {
         place = place .inside;
@@ -153,13 +153,13 @@ module _ {s : List ℕ} {at : ℕ} (place : In s at) {cells : List ℕ} {slot : 
 
 module _ {s : List ℕ} {from to : ℕ} (place : In s (to + 1)) (between : from ≤ to) {cells : List ℕ} {slot : Slot} (fits : Fits cells slot) (white w : List ℕ) where
   abbrev Made : Part → List ℕ → Type 0
-  Made r after = Makes traitSize (λ t. 1) (oneTrait (slot .parent) (slot .next) from) s cells (slot .next) (valueIn (leftOf slot) (drop from s) white w (drop (to + 1) s)) r after
+  Made r after = MakesTrait s from cells slot (valueIn (leftOf slot) (drop from s) white w (drop (to + 1) s)) r after
 
   -- what the trait makes of its value
   abbrev of-value : Found Value → Found Trait
   of-value x = andThen x (λ v left. enters (leftOf slot) (drop from s) (drop (to + 1) s) (record { white = white; name = w; value = v }) left)
 
-  pub trait-refused : {value : Whole} → Reading valueForm s (to + 1) (wholeValue listLimit (drop (to + 1) s)) value → {why : Refusal} {at : ℕ} → value ≡ Whole.Refused why at → {r : Part} → r ≡ Refused why at → Made r cells
+  pub trait-refused : {value : Judged} → Judges valueForm s (to + 1) (wholeValue listLimit (drop (to + 1) s)) value → {why : Refusal} {at : ℕ} → value ≡ Judged.Refused why at → {r : Part} → r ≡ Refused why at → Made r cells
   trait-refused h {why} {at} q {r} e = makes-passed _ _ _ _ _ _ _ r cells (λ v. 0) (λ v. 0) of-value (λ k left. refl) (wholeValue listLimit (drop (to + 1) s)) why at (ap seen e ∙ value-passed h q) e refl
 
   module _ (value : ValueAt s (to + 1)) {o : Bool} (asked : o ≡ leb (slot .room) (slot .next)) where
@@ -239,7 +239,7 @@ module _ {s : List ℕ} {at : ℕ} (place : In s at) {cells : List ℕ} {slot : 
     by-name = refl
 
     abbrev Traited : Part → List ℕ → Type 0
-    Traited r after = Makes traitSize (λ t. 1) (oneTrait (slot .parent) (slot .next) at) s cells (slot .next) (trait (boundsOf m) (leftOf slot) white (drop at s)) r after
+    Traited r after = MakesTrait s at cells slot (trait (boundsOf m) (leftOf slot) white (drop at s)) r after
 
     pub no-name : (r : Part) → seen r ≡ passed s (name isTraitName (drop at s)) → {why : Refusal} {place : ℕ} → r ≡ Refused why place → Traited r cells
     no-name r e {why} {place} q = makes-passed _ _ _ _ _ _ _ r cells (λ w. 0) (λ w. 0) of-name (λ k left. refl) (name isTraitName (drop at s)) why place e q by-name
@@ -251,9 +251,7 @@ module _ {s : List ℕ} {at : ℕ} (place : In s at) {cells : List ℕ} {slot : 
       pub no-equals : (r : Part) → seen r ≡ passed s (due (byte "=") (drop to s)) → {why : Refusal} {place : ℕ} → r ≡ Refused why place → Traited r cells
       no-equals r e {why} {place} q = makes-passed _ _ _ _ _ _ _ r cells (λ b. 0) (λ b. 0) (of-equals (named .it)) (λ k left. refl) (due (byte "=") (drop to s)) why place e q by-equals
 
-      pub trait-entered : {end : ℕ} → DueAt (byte "=") s to end → {r : Part} {after : List ℕ}
-          → ((white w : List ℕ) → length w ≡ to - at → Makes traitSize (λ t. 1) (oneTrait (slot .parent) (slot .next) at) s cells (slot .next) (valueIn (leftOf slot) (drop at s) white w (drop (to + 1) s)) r after)
-          → Traited r after
+      pub trait-entered : {end : ℕ} → DueAt (byte "=") s to end → {r : Part} {after : List ℕ} → MakesValued s at to cells slot r after → Traited r after
       trait-entered equals k =
           let by-value : trait (boundsOf m) (leftOf slot) white (drop at s) ≡ valueIn (leftOf slot) (drop at s) white (named .it) (drop (to + 1) s) =
           by-equals ∙ ap (of-equals (named .it)) (equals .finds) ∙ ap (λ (n : ℕ). valueIn (leftOf slot) (drop at s) white (named .it) (drop n s)) (equals .next) in

@@ -24,12 +24,12 @@ use Rattle.text.proofs.Stretch.{Stretch, behind-at}
 use Rattle.entries.specs.Laid.{lay, slotAfter, slotUnder}
 use Rattle.entries.specs.declared.Slot.{Slot}
 use Rattle.entries.proofs.Laying.{lay-none, lay-before, lay-append}
-use Rattle.values.specs.declared.read.Read.{Read}
+use Rattle.values.specs.declared.judged.Judged.{Judged}
 use Rattle.values.specs.declared.entering.Entered.{Entered}
 use Rattle.values.specs.declared.entering.Entered.the-variants.{Items, Full}
-use Rattle.values.specs.Entering.{withoutItems, leftOf, firstOver, entriesFrom, sizeFrom, Ahead, Enters, EntersFrom}
-use Rattle.values.specs.Seen.{Seen, foundAt, refusedAt, seen, seenOf, Reading}
-use Rattle.values.proofs.Seeing.{fails}
+use Rattle.values.specs.Entering.{withoutItems, leftOf, firstOver, entriesFrom, sizeFrom, Ahead, Enters, EntersValue, EntersWhole, EntersFrom, EntersItems}
+use Rattle.values.specs.Shown.{Shown, foundAt, refusedAt, shown, shownOf, Judges}
+use Rattle.values.proofs.Showing.{fails}
 use Rattle.values.proofs.ListLaws.{byte-at, Opened, leaf-value, deep-value, empty-found, empty-value, list-found}
 use Rattle.values.proofs.ItemsFound.{Parts, MadeOf, made-of, together, list-parts, closed, first-in, first-past}
 
@@ -275,31 +275,27 @@ bare-empty = record { size = refl; count = refl; entries = λ parent next at. re
 
 module _ (s : List ℕ) (at lists : ℕ) (also cells : List ℕ) (slot : Slot) where
   -- a value that has none
-  bare-enters : (x : Found Value) (read : Read) → Reading valueForm s at x read → ((v : Value) (left : List ℕ) → x ≡ found v left → Bare v) → Enters s at cells slot x (withoutItems read) cells
+  bare-enters : (x : Found Value) (read : Judged) → Judges valueForm s at x read → ((v : Value) (left : List ℕ) → x ≡ found v left → Bare v) → Enters s at cells slot x (withoutItems read) cells
   bare-enters x read h bare =
       record {
         fits = λ v left e k. (answer read (h .same) v left e, sym (ap (lay cells (slot .next)) (bare v left e .entries (slot .parent) (slot .next) at) ∙ lay-none cells (slot .next)));
         full = λ v left e k. absurd (omega (arith, bare v left e .size));
       }
     where
-      answer : (read : Read) → seen read ≡ seenOf valueForm s x → (v : Value) (left : List ℕ) → x ≡ found v left → withoutItems read ≡ Items (valueForm v) (placeIn s left) (itemSize v) (itemsOf v)
-      answer (Read.Found form end) q v left e =
-          let k : foundAt form end ≡ foundAt (valueForm v) (placeIn s left) = q ∙ ap (seenOf valueForm s) e in
-          let f : form ≡ valueForm v = ap (λ (y : Seen). y .form) k in
-          let n : end ≡ placeIn s left = ap (λ (y : Seen). y .place) k in
+      answer : (read : Judged) → shown read ≡ shownOf valueForm s x → (v : Value) (left : List ℕ) → x ≡ found v left → withoutItems read ≡ Items (valueForm v) (placeIn s left) (itemSize v) (itemsOf v)
+      answer (Judged.Found form end) q v left e =
+          let k : foundAt form end ≡ foundAt (valueForm v) (placeIn s left) = q ∙ ap (shownOf valueForm s) e in
+          let f : form ≡ valueForm v = ap (λ (y : Shown). y .form) k in
+          let n : end ≡ placeIn s left = ap (λ (y : Shown). y .place) k in
           let b = bare v left e in
           rw (f, n, b .size, b .count)
-      answer (Read.Refused why place) q v left e =
-          let k : refusedAt (numberOf why) place ≡ foundAt (valueForm v) (placeIn s left) = q ∙ ap (seenOf valueForm s) e in
-          absurd (number-positive why (ap (λ (y : Seen). y .number) k))
+      answer (Judged.Refused why place) q v left e =
+          let k : refusedAt (numberOf why) place ≡ foundAt (valueForm v) (placeIn s left) = q ∙ ap (shownOf valueForm s) e in
+          absurd (number-positive why (ap (λ (y : Shown). y .number) k))
 
-  bare-ahead : (x : Found Value) (read : Read) → Reading valueForm s at x read → (room : ℕ) → Ahead s at lists room (withoutItems read)
-  bare-ahead x (Read.Found form end) h room = let k = h .ahead form end refl in ahead-items s at lists room form end 0 0 (omega arith) (omega arith) (omega arith) (omega arith)
-  bare-ahead x (Read.Refused why place) h room = ahead-full s at lists room (Full place) place refl
-
-  -- it is entered so
-  abbrev Entering : Entered → List ℕ → Type 0
-  Entering r after = Ahead s at lists (leftOf slot) r × Enters s at cells slot (valueOf lists also (drop at s)) r after
+  bare-ahead : (x : Found Value) (read : Judged) → Judges valueForm s at x read → (room : ℕ) → Ahead s at lists room (withoutItems read)
+  bare-ahead x (Judged.Found form end) h room = let k = h .ahead form end refl in ahead-items s at lists room form end 0 0 (omega arith) (omega arith) (omega arith) (omega arith)
+  bare-ahead x (Judged.Refused why place) h room = ahead-full s at lists room (Full place) place refl
 
   -- no list
   leaf-bare : startsWith (bytes "[") (drop at s) ≡ false → (v : Value) (left : List ℕ) → valueOf lists also (drop at s) ≡ found v left → Bare v
@@ -309,15 +305,15 @@ module _ (s : List ℕ) (at lists : ℕ) (also cells : List ℕ) (slot : Slot) w
       go (found u end) v left q = let k : leaf u ≡ v = cc in rw (← k) (bare-leaf u)
       go (fault n end) v left q = let z : _≡_ {A = ℕ} 0 1 = cc in absurd (omega arith)
 
-  pub leaf-enters : (read : Read) → startsWith (bytes "[") (drop at s) ≡ false → Reading leafForm s at (leafOf also (drop at s)) read
-      → (r : Entered) → r ≡ withoutItems read → Entering r cells
+  pub leaf-enters : (read : Judged) → startsWith (bytes "[") (drop at s) ≡ false → Judges leafForm s at (leafOf also (drop at s)) read
+      → (r : Entered) → r ≡ withoutItems read → EntersValue lists also s at cells slot r cells
   leaf-enters read e h r q =
       let x = valueOf lists also (drop at s) in
       let k = leaf-value s at lists also read e h in
       rw q (bare-ahead x read k (leftOf slot), bare-enters x read k (leaf-bare e))
 
   -- a list too deep
-  pub deep-enters : at ≤ length s → startsWith (bytes "[") (drop at s) ≡ true → lists ≡ 0 → Entering (Full at) cells
+  pub deep-enters : at ≤ length s → startsWith (bytes "[") (drop at s) ≡ true → lists ≡ 0 → EntersValue lists also s at cells slot (Full at) cells
   deep-enters l e z =
       let k = deep-value s at lists also l e z in
       let f = fails k TooDeep at refl .faults in
@@ -326,7 +322,7 @@ module _ (s : List ℕ) (at lists : ℕ) (also cells : List ℕ) (slot : Slot) w
 
   module _ (fewer : ℕ) (o : Opened s at lists fewer) where
     -- an empty list
-    pub empty-enters : startsWith (bytes "]") (drop (at + 1) s) ≡ true → Entering (Items 12 (at + 1 + 1) 0 0) cells
+    pub empty-enters : startsWith (bytes "]") (drop (at + 1) s) ≡ true → EntersValue lists also s at cells slot (Items 12 (at + 1 + 1) 0 0) cells
     empty-enters e =
         let k = empty-value s at lists also fewer o e in
         let f = empty-found s at lists also fewer o e in
@@ -335,7 +331,7 @@ module _ (s : List ℕ) (at lists : ℕ) (also cells : List ℕ) (slot : Slot) w
 
     -- a list of items
     pub list-enters : startsWith (bytes "]") (drop (at + 1) s) ≡ false → (r : Entered) (after : List ℕ)
-        → Ahead s (at + 1) (fewer + 1) (leftOf slot) r × EntersFrom s (at + 1) cells slot 0 0 (itemAnd fewer list (drop (at + 1) s)) r after → Entering r after
+        → EntersItems fewer s (at + 1) cells slot r after → EntersValue lists also s at cells slot r after
     unfolding itemSize itemsOf itemEntries
     list-enters e r after h = (
       record { far = λ form end made own q. omega (arith, h .0 .far form end made own q, o .deeper) },
@@ -392,17 +388,15 @@ module _ (s : List ℕ) (at lists : ℕ) (cells : List ℕ) (slot : Slot) where
           let z : _≡_ {A = ℕ} 0 1 = cc in
           absurd (omega arith)
 
-  abbrev Whole : Entered → List ℕ → Type 0
-  Whole r after = Ahead s at lists (leftOf slot) r × Enters s at cells slot (wholeValue lists (drop at s)) r after
-
   -- a list is entered as the value that it is
-  pub whole-list : (r : Entered) (after : List ℕ) (n : ℕ) → n ≡ lists → Ahead s at n (leftOf slot) r × Enters s at cells slot (valueOf n [] (drop at s)) r after → Whole r after
+  pub whole-list : (r : Entered) (after : List ℕ) (n : ℕ) → n ≡ lists → EntersValue n [] s at cells slot r after → EntersWhole lists s at cells slot r after
   whole-list r after n e h =
-      let k : Ahead s at lists (leftOf slot) r × Enters s at cells slot (valueOf lists [] (drop at s)) r after = rw e at h in
+      let k : EntersValue lists [] s at cells slot r after = rw e at h in
       (k .0, record { fits = λ v left q. k .1 .fits v left (value-found v left q); full = λ v left q. k .1 .full v left (value-found v left q) })
 
   -- what is no list was judged when it was read
-  pub whole-bare : (read : Read) → startsWith (bytes "[") (drop at s) ≡ false → Reading valueForm s at (wholeValue lists (drop at s)) read → (r : Entered) → r ≡ withoutItems read → Whole r cells
+  pub whole-bare : (read : Judged) → startsWith (bytes "[") (drop at s) ≡ false → Judges valueForm s at (wholeValue lists (drop at s)) read
+      → (r : Entered) → r ≡ withoutItems read → EntersWhole lists s at cells slot r cells
   whole-bare read e h r q =
       let x = wholeValue lists (drop at s) in
       let bare : (v : Value) (left : List ℕ) → x ≡ found v left → Bare v = λ v left p. leaf-bare s at lists [] cells slot e v left (value-found v left p) in

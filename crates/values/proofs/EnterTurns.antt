@@ -15,15 +15,15 @@ use Rattle.entries.specs.Laid.{lay, slotAfter, slotUnder}
 use Rattle.entries.specs.declared.Slot.{Slot}
 use Rattle.values.specs.declared.entering.Entered.{Entered}
 use Rattle.values.specs.declared.entering.Entered.the-variants.{Items, Full}
-use Rattle.values.specs.Entering.{Stands, leftOf, Ahead, Enters, EntersFrom}
+use Rattle.values.specs.Entering.{Ready, leftOf, Ahead, Enters, EntersFrom}
 use Rattle.text.proofs.Compared.{stands-inside}
 use Rattle.text.proofs.Stretch.{Stretch}
 use Rattle.values.proofs.ListLaws.{Opened}
 use Rattle.values.proofs.EnterLaws.{ahead-items, none-left, none-inside, last-item, next-item}
 
 -- behind "[", one list deeper
-pub stands-deeper : {s : List ℕ} {at lists : ℕ} {cells : List ℕ} {slot : Slot} → Stands s at lists cells slot
-    → {fewer : ℕ} → Opened s at lists fewer → Stands s (at + 1) fewer cells slot
+pub stands-deeper : {s : List ℕ} {at lists : ℕ} {cells : List ℕ} {slot : Slot} → Ready s at lists cells slot
+    → {fewer : ℕ} → Opened s at lists fewer → Ready s (at + 1) fewer cells slot
 stands-deeper {s} {at} h o =
     let k = stands-inside (bytes "[") s at (o .opens) in
     record { place = omega arith; short = h .short; few = omega (arith, h .few, o .deeper); fits = h .fits }
@@ -32,7 +32,7 @@ stands-deeper {s} {at} h o =
 
 -- where a turn stands, with the slot of the next entry
 pub record Turn (s : List ℕ) (at lists : ℕ) (start : List ℕ) (slot : Slot) (i made own : ℕ) (cells : List ℕ) (next : Slot) : Type 0 where
-  pub stands : Stands s at lists start slot
+  pub stands : Ready s at lists start slot
   pub from : at ≤ i
   pub place : i ≤ length s
   pub few : made ≤ leftOf slot
@@ -62,7 +62,7 @@ module _ {s : List ℕ} {at lists : ℕ} {start : List ℕ} {slot : Slot} {i mad
       under-is : under ≡ slotUnder (slotAfter slot made)
       under-is = b ∙ ap slotUnder (h .next-is)
 
-      pub item-stands : Stands s i lists cells under
+      pub item-stands : Ready s i lists cells under
       item-stands =
           let n : under .next ≡ slot .next + made + 1 = ap (λ (x : Slot). x .next) under-is in
           let r : under .room ≡ slot .room = ap (λ (x : Slot). x .room) under-is in

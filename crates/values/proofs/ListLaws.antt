@@ -21,25 +21,25 @@ use Rattle.paper.proofs.Tests.{split, true-false}
 use Rattle.paper.proofs.ReadValues.{ReadValue, value-reads, value-of-leaf, value-of-deep, value-of-empty, value-of-list, whole-found, whole-fault}
 use Rattle.paper.proofs.ReadValues.{more-of-end, more-of-close, more-of-comma, more-of-other}
 use Rattle.text.proofs.Places.{here, place-back}
-use Rattle.values.specs.declared.read.Read.{Read}
-use Rattle.values.specs.Seen.{seenOf, Reading, listForm}
+use Rattle.values.specs.declared.judged.Judged.{Judged}
+use Rattle.values.specs.Shown.{shownOf, Judges, listForm}
 use Rattle.text.proofs.Answers.{FoundTo}
 use Rattle.text.proofs.Compared.{stands-inside}
 use Rattle.text.proofs.Stretch.{Stretch, behind-at}
-use Rattle.values.proofs.Seeing.{finds, no-value, cut-off, refuses, stands, fails, passes}
+use Rattle.values.proofs.Showing.{finds, no-value, cut-off, refuses, stands, fails, passes}
 use Rattle.values.proofs.ItemsFound.{withMore}
 
 -- what is made of something found looks like it, where the forms agree
-seen-map : {A B : Type 0} (form : A → ℕ) (formed : B → ℕ) (make : A → B) (s : List ℕ) (x : Found A) → ((a : A) → formed (make a) ≡ form a)
-    → seenOf formed s (andThen x (λ a left. found (make a) left)) ≡ seenOf form s x
-seen-map form formed make s (found a left) e = rw (e a)
-seen-map form formed make s (fault n left) e = refl
+shown-map : {A B : Type 0} (form : A → ℕ) (formed : B → ℕ) (make : A → B) (s : List ℕ) (x : Found A) → ((a : A) → formed (make a) ≡ form a)
+    → shownOf formed s (andThen x (λ a left. found (make a) left)) ≡ shownOf form s x
+shown-map form formed make s (found a left) e = rw (e a)
+shown-map form formed make s (fault n left) e = refl
 
 -- what is made of an item and of what stands behind it does not show, where all forms are those of lists
 made-alike : {A B : Type 0} (form : A → ℕ) (formed : B → ℕ) (f : Value → More → A) (g : Value → More → B) (s : List ℕ) (lists : ℕ) (x : Found Value)
-    → ((v : Value) (more : More) → (form (f v more) ≡ 12) × (formed (g v more) ≡ 12)) → seenOf form s (withMore lists f x) ≡ seenOf formed s (withMore lists g x)
+    → ((v : Value) (more : More) → (form (f v more) ≡ 12) × (formed (g v more) ≡ 12)) → shownOf form s (withMore lists f x) ≡ shownOf formed s (withMore lists g x)
 made-alike form formed f g s lists (found v left) e =
-    seen-map listForm form (f v) s (moreOf lists left) (λ more. e v more .0) ∙ sym (seen-map listForm formed (g v) s (moreOf lists left) (λ more. e v more .1))
+    shown-map listForm form (f v) s (moreOf lists left) (λ more. e v more .0) ∙ sym (shown-map listForm formed (g v) s (moreOf lists left) (λ more. e v more .1))
 made-alike form formed f g s lists (fault n left) e = refl
 
 -- ---- bytes at a place
@@ -62,19 +62,19 @@ pub record Opened (s : List ℕ) (at lists fewer : ℕ) : Type 0 where
 
 module _ (s : List ℕ) (at lists : ℕ) (also : List ℕ) where
   -- the value that stands there is read so
-  abbrev Valued : Read → Type 0
-  Valued r = Reading valueForm s at (valueOf lists also (drop at s)) r
+  abbrev Valued : Judged → Type 0
+  Valued r = Judges valueForm s at (valueOf lists also (drop at s)) r
 
   -- no list
-  pub leaf-value : (r : Read) → startsWith (bytes "[") (drop at s) ≡ false → Reading leafForm s at (leafOf also (drop at s)) r → Valued r
+  pub leaf-value : (r : Judged) → startsWith (bytes "[") (drop at s) ≡ false → Judges leafForm s at (leafOf also (drop at s)) r → Valued r
   leaf-value r e h =
-      let k = seen-map leafForm valueForm leaf s (leafOf also (drop at s)) (λ v. refl) in
-      record { same = h .same ∙ sym (ap (seenOf valueForm s) (value-of-leaf lists also (drop at s) e) ∙ k); ahead = h .ahead; inside = h .inside }
+      let k = shown-map leafForm valueForm leaf s (leafOf also (drop at s)) (λ v. refl) in
+      record { same = h .same ∙ sym (ap (shownOf valueForm s) (value-of-leaf lists also (drop at s) e) ∙ k); ahead = h .ahead; inside = h .inside }
 
-  pub deep-value : at ≤ length s → startsWith (bytes "[") (drop at s) ≡ true → lists ≡ 0 → Valued (Read.Refused TooDeep at)
+  pub deep-value : at ≤ length s → startsWith (bytes "[") (drop at s) ≡ true → lists ≡ 0 → Valued (Judged.Refused TooDeep at)
   deep-value h e z =
       let q : valueOf lists also (drop at s) ≡ fault 10 (drop at s) = rw (z, byte-at (byte "[") s at e) (value-of-deep also (drop (at + 1) s)) in
-      refuses valueForm s at (valueOf lists also (drop at s)) (Read.Refused TooDeep at) TooDeep at refl h (rw (q, place-back s at h))
+      refuses valueForm s at (valueOf lists also (drop at s)) (Judged.Refused TooDeep at) TooDeep at refl h (rw (q, place-back s at h))
 
   module _ (fewer : ℕ) (o : Opened s at lists fewer) where
     -- no item stands in it
@@ -83,7 +83,7 @@ module _ (s : List ℕ) (at lists : ℕ) (also : List ℕ) where
       empty-found =
           rw (o .deeper, byte-at (byte "[") s at (o .opens), byte-at (byte "]") s (at + 1) e) (value-of-empty fewer also (drop (at + 1 + 1) s))
 
-      pub empty-value : Valued (Read.Found 12 (at + 1 + 1))
+      pub empty-value : Valued (Judged.Found 12 (at + 1 + 1))
       empty-value =
           let l : at + 1 + 1 ≤ length s = omega (arith, stands-inside (bytes "]") s (at + 1) e) in
           finds valueForm s at (valueOf lists also (drop at s)) 12 (at + 1 + 1) emptyList (omega arith) l refl empty-found
@@ -96,11 +96,11 @@ module _ (s : List ℕ) (at lists : ℕ) (also : List ℕ) where
           ∙ ap (valueOf (suc fewer) also) (byte-at (byte "[") s at (o .opens))
           ∙ value-of-list fewer also (drop (at + 1) s) e
 
-      pub list-value : (r : Read) → Reading listForm s (at + 1) (itemAnd fewer list (drop (at + 1) s)) r → Valued r
+      pub list-value : (r : Judged) → Judges listForm s (at + 1) (itemAnd fewer list (drop (at + 1) s)) r → Valued r
       list-value r h =
           let k = made-alike valueForm listForm list list s fewer (valueOf fewer listEnders (drop (at + 1) s)) (λ v more. (refl, refl)) in
           record {
-            same = h .same ∙ sym (ap (seenOf valueForm s) list-found ∙ k);
+            same = h .same ∙ sym (ap (shownOf valueForm s) list-found ∙ k);
             ahead = λ form end p. omega (arith, h .ahead form end p);
             inside = h .inside;
           }
@@ -109,72 +109,72 @@ module _ (s : List ℕ) (at lists : ℕ) (also : List ℕ) where
 
 module _ (s : List ℕ) (i lists : ℕ) where
   -- the items of a list from the one that stands there on are read so
-  abbrev Itemed : Read → Type 0
-  Itemed r = Reading listForm s i (itemAnd lists list (drop i s)) r
+  abbrev Itemed : Judged → Type 0
+  Itemed r = Judges listForm s i (itemAnd lists list (drop i s)) r
 
-  module _ (r : Read) (h : Reading valueForm s i (valueOf lists listEnders (drop i s)) r) where
-    pub item-refused : (why : Refusal) (place : ℕ) → r ≡ Read.Refused why place → Itemed r
+  module _ (r : Judged) (h : Judges valueForm s i (valueOf lists listEnders (drop i s)) r) where
+    pub item-refused : (why : Refusal) (place : ℕ) → r ≡ Judged.Refused why place → Itemed r
     item-refused why place q = passes h listForm i (itemAnd lists list (drop i s)) why place q (λ left e. rw e)
 
-    module _ (form end : ℕ) (q : r ≡ Read.Found form end) where
+    module _ (form end : ℕ) (q : r ≡ Judged.Found form end) where
       stood : FoundTo (ReadValue lists listEnders (drop i s)) s i (valueOf lists listEnders (drop i s)) end
       stood = stands h (ReadValue lists listEnders (drop i s)) (value-reads (suc (length (drop i s))) lists listEnders (drop i s)) form end q
 
       behind-item : itemAnd lists list (drop i s) ≡ andThen (moreOf lists (drop end s)) (λ more left. found (list (stood .it) more) left)
       behind-item = rw (stood .finds)
 
-      pub item-cut : (r : Read) → r ≡ Read.Refused Refusal.Cut (length s) → length s ≤ end → Itemed r
+      pub item-cut : (r : Judged) → r ≡ Judged.Refused Refusal.Cut (length s) → length s ≤ end → Itemed r
       item-cut r p l = cut-off listForm s i (itemAnd lists list (drop i s)) r p (behind-item ∙ rw (drop-of-length-le s l, more-of-end lists))
 
-      pub item-last : startsWith (bytes "]") (drop end s) ≡ true → Itemed (Read.Found 12 (end + 1))
+      pub item-last : startsWith (bytes "]") (drop end s) ≡ true → Itemed (Judged.Found 12 (end + 1))
       item-last b =
           let l : end + 1 ≤ length s = omega (arith, stands-inside (bytes "]") s end b) in
           finds listForm s i (itemAnd lists list (drop i s)) 12 (end + 1) (list (stood .it) close) (omega (arith, h .ahead form end q)) l refl
           (behind-item ∙ rw (byte-at (byte "]") s end b, more-of-close lists (drop (end + 1) s)))
 
       pub item-wrong : end < length s → startsWith (bytes "]") (drop end s) ≡ false → startsWith (bytes ",") (drop end s) ≡ false
-          → (r : Read) → r ≡ Read.Refused Refusal.Value end → Itemed r
+          → (r : Judged) → r ≡ Judged.Refused Refusal.Value end → Itemed r
       item-wrong l b c r p =
           let k = more-of-other lists (getD s end 0) (drop (end + 1) s) (other-at (byte "]") s end l b) (other-at (byte ",") s end l c) in
           no-value listForm s i (itemAnd lists list (drop i s)) r end p (omega arith) (behind-item ∙ rw (here s end l, k))
 
       -- a comma, white space, and the next item
       pub item-next : startsWith (bytes ",") (drop end s) ≡ true → (next : ℕ) → Stretch isWhite s (end + 1) next
-          → seenOf listForm s (itemAnd lists list (drop i s)) ≡ seenOf listForm s (itemAnd lists list (drop next s))
+          → shownOf listForm s (itemAnd lists list (drop i s)) ≡ shownOf listForm s (itemAnd lists list (drop next s))
       item-next b next run =
           let w = front isWhite (drop (end + 1) s) in
           let m : moreOf lists (drop end s) ≡ itemAnd lists (comma w) (behind isWhite (drop (end + 1) s)) =
           rw (byte-at (byte ",") s end b) (more-of-comma lists (drop (end + 1) s)) in
-          ap (seenOf listForm s) behind-item
-          ∙ seen-map listForm listForm (list (stood .it)) s (moreOf lists (drop end s)) (λ more. refl)
-          ∙ ap (seenOf listForm s) (m ∙ ap (itemAnd lists (comma w)) (behind-at isWhite s (end + 1) next run))
+          ap (shownOf listForm s) behind-item
+          ∙ shown-map listForm listForm (list (stood .it)) s (moreOf lists (drop end s)) (λ more. refl)
+          ∙ ap (shownOf listForm s) (m ∙ ap (itemAnd lists (comma w)) (behind-at isWhite s (end + 1) next run))
           ∙ made-alike listForm listForm (comma w) list s lists (valueOf lists listEnders (drop next s)) (λ v more. (refl, refl))
 
 -- ---- a trait's whole value
 
 -- so many lists may be opened in one another
-pub counted : (s : List ℕ) (at n lists : ℕ) (r : Read) → n ≡ lists → Reading valueForm s at (valueOf n [] (drop at s)) r → Reading valueForm s at (valueOf lists [] (drop at s)) r
-counted s at n lists r e h = subst (λ (k : ℕ). Reading valueForm s at (valueOf k [] (drop at s)) r) e h
+pub counted : (s : List ℕ) (at n lists : ℕ) (r : Judged) → n ≡ lists → Judges valueForm s at (valueOf n [] (drop at s)) r → Judges valueForm s at (valueOf lists [] (drop at s)) r
+counted s at n lists r e h = subst (λ (k : ℕ). Judges valueForm s at (valueOf k [] (drop at s)) r) e h
 
-module _ (s : List ℕ) (at lists : ℕ) (r : Read) (h : Reading valueForm s at (valueOf lists [] (drop at s)) r) where
-  pub whole-kept : (form end : ℕ) → r ≡ Read.Found form end → Reading valueForm s at (wholeValue lists (drop at s)) r
+module _ (s : List ℕ) (at lists : ℕ) (r : Judged) (h : Judges valueForm s at (valueOf lists [] (drop at s)) r) where
+  pub whole-kept : (form end : ℕ) → r ≡ Judged.Found form end → Judges valueForm s at (wholeValue lists (drop at s)) r
   whole-kept form end q =
       let v = stands h (ReadValue lists [] (drop at s)) (value-reads (suc (length (drop at s))) lists [] (drop at s)) form end q in
       let k : wholeValue lists (drop at s) ≡ valueOf lists [] (drop at s) = whole-found lists (drop at s) (v .it) (drop end s) (v .finds) ∙ sym (v .finds) in
-      record { same = h .same ∙ sym (ap (seenOf valueForm s) k); ahead = h .ahead; inside = h .inside }
+      record { same = h .same ∙ sym (ap (shownOf valueForm s) k); ahead = h .ahead; inside = h .inside }
 
-  module _ (why : Refusal) (place : ℕ) (q : r ≡ Read.Refused why place) where
+  module _ (why : Refusal) (place : ℕ) (q : r ≡ Judged.Refused why place) where
     -- what is no 6 keeps its place
-    pub whole-other : (why ≡ Refusal.Value → ⊥) → Reading valueForm s at (wholeValue lists (drop at s)) (Read.Refused why place)
+    pub whole-other : (why ≡ Refusal.Value → ⊥) → Judges valueForm s at (wholeValue lists (drop at s)) (Judged.Refused why place)
     whole-other n =
         let z = ne-eqb (numberOf why) 6 (λ e. n (number-injective why Refusal.Value e)) in
-        subst (λ (a : Read). Reading valueForm s at (wholeValue lists (drop at s)) a) q
+        subst (λ (a : Judged). Judges valueForm s at (wholeValue lists (drop at s)) a) q
         (passes h valueForm at (wholeValue lists (drop at s)) why place q
         (λ left e. whole-fault lists (drop at s) (numberOf why) left e ∙ rw z))
 
     -- a 6 stands at the value's first byte
-    pub whole-wrong : at ≤ length s → why ≡ Refusal.Value → (a : Read) → a ≡ Read.Refused Refusal.Value at
-        → Reading valueForm s at (wholeValue lists (drop at s)) a
+    pub whole-wrong : at ≤ length s → why ≡ Refusal.Value → (a : Judged) → a ≡ Judged.Refused Refusal.Value at
+        → Judges valueForm s at (wholeValue lists (drop at s)) a
     whole-wrong l v a p =
         let z : numberOf why ≡ 6 = ap numberOf v in
         let f = fails h why place q in

@@ -5,10 +5,10 @@ use crate::brackets::closes;
 use crate::brackets::goes_on;
 use crate::brackets::opens;
 use crate::forms::LIST;
+use crate::judged::Judged;
 use crate::leaves::read_leaf;
 use crate::nesting::Deeper;
 use crate::nesting::Nesting;
-use crate::read::Read;
 use entries::ITEM;
 use entries::Slot;
 use entries::nameless;
@@ -16,14 +16,12 @@ use entries::put;
 use text::runs;
 use text::runs::Class;
 ghost use mathlib.Core.Path.{_≡_};
-ghost use Prim.Native.Nat.{_+_};
-ghost use lib.ListN.{drop};
 ghost use Rattle.paper.specs.Limits.{listLimit};
-ghost use Rattle.paper.specs.Values.{list, valueForm};
-ghost use Rattle.paper.specs.ReadingValues.{valueOf, itemAnd, wholeValue};
-ghost use Rattle.values.specs.Seen.{Reading};
+ghost use Rattle.paper.specs.Values.{valueForm};
+ghost use Rattle.paper.specs.ReadingValues.{wholeValue};
+ghost use Rattle.values.specs.Shown.{JudgesAt};
 ghost use Rattle.values.specs.Kinds.{endersOf};
-ghost use Rattle.values.specs.Entering.{withoutItems, Stands, leftOf, Ahead, Enters, EntersFrom};
+ghost use Rattle.values.specs.Entering.{withoutItems, Ready, EntersValue, EntersWhole, EntersItems};
 
 // A value whose items are entered: its form and end, how many entries its items took at any depth, and how many items are its own.
 // Or the place of the first item that has no entry left.
@@ -40,9 +38,9 @@ pub enum Entered {
 }
 
 // Enters the items of a trait's whole value, which was read as `value`. What is no list was judged by that reading, and has none.
-pub fn enter_whole(s: &[u8], at: usize, value: Read, cells: &mut [u32], slot: Slot) -> Entered
-    requires { ⌜ Stands (now s) at listLimit (now cells) slot × Reading valueForm (now s) at (wholeValue listLimit (drop at (now s))) value ⌝ }
-    ensures { λ r. ⌜ Ahead (now (s .entry)) at listLimit (leftOf slot) r × Enters (now (s .entry)) at (now (cells .entry)) slot (wholeValue listLimit (drop at (now (s .entry)))) r (now (cells .exit)) ⌝ }
+pub fn enter_whole(s: &[u8], at: usize, value: Judged, cells: &mut [u32], slot: Slot) -> Entered
+    requires { ⌜ Ready (now s) at listLimit (now cells) slot × JudgesAt valueForm (wholeValue listLimit) (now s) at value ⌝ }
+    ensures { λ r. ⌜ EntersWhole listLimit (now (s .entry)) at (now (cells .entry)) slot r (now (cells .exit)) ⌝ }
 {
     if opens(s, at) {
         return enter(
@@ -66,8 +64,8 @@ fn enter(
     cells: &mut [u32],
     slot: Slot,
 ) -> Entered
-    requires { ⌜ Stands (now s) at (nesting .left) (now cells) slot ⌝ }
-    ensures { λ r. ⌜ Ahead (now (s .entry)) at (nesting .left) (leftOf slot) r × Enters (now (s .entry)) at (now (cells .entry)) slot (valueOf (nesting .left) (endersOf around) (drop at (now (s .entry)))) r (now (cells .exit)) ⌝ }
+    requires { ⌜ Ready (now s) at (nesting .left) (now cells) slot ⌝ }
+    ensures { λ r. ⌜ EntersValue (nesting .left) (endersOf around) (now (s .entry)) at (now (cells .entry)) slot r (now (cells .exit)) ⌝ }
 {
     if !opens(s, at) {
         return without_items(read_leaf(s, at, around));
@@ -88,24 +86,24 @@ fn enter(
 }
 
 // A value that is no list has no items; what was refused is never entered.
-fn without_items(read: Read) -> Entered
+fn without_items(read: Judged) -> Entered
     ensures { λ r. ⌜ r ≡ withoutItems read ⌝ }
 {
     match read {
-        Read::Found { form, end } => Entered::Items {
+        Judged::Found { form, end } => Entered::Items {
             form,
             end,
             made: 0,
             own: 0,
         },
-        Read::Refused { place, .. } => Entered::Full { place },
+        Judged::Refused { place, .. } => Entered::Full { place },
     }
 }
 
 // Enters the items of a list, the first of which stands at `at`, each before the items inside it.
 fn enter_items(s: &[u8], at: usize, nesting: Nesting, cells: &mut [u32], slot: Slot) -> Entered
-    requires { ⌜ Stands (now s) at (nesting .left) (now cells) slot ⌝ }
-    ensures { λ r. ⌜ Ahead (now (s .entry)) at (nesting .left + 1) (leftOf slot) r × EntersFrom (now (s .entry)) at (now (cells .entry)) slot 0 0 (itemAnd (nesting .left) list (drop at (now (s .entry)))) r (now (cells .exit)) ⌝ }
+    requires { ⌜ Ready (now s) at (nesting .left) (now cells) slot ⌝ }
+    ensures { λ r. ⌜ EntersItems (nesting .left) (now (s .entry)) at (now (cells .entry)) slot r (now (cells .exit)) ⌝ }
 {
     let mut i = at;
     let mut made = 0;

@@ -5,30 +5,30 @@ use crate::brackets::closes;
 use crate::brackets::goes_on;
 use crate::brackets::opens;
 use crate::forms::LIST;
+use crate::judged::Judged;
+use crate::judged::cut;
+use crate::judged::no_value;
 use crate::leaves::read_leaf;
 use crate::nesting::Deeper;
 use crate::nesting::Nesting;
-use crate::read::Read;
-use crate::read::cut;
-use crate::read::no_value;
 use paper::Refusal;
 use text::runs;
 use text::runs::Class;
 ghost use Prim.Native.Nat.{_≤_};
-ghost use lib.ListN.{length, drop};
+ghost use lib.ListN.{length};
 ghost use Rattle.paper.specs.Limits.{listLimit};
 ghost use Rattle.paper.specs.Values.{valueForm, list};
 ghost use Rattle.paper.specs.ReadingValues.{valueOf, itemAnd, wholeValue};
-ghost use Rattle.values.specs.Seen.{Reading, listForm};
+ghost use Rattle.values.specs.Shown.{JudgesAt, listForm};
 ghost use Rattle.values.specs.Kinds.{endersOf};
 
 // Reads a trait's whole value. Where no kind fits, it is refused at its first byte.
-pub fn read_whole(s: &[u8], at: usize) -> Read
+pub fn read_whole(s: &[u8], at: usize) -> Judged
     requires { ⌜ at ≤ length (now s) ⌝ }
-    ensures { λ r. ⌜ Reading valueForm (now (s .entry)) at (wholeValue listLimit (drop at (now (s .entry)))) r ⌝ }
+    ensures { λ r. ⌜ JudgesAt valueForm (wholeValue listLimit) (now (s .entry)) at r ⌝ }
 {
     let read = read_value(s, at, Nesting::new(Nesting::LISTS), Around::Nothing);
-    let Read::Refused { refusal, .. } = read else {
+    let Judged::Refused { refusal, .. } = read else {
         return read;
     };
     match refusal {
@@ -38,22 +38,22 @@ pub fn read_whole(s: &[u8], at: usize) -> Read
 }
 
 // Reads the value that stands at `at`. The place of a refusal is that of the inner fault.
-fn read_value(s: &[u8], at: usize, nesting: Nesting, around: Around) -> Read
+fn read_value(s: &[u8], at: usize, nesting: Nesting, around: Around) -> Judged
     requires { ⌜ at ≤ length (now s) ⌝ }
-    ensures { λ r. ⌜ Reading valueForm (now (s .entry)) at (valueOf (nesting .left) (endersOf around) (drop at (now (s .entry)))) r ⌝ }
+    ensures { λ r. ⌜ JudgesAt valueForm (valueOf (nesting .left) (endersOf around)) (now (s .entry)) at r ⌝ }
 {
     if !opens(s, at) {
         return read_leaf(s, at, around);
     }
     let Deeper::Inside(fewer) = nesting.step() else {
-        return Read::Refused {
+        return Judged::Refused {
             refusal: Refusal::TooDeep,
             place: at,
         };
     };
     let first = at + 1;
     if closes(s, first) {
-        return Read::Found {
+        return Judged::Found {
             form: LIST,
             end: first + 1,
         };
@@ -62,21 +62,21 @@ fn read_value(s: &[u8], at: usize, nesting: Nesting, around: Around) -> Read
 }
 
 // Reads the items of a list, the first of which stands at `at`, up to its closing bracket.
-fn read_items(s: &[u8], at: usize, nesting: Nesting) -> Read
+fn read_items(s: &[u8], at: usize, nesting: Nesting) -> Judged
     requires { ⌜ at ≤ length (now s) ⌝ }
-    ensures { λ r. ⌜ Reading listForm (now (s .entry)) at (itemAnd (nesting .left) list (drop at (now (s .entry)))) r ⌝ }
+    ensures { λ r. ⌜ JudgesAt listForm (itemAnd (nesting .left) list) (now (s .entry)) at r ⌝ }
 {
     let mut i = at;
     loop {
         let item = read_value(s, i, nesting, Around::List);
-        let Read::Found { end, .. } = item else {
+        let Judged::Found { end, .. } = item else {
             return item;
         };
         if s.len() <= end {
             return cut(s);
         }
         if closes(s, end) {
-            return Read::Found {
+            return Judged::Found {
                 form: LIST,
                 end: end + 1,
             };

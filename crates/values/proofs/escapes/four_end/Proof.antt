@@ -4,7 +4,7 @@ use Prim.Native.Nat.{_+_, _-_}
 use mathlib.Core.Path.{refl, sym, _∙_}
 use native.Mathlib.Omega.{arith}
 use borrow.Author.Tests.{not-true, not-false}
-use Rattle.values.proofs.Seeing.{finds, no-value, cut-off}
+use Rattle.values.proofs.Showing.{finds, no-value, cut-off}
 use Rattle.values.proofs.Escaping.{few-digits, four-ends, four-other, four-bad, four-good}
 use Rattle.values.proofs.escapes.four_end.Statement.{statement}
 use Rattle.values.proofs.escapes.four_end.Tie as tie

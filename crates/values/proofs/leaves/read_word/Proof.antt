@@ -2,7 +2,7 @@
 use borrow.Author.Needs.{needs}
 use mathlib.Core.Path.{refl}
 use native.Mathlib.Omega.{arith}
-use Rattle.values.proofs.Seeing.{finds, no-value, cut-off}
+use Rattle.values.proofs.Showing.{finds, no-value, cut-off}
 use Rattle.values.proofs.LeafReads.{word-ends, word-bad, word-good, word-ahead}
 use Rattle.values.proofs.leaves.read_word.Statement.{statement}
 use Rattle.values.proofs.leaves.read_word.Tie as tie

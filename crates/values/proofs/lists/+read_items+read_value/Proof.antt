@@ -1,4 +1,4 @@
--- A law for each way out. The loop goes on as what is seen from the next item on is seen from the first; one list deeper, fewer may be opened.
+-- A law for each way out. The loop goes on as what is shown from the next item on is shown from the first; one list deeper, fewer may be opened.
 use borrow.Author.Needs.{needs}
 use Prim.Native.Nat.{ℕ, _+_, _-_, _*_, _<_, _≤_}
 use mathlib.Core.Path.{_≡_, refl, sym, _∙_}
@@ -8,9 +8,9 @@ use borrow.Author.Tests.{not-true, not-false}
 use Rattle.paper.specs.Bytes.{bytes}
 use Rattle.paper.specs.Values.{list}
 use Rattle.paper.specs.ReadingValues.{itemAnd}
-use Rattle.values.specs.Seen.{seenOf, listForm}
+use Rattle.values.specs.Shown.{shownOf, listForm}
 use Rattle.values.proofs.Deepening.{one-less, no-less, fewer-falls}
-use Rattle.values.proofs.Seeing.{moved}
+use Rattle.values.proofs.Showing.{moved}
 use Rattle.text.proofs.Compared.{stands-inside}
 use Rattle.values.proofs.ListLaws.{Opened, leaf-value, deep-value, empty-value, list-value, item-refused, item-cut, item-last, item-wrong, item-next}
 use borrow.Fn.Kinds.{In}
@@ -27,8 +27,8 @@ use Rattle.values.proofs.brackets.goes_on.Reads as goes-on-reads
 use Rattle.values.proofs.brackets.opens.Reads as opens-reads
 use Rattle.values.proofs.leaves.read_leaf.Reads as read-leaf-reads
 use Rattle.values.proofs.nesting.Nesting.step.Reads as step-reads
-use Rattle.values.proofs.read.cut.Reads as cut-reads
-use Rattle.values.proofs.read.no_value.Reads as no-value-reads
+use Rattle.values.proofs.judged.cut.Reads as cut-reads
+use Rattle.values.proofs.judged.no_value.Reads as no-value-reads
 use Rattle.values.proofs.lists.+read_items+read_value.{statement}
 use Rattle.values.proofs.lists.+read_items+read_value.Tie.{close}
 
@@ -56,7 +56,7 @@ read-value-below t =
 
 abbrev read-items-Inv-loop : read-items-lts.InvT-loop
 read-items-Inv-loop s at nesting i₀ i =
-    (at ≤ i) × (i ≤ length s) × (seenOf listForm s (itemAnd (nesting .left) list (drop i s)) ≡ seenOf listForm s (itemAnd (nesting .left) list (drop at s)))
+    (at ≤ i) × (i ≤ length s) × (shownOf listForm s (itemAnd (nesting .left) list (drop i s)) ≡ shownOf listForm s (itemAnd (nesting .left) list (drop at s)))
 
 abbrev read-items-μ-loop : read-items-lts.MeasureT-loop
 read-items-μ-loop s at nesting i₀ i = length s - i

@@ -5,15 +5,15 @@ use mathlib.Core.Path.{refl, sym, _∙_}
 use native.Mathlib.Omega.{arith}
 use lib.ListN.{length, drop}
 use Rattle.paper.specs.Values.{leafForm}
-use Rattle.values.specs.declared.read.Read.{Read}
-use Rattle.values.specs.Seen.{Reading, backtickOf}
-use Rattle.values.proofs.Seeing.{finds, cut-off}
+use Rattle.values.specs.declared.judged.Judged.{Judged}
+use Rattle.values.specs.Shown.{Judges, backtickOf}
+use Rattle.values.proofs.Showing.{finds, cut-off}
 use Rattle.values.proofs.Quotes.{backtick-ends, backtick-closes, backtick-escaped, backtick-itself}
 use Rattle.values.proofs.quoted.backtick_end.Statement.{statement}
 use Rattle.values.proofs.quoted.backtick_end.Tie as tie
 
 abbrev Inv-loop : tie.InvT-loop
-Inv-loop s at i₀ t4 i = (at ≤ i) × ((r : Read) → Reading leafForm s i (backtickOf (drop i s)) r → Reading leafForm s at (backtickOf (drop at s)) r)
+Inv-loop s at i₀ t4 i = (at ≤ i) × ((r : Judged) → Judges leafForm s i (backtickOf (drop i s)) r → Judges leafForm s at (backtickOf (drop at s)) r)
 
 abbrev μ-loop : tie.MeasureT-loop
 μ-loop s at i₀ t4 i = length s - i

@@ -4,7 +4,7 @@ use mathlib.Core.Path.{sym, _∙_}
 use mathlib.Core.Logic.{⊎-elim}
 use native.Mathlib.Omega.{arith}
 use Rattle.text.proofs.Steps.{stepped}
-use Rattle.values.proofs.Seeing.{no-value, cut-off}
+use Rattle.values.proofs.Showing.{no-value, cut-off}
 use Rattle.values.proofs.Quotes.{character-ends, character-none, character-refused, character-escaped, character-direct, character-unread}
 use Rattle.values.proofs.quoted.character_end.Statement.{statement}
 use Rattle.values.proofs.quoted.character_end.Tie as tie

@@ -5,15 +5,15 @@ use mathlib.Core.Path.{refl}
 use native.Mathlib.Omega.{arith}
 use lib.ListN.{length, drop}
 use Rattle.paper.specs.Values.{leafForm}
-use Rattle.values.specs.declared.read.Read.{Read}
-use Rattle.values.specs.Seen.{Reading, stringOf}
-use Rattle.values.proofs.Seeing.{finds, no-value, cut-off}
+use Rattle.values.specs.declared.judged.Judged.{Judged}
+use Rattle.values.specs.Shown.{Judges, stringOf}
+use Rattle.values.proofs.Showing.{finds, no-value, cut-off}
 use Rattle.values.proofs.Quotes.{string-ends, string-closes, string-breaks, string-itself, string-refused, string-escaped}
 use Rattle.values.proofs.quoted.string_end.Statement.{statement}
 use Rattle.values.proofs.quoted.string_end.Tie as tie
 
 abbrev Inv-loop : tie.InvT-loop
-Inv-loop s at i₀ i = (at ≤ i) × ((r : Read) → Reading leafForm s i (stringOf (drop i s)) r → Reading leafForm s at (stringOf (drop at s)) r)
+Inv-loop s at i₀ i = (at ≤ i) × ((r : Judged) → Judges leafForm s i (stringOf (drop i s)) r → Judges leafForm s at (stringOf (drop at s)) r)
 
 abbrev μ-loop : tie.MeasureT-loop
 μ-loop s at i₀ i = length s - i
