@@ -54,7 +54,8 @@ moved-append : (by bound : ℕ) {es fs gs hs : List Entry} → Moved by bound es
 moved-append by bound none m = m
 moved-append by bound (one e f s l k) m = one e f s l (moved-append by bound k m)
 
-moved-first : (by bound : ℕ) {es fs : List Entry} (n : ℕ) → Moved by bound es fs → n < length es → (firstOver n es ≡ by + firstOver n fs) × (firstOver n es ≤ bound)
+moved-first : (by bound : ℕ) {es fs : List Entry} (n : ℕ) → Moved by bound es fs → n < length es → (firstOver n es ≡ by + firstOver n fs)
+    × (firstOver n es ≤ bound)
 moved-first by bound n none h = absurd (omega arith)
 moved-first by bound zero (one e f s l m) h = (s, l)
 moved-first by bound (suc n) (one e f s l m) h = moved-first by bound n m (omega arith)
@@ -62,23 +63,28 @@ moved-first by bound (suc n) (one e f s l m) h = moved-first by bound n m (omega
 mutual
   unfolding itemEntries valueOnto
 
-  item-moved : (v : Value) (by bound parent next at owner other from : ℕ) → at ≡ by + from → at + valueWidth v ≤ bound → Moved by bound (itemEntries parent next at v) (itemEntries owner other from v)
+  item-moved : (v : Value) (by bound parent next at owner other from : ℕ) → at ≡ by + from → at + valueWidth v ≤ bound
+      → Moved by bound (itemEntries parent next at v) (itemEntries owner other from v)
   item-moved (leaf v) by bound parent next at owner other from e h = none
   item-moved emptyList by bound parent next at owner other from e h = none
   item-moved (list v more) by bound parent next at owner other from e h =
       let n = value-length v (moreOnto more []) in
       one (itemEntry parent (at + 1) v) (itemEntry owner (from + 1) v) (omega arith) (omega arith)
       (moved-append by bound (item-moved v by bound next (next + 1) (at + 1) other (other + 1) (from + 1) (omega arith) (omega arith))
-      (more-moved more by bound parent (next + 1 + itemSize v) (at + 1 + valueWidth v) owner (other + 1 + itemSize v) (from + 1 + valueWidth v) (omega arith) (omega arith)))
+      (more-moved more by bound parent (next + 1 + itemSize v) (at + 1 + valueWidth v) owner (other + 1 + itemSize v) (from + 1 + valueWidth v) (omega arith)
+      (omega arith)))
 
-  more-moved : (more : More) (by bound parent next at owner other from : ℕ) → at ≡ by + from → at + length (moreOnto more []) ≤ bound → Moved by bound (moreEntries parent next at more) (moreEntries owner other from more)
+  more-moved : (more : More) (by bound parent next at owner other from : ℕ) → at ≡ by + from → at + length (moreOnto more []) ≤ bound
+      → Moved by bound (moreEntries parent next at more) (moreEntries owner other from more)
   more-moved close by bound parent next at owner other from e h = none
   more-moved (comma white v more) by bound parent next at owner other from e h =
       let n = value-length v (moreOnto more []) in
       let m = length-append white (valueOnto v (moreOnto more [])) in
       one (itemEntry parent (at + 1 + length white) v) (itemEntry owner (from + 1 + length white) v) (omega arith) (omega arith)
-      (moved-append by bound (item-moved v by bound next (next + 1) (at + 1 + length white) other (other + 1) (from + 1 + length white) (omega arith) (omega arith))
-      (more-moved more by bound parent (next + 1 + itemSize v) (at + 1 + length white + valueWidth v) owner (other + 1 + itemSize v) (from + 1 + length white + valueWidth v) (omega arith) (omega arith)))
+      (moved-append by bound (item-moved v by bound next (next + 1) (at + 1 + length white) other (other + 1) (from + 1 + length white) (omega arith)
+      (omega arith))
+      (more-moved more by bound parent (next + 1 + itemSize v) (at + 1 + length white + valueWidth v) owner (other + 1 + itemSize v)
+      (from + 1 + length white + valueWidth v) (omega arith) (omega arith)))
 
 -- ---- a whole value that stands at a place
 
@@ -121,7 +127,8 @@ module _ (room : ℕ) (named valued : List ℕ) (t : Trait) (left : List ℕ) wh
   no-room z = rw (lt-leb (traitSize t) room (omega arith), enters, z)
 
   -- one is left for the trait, but not for all items
-  few-room : (items : ℕ) → room ≡ suc items → items < itemSize (t .value) → enters room named valued t left ≡ fault 11 (drop (firstOver items (itemEntries 0 0 0 (t .value))) valued)
+  few-room : (items : ℕ) → room ≡ suc items → items < itemSize (t .value)
+      → enters room named valued t left ≡ fault 11 (drop (firstOver items (itemEntries 0 0 0 (t .value))) valued)
   unfolding enters
   few-room items e h = rw (lt-leb (traitSize t) room (omega arith), enters, e)
 
@@ -151,7 +158,8 @@ module _ {s : List ℕ} {at : ℕ} (place : In s at) {cells : List ℕ} {slot : 
 
 -- ---- a trait whose name stands between two places
 
-module _ {s : List ℕ} {from to : ℕ} (place : In s (to + 1)) (between : from ≤ to) {cells : List ℕ} {slot : Slot} (fits : Fits cells slot) (white w : List ℕ) where
+module _ {s : List ℕ} {from to : ℕ} (place : In s (to + 1)) (between : from ≤ to) {cells : List ℕ} {slot : Slot} (fits : Fits cells slot)
+    (white w : List ℕ) where
   abbrev Made : Part → List ℕ → Type 0
   Made r after = MakesTrait s from cells slot (valueIn (leftOf slot) (drop from s) white w (drop (to + 1) s)) r after
 
@@ -159,8 +167,10 @@ module _ {s : List ℕ} {from to : ℕ} (place : In s (to + 1)) (between : from 
   abbrev of-value : Found Value → Found Trait
   of-value x = andThen x (λ v left. enters (leftOf slot) (drop from s) (drop (to + 1) s) (record { white = white; name = w; value = v }) left)
 
-  pub trait-refused : {value : Judged} → Judges valueForm s (to + 1) (wholeValue listLimit (drop (to + 1) s)) value → {why : Refusal} {at : ℕ} → value ≡ Judged.Refused why at → {r : Part} → r ≡ Refused why at → Made r cells
-  trait-refused h {why} {at} q {r} e = makes-passed _ _ _ _ _ _ _ r cells (λ v. 0) (λ v. 0) of-value (λ k left. refl) (wholeValue listLimit (drop (to + 1) s)) why at (ap seen e ∙ value-passed h q) e refl
+  pub trait-refused : {value : Judged} → Judges valueForm s (to + 1) (wholeValue listLimit (drop (to + 1) s)) value → {why : Refusal} {at : ℕ}
+      → value ≡ Judged.Refused why at → {r : Part} → r ≡ Refused why at → Made r cells
+  trait-refused h {why} {at} q {r} e = makes-passed _ _ _ _ _ _ _ r cells (λ v. 0) (λ v. 0) of-value (λ k left. refl)
+      (wholeValue listLimit (drop (to + 1) s)) why at (ap seen e ∙ value-passed h q) e refl
 
   module _ (value : ValueAt s (to + 1)) {o : Bool} (asked : o ≡ leb (slot .room) (slot .next)) where
     abbrev it : Trait
@@ -170,9 +180,11 @@ module _ {s : List ℕ} {from to : ℕ} (place : In s (to + 1)) (between : from 
     by-value = ap of-value (value .whole)
 
     pub trait-full : o ≡ true → {r : Part} → r ≡ Refused NoEntryLeft from → Made r cells
-    trait-full t {r} q = makes-refused _ _ _ _ _ _ _ r cells NoEntryLeft from q (omega (arith, place .inside)) (by-value ∙ no-room _ _ _ it _ (omega (arith, leb-true (slot .room) (slot .next) (sym asked ∙ t))))
+    trait-full t {r} q = makes-refused _ _ _ _ _ _ _ r cells NoEntryLeft from q (omega (arith, place .inside))
+        (by-value ∙ no-room _ _ _ it _ (omega (arith, leb-true (slot .room) (slot .next) (sym asked ∙ t))))
 
-    module _ (f : o ≡ false) {under : Slot} (u : under ≡ slotUnder slot) {items : Entered} {mid : List ℕ} (h : Enters s (to + 1) cells under (wholeValue listLimit (drop (to + 1) s)) items mid) where
+    module _ (f : o ≡ false) {under : Slot} (u : under ≡ slotUnder slot) {items : Entered} {mid : List ℕ}
+        (h : Enters s (to + 1) cells under (wholeValue listLimit (drop (to + 1) s)) items mid) where
       one-left : leftOf slot ≡ suc (leftOf (slotUnder slot))
       one-left = omega (arith, leb-false (slot .room) (slot .next) (sym asked ∙ f))
 
@@ -186,23 +198,28 @@ module _ {s : List ℕ} {from to : ℕ} (place : In s (to + 1)) (between : from 
           (λ k. let g = entered .fits (value .it) _ (value .whole) k .0 in
           let z : _≡_ {A = ℕ} 0 1 = cc in
           absurd (omega arith))
-          (λ k. let g : Full at ≡ Full (firstOver (leftOf (slotUnder slot)) (itemEntries (slot .next) (slot .next + 1) (to + 1) (value .it))) = sym q ∙ entered .full (value .it) _ (value .whole) k in
+          (λ k. let g : Full at ≡ Full (firstOver (leftOf (slotUnder slot)) (itemEntries (slot .next) (slot .next + 1) (to + 1) (value .it))) = sym q
+          ∙ entered .full (value .it) _ (value .whole) k in
           let p : at ≡ firstOver (leftOf (slotUnder slot)) (itemEntries (slot .next) (slot .next + 1) (to + 1) (value .it)) = cc in
-          let m = moved-first (to + 1) (length s) (leftOf (slotUnder slot)) (item-moved (value .it) (to + 1) (length s) (slot .next) (slot .next + 1) (to + 1) 0 0 0 (omega arith) (omega (arith, value .wide, value .inside))) (omega (arith, item-size (value .it) (slot .next) (slot .next + 1) (to + 1))) in
+          let m = moved-first (to + 1) (length s) (leftOf (slotUnder slot))
+          (item-moved (value .it) (to + 1) (length s) (slot .next) (slot .next + 1) (to + 1) 0 0 0 (omega arith)
+          (omega (arith, value .wide, value .inside))) (omega (arith, item-size (value .it) (slot .next) (slot .next + 1) (to + 1))) in
           makes-refused _ _ _ _ _ _ _ r after NoEntryLeft at e (omega (arith, m .1))
           (by-value ∙ few-room _ _ _ it _ (leftOf (slotUnder slot)) one-left k
           ∙ ap (fault 11) (drop-drop _ (to + 1) s ∙ ap (λ (n : ℕ). drop n s) (sym (p ∙ m .0)))))
 
       -- the trait's own entry is put before those of its items
       abbrev own-entry : ℕ → ℕ → ℕ → Entry
-      own-entry form count end = record { kind = 2; form = form; parent = slot .parent; count = count; nameStart = from; nameEnd = to; start = to + 1; end = end }
+      own-entry form count end =
+          record { kind = 2; form = form; parent = slot .parent; count = count; nameStart = from; nameEnd = to; start = to + 1; end = end }
 
       pub trait-made : length w ≡ to - from → {form end inside count : ℕ} → items ≡ Items form end inside count
           → {after : List ℕ} → after ≡ lay mid (slot .next) (own-entry form count end ∷ []) → {r : Part} → r ≡ Read end (1 + inside) 1 → Made r after
       trait-made n {form} {end} {inside} {count} q {after} p {r} z =
           upTo (itemSize (value .it)) (leftOf (slotUnder slot))
           (λ fit. let g = entered .fits (value .it) _ (value .whole) fit in
-          let a : Items form end inside count ≡ Items (valueForm (value .it)) (placeIn s (drop (value .end) s)) (itemSize (value .it)) (itemsOf (value .it)) = sym q ∙ g .0 in
+          let a : Items form end inside count ≡ Items (valueForm (value .it)) (placeIn s (drop (value .end) s)) (itemSize (value .it)) (itemsOf (value .it)) =
+          sym q ∙ g .0 in
           let formed : form ≡ valueForm (value .it) = cc in
           let ends : end ≡ placeIn s (drop (value .end) s) = cc in
           let size : inside ≡ itemSize (value .it) = cc in
@@ -242,17 +259,20 @@ module _ {s : List ℕ} {at : ℕ} (place : In s at) {cells : List ℕ} {slot : 
     Traited r after = MakesTrait s at cells slot (trait (boundsOf m) (leftOf slot) white (drop at s)) r after
 
     pub no-name : (r : Part) → seen r ≡ passed s (name isTraitName (drop at s)) → {why : Refusal} {place : ℕ} → r ≡ Refused why place → Traited r cells
-    no-name r e {why} {place} q = makes-passed _ _ _ _ _ _ _ r cells (λ w. 0) (λ w. 0) of-name (λ k left. refl) (name isTraitName (drop at s)) why place e q by-name
+    no-name r e {why} {place} q = makes-passed _ _ _ _ _ _ _ r cells (λ w. 0) (λ w. 0) of-name (λ k left. refl)
+        (name isTraitName (drop at s)) why place e q by-name
 
     module _ {to : ℕ} (named : NameAt isTraitName s at to) where
       by-equals : trait (boundsOf m) (leftOf slot) white (drop at s) ≡ of-equals (named .it) (due (byte "=") (drop to s))
       by-equals = by-name ∙ ap of-name (named .finds)
 
       pub no-equals : (r : Part) → seen r ≡ passed s (due (byte "=") (drop to s)) → {why : Refusal} {place : ℕ} → r ≡ Refused why place → Traited r cells
-      no-equals r e {why} {place} q = makes-passed _ _ _ _ _ _ _ r cells (λ b. 0) (λ b. 0) (of-equals (named .it)) (λ k left. refl) (due (byte "=") (drop to s)) why place e q by-equals
+      no-equals r e {why} {place} q = makes-passed _ _ _ _ _ _ _ r cells (λ b. 0) (λ b. 0) (of-equals (named .it)) (λ k left. refl)
+          (due (byte "=") (drop to s)) why place e q by-equals
 
       pub trait-entered : {end : ℕ} → DueAt (byte "=") s to end → {r : Part} {after : List ℕ} → MakesValued s at to cells slot r after → Traited r after
       trait-entered equals k =
           let by-value : trait (boundsOf m) (leftOf slot) white (drop at s) ≡ valueIn (leftOf slot) (drop at s) white (named .it) (drop (to + 1) s) =
-          by-equals ∙ ap (of-equals (named .it)) (equals .finds) ∙ ap (λ (n : ℕ). valueIn (leftOf slot) (drop at s) white (named .it) (drop n s)) (equals .next) in
+          by-equals ∙ ap (of-equals (named .it)) (equals .finds) ∙ ap (λ (n : ℕ). valueIn (leftOf slot) (drop at s) white (named .it) (drop n s))
+          (equals .next) in
           rw by-value (k white (named .it) (named .long))

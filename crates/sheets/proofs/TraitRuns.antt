@@ -44,10 +44,12 @@ own-with own ts = own + length ts
 
 abbrev Rest : Modes → List ℕ → Slot → List ℕ → ℕ → ℕ → ℕ → Part → List ℕ → Type 0
 Rest m s slot cells i made own r after =
-    Makes (made-with made) (own-with own) (traitEntries (slot .parent) (slot .next + made) i) s cells (slot .next + made) (traitsOf m (slot .room - (slot .next + made)) (drop i s)) r after
+    Makes (made-with made) (own-with own) (traitEntries (slot .parent) (slot .next + made) i) s cells (slot .next + made)
+    (traitsOf m (slot .room - (slot .next + made)) (drop i s)) r after
 
 abbrev All : Modes → List ℕ → ℕ → List ℕ → Slot → Part → List ℕ → Type 0
-All m s at cells slot r after = Makes traitsSize length (traitEntries (slot .parent) (slot .next) at) s cells (slot .next) (traitsOf m (slot .room - slot .next) (drop at s)) r after
+All m s at cells slot r after = Makes traitsSize length (traitEntries (slot .parent) (slot .next) at) s cells (slot .next)
+    (traitsOf m (slot .room - slot .next) (drop at s)) r after
 
 -- what the turns so far leave
 pub record Traits (s : List ℕ) (at : ℕ) (lent : List ℕ) (slot : Slot) (cells : List ℕ) (i made own : ℕ) : Type 0 where
@@ -64,7 +66,8 @@ traits-begin s at cells slot h f = record {
   some = omega arith;
   held = refl;
   onward = λ m r after k.
-      makes-same (made-with 0) (own-with 0) traitsSize length (traitEntries (slot .parent) (slot .next) at) s cells (slot .next) (traitsOf m (slot .room - slot .next) (drop at s)) r after
+      makes-same (made-with 0) (own-with 0) traitsSize length (traitEntries (slot .parent) (slot .next) at) s cells (slot .next)
+      (traitsOf m (slot .room - slot .next) (drop at s)) r after
       (λ ts. zero-add (traitsSize ts)) (λ ts. zero-add (length ts)) (rw (add-zero (slot .next)) at k);
 }
 
@@ -100,18 +103,21 @@ module _ {s : List ℕ} {at : ℕ} {lent : List ℕ} {slot : Slot} {cells : List
   white = front isWhite (drop i s)
 
   -- a fault that the turn meets is that of the whole run
-  stopped : (m : Modes) (x : Found Trait) → traitTurn (boundsOf m) left (drop i s) ≡ turnOf x → (r : Part) (why : Refusal) (place : ℕ) (after : List ℕ) → r ≡ Refused why place
+  stopped : (m : Modes) (x : Found Trait) → traitTurn (boundsOf m) left (drop i s) ≡ turnOf x → (r : Part) (why : Refusal) (place : ℕ) (after : List ℕ)
+      → r ≡ Refused why place
       → (many mine : Trait → ℕ) → seen r ≡ seenOf many mine s x → All m s at lent slot r after
   stopped m x t r why place after q many mine e =
       so-far .onward m r after
-      (makes-stop traitSize (traitTurn (boundsOf m)) (trait-shorter (boundsOf m)) left (drop i s) many mine turnOf (λ k rest. refl) (made-with made) (own-with own) (traitEntries (slot .parent) (slot .next + made) i) s cells (slot .next + made) x r after
+      (makes-stop traitSize (traitTurn (boundsOf m)) (trait-shorter (boundsOf m)) left (drop i s) many mine turnOf (λ k rest. refl) (made-with made)
+      (own-with own) (traitEntries (slot .parent) (slot .next + made) i) s cells (slot .next + made) x r after
       why place e q t)
 
   module _ {mark : ℕ} (run : Stretch isWhite s i mark) where
     pub traits-cut : mark ≡ length s → (m : Modes) {r : Part} → r ≡ Refused Cut (length s) → All m s at lent slot r cells
     unfolding traitTurn traitDue
     traits-cut h m {r} q =
-        stopped m (fault 9 []) (rw (behind-none isWhite s i mark run (omega arith))) r Cut (length s) cells q (λ t. 0) (λ t. 0) (says-cut {A = Trait} (λ t. 0) (λ t. 0) s (fault 9 []) r q refl)
+        stopped m (fault 9 []) (rw (behind-none isWhite s i mark run (omega arith))) r Cut (length s) cells q (λ t. 0) (λ t. 0)
+        (says-cut {A = Trait} (λ t. 0) (λ t. 0) s (fault 9 []) r q refl)
 
     module _ (h : mark < length s) where
       by-mark : (m : Modes) → traitTurn (boundsOf m) left (drop i s) ≡ traitDue (boundsOf m) left (drop i s) white (getD s mark 0 ∷ drop (mark + 1) s)
@@ -125,24 +131,29 @@ module _ {s : List ℕ} {at : ℕ} {lent : List ℕ} {slot : Slot} {cells : List
       unfolding traitEntries traitsSize
       traits-over e m {r} q =
           so-far .onward m r cells
-          (makes-over traitSize (traitTurn (boundsOf m)) (trait-shorter (boundsOf m)) left (drop i s) (made-with made) (own-with own) (traitEntries (slot .parent) (slot .next + made) i) s cells (slot .next + made) r i made own
-          (by-mark m ∙ ends-marker (boundsOf m) left (drop i s) white (getD s mark 0) (drop (mark + 1) s) e) q (so-far .inside) (sym (add-zero made)) (sym (add-zero own)) refl)
+          (makes-over traitSize (traitTurn (boundsOf m)) (trait-shorter (boundsOf m)) left (drop i s) (made-with made) (own-with own)
+          (traitEntries (slot .parent) (slot .next + made) i) s cells (slot .next + made) r i made own
+          (by-mark m ∙ ends-marker (boundsOf m) left (drop i s) white (getD s mark 0) (drop (mark + 1) s) e) q (so-far .inside) (sym (add-zero made))
+          (sym (add-zero own)) refl)
 
       module _ (e : elem (getD s mark 0) (bytes ">/") ≡ false) where
         pub traits-due : mark ≡ i → (m : Modes) {r : Part} → r ≡ Refused Due mark → All m s at lent slot r cells
         traits-due n m {r} q =
             let none : leb 1 (length white) ≡ false = lt-leb 1 (length white) (omega (arith, white-long)) in
             let turn = by-mark m ∙ no-white (boundsOf m) left (drop i s) white (getD s mark 0) (drop (mark + 1) s) e none ∙ ap (stop 7) (sym (here s mark h)) in
-            stopped m (fault 7 (drop mark s)) turn r Due mark cells q (λ t. 0) (λ t. 0) (says-refused {A = Trait} (λ t. 0) (λ t. 0) s (fault 7 (drop mark s)) r Due mark q (run .2) refl)
+            stopped m (fault 7 (drop mark s)) turn r Due mark cells q (λ t. 0) (λ t. 0)
+            (says-refused {A = Trait} (λ t. 0) (λ t. 0) s (fault 7 (drop mark s)) r Due mark q (run .2) refl)
 
         a-trait : i < mark → (m : Modes) → traitTurn (boundsOf m) left (drop i s) ≡ turnOf (trait (boundsOf m) left white (drop mark s))
         a-trait w m =
             let some : leb 1 (length white) ≡ true = le-leb 1 (length white) (omega (arith, white-long)) in
-            by-mark m ∙ some-white (boundsOf m) left (drop i s) white (getD s mark 0) (drop (mark + 1) s) e some ∙ ap (λ (l : List ℕ). turnOf (trait (boundsOf m) left white l)) (sym (here s mark h))
+            by-mark m ∙ some-white (boundsOf m) left (drop i s) white (getD s mark 0) (drop (mark + 1) s) e some
+            ∙ ap (λ (l : List ℕ). turnOf (trait (boundsOf m) left white l)) (sym (here s mark h))
 
     -- one more
     module _ (due : Begins s i mark) {next : Slot} (lends : next ≡ slotAfter slot made) {r : Part} {after : List ℕ}
-        (one : (m : Modes) (w : List ℕ) → Makes traitSize (λ t. 1) (oneTrait (next .parent) (next .next) mark) s cells (next .next) (trait (boundsOf m) (next .room - next .next) w (drop mark s)) r after) where
+        (one : (m : Modes) (w : List ℕ) → Makes traitSize (λ t. 1) (oneTrait (next .parent) (next .next) mark) s cells (next .next)
+        (trait (boundsOf m) (next .room - next .next) w (drop mark s)) r after) where
       abbrev number : ℕ
       number = slot .next + made
 
@@ -163,7 +174,8 @@ module _ {s : List ℕ} {at : ℕ} {lent : List ℕ} {slot : Slot} {cells : List
         it m = found-at traitSize (λ t. 1) s r _ mark (reading m) end more mine (entered m .says) (trait-reads (boundsOf m) left white (drop mark s)) (run .2) q
 
         -- what holds under any modes
-        abbrev any : FoundAt traitSize (λ t. 1) (λ t rest. ReadTrait (boundsOf (record { children = []; content = [] })) left white (drop mark s) t rest) s mark (reading (record { children = []; content = [] })) end more mine
+        abbrev any : FoundAt traitSize (λ t. 1) (λ t rest. ReadTrait (boundsOf (record { children = []; content = [] })) left white
+            (drop mark s) t rest) s mark (reading (record { children = []; content = [] })) end more mine
         any = it (record { children = []; content = [] })
 
         pub trait-ahead : (i < end) × (end ≤ length s) × (number + more ≤ slot .room)
@@ -185,9 +197,21 @@ module _ {s : List ℕ} {at : ℕ} {lent : List ℕ} {slot : Slot} {cells : List
           ends : i + length (traitOnto one-more []) ≡ end
           ends =
               let v = one-more .value in
-              omega (arith, starts, trait-long one-more [], ap length (it m .holds .covers), length-append (one-more .name) (byte "=" ∷ valueOnto v (drop end s)), value-length v (drop end s), length-drop mark s, length-drop end s, run .2, any .inside)
+              omega (
+                arith,
+                starts,
+                trait-long one-more [],
+                ap length (it m .holds .covers),
+                length-append (one-more .name) (byte "=" ∷ valueOnto v (drop end s)),
+                value-length v (drop end s),
+                length-drop mark s,
+                length-drop end s,
+                run .2,
+                any .inside,
+              )
 
-          laid-as : (ts : List Trait) → traitEntries (slot .parent) number i (one-more ∷ ts) ≡ entries-of ++ traitEntries (slot .parent) (number + length entries-of) end ts
+          laid-as : (ts : List Trait) → traitEntries (slot .parent) number i (one-more ∷ ts)
+              ≡ entries-of ++ traitEntries (slot .parent) (number + length entries-of) end ts
           unfolding traitEntries
           laid-as ts = rw (starts, ends, long)
 
@@ -203,9 +227,12 @@ module _ {s : List ℕ} {at : ℕ} {lent : List ℕ} {slot : Slot} {cells : List
               let same : slot .next + (made + more) ≡ wide = omega (arith, long m, it m .many) in
               let fewer : slot .room - wide ≡ left - traitSize (one-more m) = omega (arith, long m) in
               so-far .onward m other cells′
-              (makes-more traitSize (traitTurn (boundsOf m)) (trait-shorter (boundsOf m)) left (drop i s) (made-with made) (own-with own) (traitEntries (slot .parent) number i) (traitEntries (slot .parent) wide end)
-              (entries-of m) s cells after number (one-more m) (drop end s) other cells′ (turn m ∙ ap turnOf (it m .finds)) (laid-as m) (entered m .laid (one-more m) (drop end s) (it m .finds))
-              (makes-same (made-with (made + more)) (own-with (own + 1)) _ _ (traitEntries (slot .parent) wide end) s after wide (traitsOf m (left - traitSize (one-more m)) (drop end s)) other cells′
+              (makes-more traitSize (traitTurn (boundsOf m)) (trait-shorter (boundsOf m)) left (drop i s) (made-with made) (own-with own)
+              (traitEntries (slot .parent) number i) (traitEntries (slot .parent) wide end)
+              (entries-of m) s cells after number (one-more m) (drop end s) other cells′ (turn m ∙ ap turnOf (it m .finds)) (laid-as m)
+              (entered m .laid (one-more m) (drop end s) (it m .finds))
+              (makes-same (made-with (made + more)) (own-with (own + 1)) _ _ (traitEntries (slot .parent) wide end) s after wide
+              (traitsOf m (left - traitSize (one-more m)) (drop end s)) other cells′
               (λ ts. omega (arith, it m .many)) (λ ts. omega arith)
               (rw (same, fewer) at k)));
         }

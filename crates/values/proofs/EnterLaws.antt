@@ -27,7 +27,8 @@ use Rattle.entries.proofs.Laying.{lay-none, lay-before, lay-append}
 use Rattle.values.specs.declared.judged.Judged.{Judged}
 use Rattle.values.specs.declared.entering.Entered.{Entered}
 use Rattle.values.specs.declared.entering.Entered.the-variants.{Items, Full}
-use Rattle.values.specs.Entering.{withoutItems, leftOf, firstOver, entriesFrom, sizeFrom, Ahead, Enters, EntersValue, EntersWhole, EntersFrom, EntersItems}
+use Rattle.values.specs.Entering.{withoutItems, leftOf, firstOver, entriesFrom, sizeFrom}
+use Rattle.values.specs.Entering.{Ahead, Enters, EntersValue, EntersWhole, EntersFrom, EntersItems}
 use Rattle.values.specs.Shown.{Shown, foundAt, refusedAt, shown, shownOf, Judges}
 use Rattle.values.proofs.Showing.{fails}
 use Rattle.values.proofs.ListLaws.{byte-at, Opened, leaf-value, deep-value, empty-found, empty-value, list-found}
@@ -56,12 +57,14 @@ module _ (s : List ℕ) (i lists : ℕ) (cells : List ℕ) (slot : Slot) (made o
   abbrev under : Slot
   under = slotUnder (slotAfter slot made)
 
-  module _ (room : slot .next + made < slot .room) (item : Entered) (mid : List ℕ) (h : Enters s i cells under (valueOf lists listEnders (drop i s)) item mid) where
+  module _ (room : slot .next + made < slot .room) (item : Entered) (mid : List ℕ)
+      (h : Enters s i cells under (valueOf lists listEnders (drop i s)) item mid) where
     more-left : leftOf slot - made ≡ suc (leftOf under)
     more-left = omega arith
 
     -- it was entered, and so all its entries had room
-    pub fit-inside : (v : Value) (left : List ℕ) → valueOf lists listEnders (drop i s) ≡ found v left → (form end inside count : ℕ) → item ≡ Items form end inside count → itemSize v ≤ leftOf under
+    pub fit-inside : (v : Value) (left : List ℕ) → valueOf lists listEnders (drop i s) ≡ found v left → (form end inside count : ℕ)
+        → item ≡ Items form end inside count → itemSize v ≤ leftOf under
     fit-inside v left e form end inside count q =
         upTo (itemSize v) (leftOf under) (λ k. k)
         (λ k. let f = h .full v left e k in
@@ -82,14 +85,17 @@ module _ (s : List ℕ) (i lists : ℕ) (cells : List ℕ) (slot : Slot) (made o
             let z : _≡_ {A = ℕ} 0 1 = cc in
             omega arith
 
-        first : (v : Value) (more : More) (left : List ℕ) → valueOf lists listEnders (drop i s) ≡ found v left → item ≡ Full (firstOver (leftOf slot - made) (entriesFrom (slot .parent) (slot .next + made) i v more))
+        first : (v : Value) (more : More) (left : List ℕ) → valueOf lists listEnders (drop i s) ≡ found v left
+            → item ≡ Full (firstOver (leftOf slot - made) (entriesFrom (slot .parent) (slot .next + made) i v more))
         first v more left e =
             upTo (itemSize v) (leftOf under) (λ k. absurd (no-fit v left e k))
             (λ k. h .full v left e k
-            ∙ ap Full (sym (rw more-left (first-in (itemEntries (slot .next + made) (slot .next + made + 1) i v) _ (leftOf under) (omega (arith, item-size v (slot .next + made) (slot .next + made + 1) i))))))
+            ∙ ap Full (sym (rw more-left (first-in (itemEntries (slot .next + made) (slot .next + made + 1) i v) _ (leftOf under)
+            (omega (arith, item-size v (slot .next + made) (slot .next + made + 1) i))))))
 
     -- it was entered, and its own entry stands before those of its items
-    module _ (form end inside count : ℕ) (q : item ≡ Items form end inside count) (start : i ≤ length s) (entry : Entry) (k : entry ≡ unnamed 3 form (slot .parent) count i end) (laid : List ℕ) (p : laid ≡ lay mid (slot .next + made) (entry ∷ [])) where
+    module _ (form end inside count : ℕ) (q : item ≡ Items form end inside count) (start : i ≤ length s) (entry : Entry)
+        (k : entry ≡ unnamed 3 form (slot .parent) count i end) (laid : List ℕ) (p : laid ≡ lay mid (slot .next + made) (entry ∷ [])) where
       record Laid (v : Value) (left : List ℕ) : Type 0 where
         room-inside : itemSize v ≤ leftOf under
         size : inside ≡ itemSize v
@@ -121,7 +127,8 @@ module _ (s : List ℕ) (i lists : ℕ) (cells : List ℕ) (slot : Slot) (made o
           }
 
       -- it is the last one
-      pub last-item : startsWith (bytes ",") (drop end s) ≡ false → EntersFrom s i cells slot made own (itemAnd lists list (drop i s)) (Items 12 (end + 1) (made + (1 + inside)) (own + 1)) laid
+      pub last-item : startsWith (bytes ",") (drop end s) ≡ false → EntersFrom s i cells slot made own (itemAnd lists list (drop i s))
+          (Items 12 (end + 1) (made + (1 + inside)) (own + 1)) laid
       unfolding itemSize itemsOf itemEntries
       last-item c =
           record {
@@ -129,18 +136,22 @@ module _ (s : List ℕ) (i lists : ℕ) (cells : List ℕ) (slot : Slot) (made o
             full = λ v more left e f. absurd (over v more left (list-parts lists (drop i s) v more left e) f);
           }
         where
-          shut : (v : Value) (more : More) (left : List ℕ) (t : Parts lists (valueOf lists listEnders (drop i s)) v more left) → (more ≡ close) × (drop end s ≡ byte "]" ∷ left)
+          shut : (v : Value) (more : More) (left : List ℕ) (t : Parts lists (valueOf lists listEnders (drop i s)) v more left) → (more ≡ close)
+              × (drop end s ≡ byte "]" ∷ left)
           shut v more left t =
               let l = laid-item v (t .mid) (t .item) .onward in
               closed lists (drop end s) more left c (ap (moreOf lists) (sym l) ∙ t .behind)
 
-          over : (v : Value) (more : More) (left : List ℕ) → Parts lists (valueOf lists listEnders (drop i s)) v more left → leftOf slot < made + sizeFrom v more → ⊥
+          over : (v : Value) (more : More) (left : List ℕ) → Parts lists (valueOf lists listEnders (drop i s)) v more left
+              → leftOf slot < made + sizeFrom v more → ⊥
           over v more left t f =
               let z : moreSize more ≡ 0 = ap moreSize (shut v more left t .0) in
               omega (arith, laid-item v (t .mid) (t .item) .room-inside)
 
           ends : (v : Value) (more : More) (left : List ℕ) → Parts lists (valueOf lists listEnders (drop i s)) v more left
-              → (_≡_ {A = Entered} (Items 12 (end + 1) (made + (1 + inside)) (own + 1)) (Items 12 (placeIn s left) (made + sizeFrom v more) (own + suc (moreItems more)))) × (laid ≡ lay cells (slot .next + made) (entriesFrom (slot .parent) (slot .next + made) i v more))
+              → (_≡_ {A = Entered} (Items 12 (end + 1) (made + (1 + inside)) (own + 1))
+              (Items 12 (placeIn s left) (made + sizeFrom v more) (own + suc (moreItems more))))
+              × (laid ≡ lay cells (slot .next + made) (entriesFrom (slot .parent) (slot .next + made) i v more))
           ends v more left t =
               let d = laid-item v (t .mid) (t .item) in
               let m = shut v more left t in
@@ -150,8 +161,12 @@ module _ (s : List ℕ) (i lists : ℕ) (cells : List ℕ) (slot : Slot) (made o
               let b : made + (1 + inside) ≡ made + sizeFrom v more = omega (arith, d .size) in
               let n : own + 1 ≡ own + suc (moreItems more) = omega arith in
               let es = itemEntries (slot .next + made) (slot .next + made + 1) i v in
-              let x : moreEntries (slot .parent) (slot .next + made + 1 + itemSize v) (i + valueWidth v) more ≡ [] = ap (moreEntries (slot .parent) (slot .next + made + 1 + itemSize v) (i + valueWidth v)) (m .0) in
-              (cc, d .cells-are ∙ ap (λ (l : List Entry). lay cells (slot .next + made) (itemEntry (slot .parent) i v ∷ l)) (sym (ap (λ (l : List Entry). es ++ l) x ∙ append-nil es)))
+              let x : moreEntries (slot .parent) (slot .next + made + 1 + itemSize v) (i + valueWidth v) more ≡ [] =
+              ap (moreEntries (slot .parent) (slot .next + made + 1 + itemSize v) (i + valueWidth v)) (m .0) in (
+                cc,
+                d .cells-are ∙ ap (λ (l : List Entry). lay cells (slot .next + made) (itemEntry (slot .parent) i v ∷ l))
+                    (sym (ap (λ (l : List Entry). es ++ l) x ∙ append-nil es)),
+              )
 
       -- another one stands behind it
       module _ (c : startsWith (bytes ",") (drop end s) ≡ true) (next : ℕ) (run : Stretch isWhite s (end + 1) next) where
@@ -189,21 +204,25 @@ module _ (s : List ℕ) (i lists : ℕ) (cells : List ℕ) (slot : Slot) (made o
         entries-on : Value → More → List Entry
         entries-on v rest = entriesFrom (slot .parent) (slot .next + (made + (1 + inside))) next v rest
 
-        all-entries : (v : Value) (more : More) (left mid′ : List ℕ) → Laid v mid′ → (w : Next v more left) → entriesFrom (slot .parent) (slot .next + made) i v more ≡ first-entries v ++ entries-on (w .second) (w .rest)
+        all-entries : (v : Value) (more : More) (left mid′ : List ℕ) → Laid v mid′ → (w : Next v more left)
+            → entriesFrom (slot .parent) (slot .next + made) i v more ≡ first-entries v ++ entries-on (w .second) (w .rest)
         unfolding first-entries entries-on itemEntries white
         all-entries v more left mid′ d w =
             let n : slot .next + made + 1 + itemSize v ≡ slot .next + (made + (1 + inside)) = omega (arith, d .size) in
-            let l : length (front isWhite (drop (end + 1) s)) ≡ lengthIn isWhite (drop (end + 1) s) = length-take-le (lengthIn isWhite (drop (end + 1) s)) (drop (end + 1) s) (length-in isWhite (drop (end + 1) s)) in
+            let l : length (front isWhite (drop (end + 1) s)) ≡ lengthIn isWhite (drop (end + 1) s) =
+            length-take-le (lengthIn isWhite (drop (end + 1) s)) (drop (end + 1) s) (length-in isWhite (drop (end + 1) s)) in
             let a : i + valueWidth v + 1 + length (front isWhite (drop (end + 1) s)) ≡ next = omega (arith, d .place) in
             ap (λ (m : More). entriesFrom (slot .parent) (slot .next + made) i v m) (w .is)
             ∙ ap₂ (λ (k at : ℕ). first-entries v ++ entriesFrom (slot .parent) k at (w .second) (w .rest)) n a
 
-        sizes : (v : Value) (more : More) (left : List ℕ) (w : Next v more left) → (moreSize more ≡ sizeFrom (w .second) (w .rest)) × (moreItems more ≡ suc (moreItems (w .rest)))
+        sizes : (v : Value) (more : More) (left : List ℕ) (w : Next v more left) → (moreSize more ≡ sizeFrom (w .second) (w .rest))
+            × (moreItems more ≡ suc (moreItems (w .rest)))
         unfolding itemSize itemsOf
         sizes v more left w = (ap moreSize (w .is), ap moreItems (w .is))
 
         -- what is entered from the next one on is entered from this one on
-        pub next-item : (r : Entered) (after : List ℕ) → EntersFrom s next laid slot (made + (1 + inside)) (own + 1) (itemAnd lists list (drop next s)) r after → EntersFrom s i cells slot made own (itemAnd lists list (drop i s)) r after
+        pub next-item : (r : Entered) (after : List ℕ) → EntersFrom s next laid slot (made + (1 + inside)) (own + 1) (itemAnd lists list (drop next s)) r after
+            → EntersFrom s i cells slot made own (itemAnd lists list (drop i s)) r after
         unfolding first-entries entries-on
         next-item r after k =
             record {
@@ -211,8 +230,10 @@ module _ (s : List ℕ) (i lists : ℕ) (cells : List ℕ) (slot : Slot) (made o
               full = λ v more left e f. go-full v more left (list-parts lists (drop i s) v more left e) f;
             }
           where
-            go-fits : (v : Value) (more : More) (left : List ℕ) → Parts lists (valueOf lists listEnders (drop i s)) v more left → made + sizeFrom v more ≤ leftOf slot
-                → (r ≡ Items 12 (placeIn s left) (made + sizeFrom v more) (own + suc (moreItems more))) × (after ≡ lay cells (slot .next + made) (entriesFrom (slot .parent) (slot .next + made) i v more))
+            go-fits : (v : Value) (more : More) (left : List ℕ) → Parts lists (valueOf lists listEnders (drop i s)) v more left
+                → made + sizeFrom v more ≤ leftOf slot
+                → (r ≡ Items 12 (placeIn s left) (made + sizeFrom v more) (own + suc (moreItems more)))
+                × (after ≡ lay cells (slot .next + made) (entriesFrom (slot .parent) (slot .next + made) i v more))
             go-fits v more left t f =
                 let d = laid-item v (t .mid) (t .item) in
                 let w = next-is v more left t in
@@ -228,7 +249,8 @@ module _ (s : List ℕ) (i lists : ℕ) (cells : List ℕ) (slot : Slot) (made o
                       ∙ ap (lay cells (slot .next + made)) (sym (all-entries v more left (t .mid) d w)),
                 )
 
-            go-full : (v : Value) (more : More) (left : List ℕ) → Parts lists (valueOf lists listEnders (drop i s)) v more left → leftOf slot < made + sizeFrom v more
+            go-full : (v : Value) (more : More) (left : List ℕ) → Parts lists (valueOf lists listEnders (drop i s)) v more left
+                → leftOf slot < made + sizeFrom v more
                 → r ≡ Full (firstOver (leftOf slot - made) (entriesFrom (slot .parent) (slot .next + made) i v more))
             go-full v more left t f =
                 let d = laid-item v (t .mid) (t .item) in
@@ -275,14 +297,20 @@ bare-empty = record { size = refl; count = refl; entries = λ parent next at. re
 
 module _ (s : List ℕ) (at lists : ℕ) (also cells : List ℕ) (slot : Slot) where
   -- a value that has none
-  bare-enters : (x : Found Value) (read : Judged) → Judges valueForm s at x read → ((v : Value) (left : List ℕ) → x ≡ found v left → Bare v) → Enters s at cells slot x (withoutItems read) cells
+  bare-enters : (x : Found Value) (read : Judged) → Judges valueForm s at x read → ((v : Value) (left : List ℕ) → x ≡ found v left → Bare v)
+      → Enters s at cells slot x (withoutItems read) cells
   bare-enters x read h bare =
       record {
-        fits = λ v left e k. (answer read (h .same) v left e, sym (ap (lay cells (slot .next)) (bare v left e .entries (slot .parent) (slot .next) at) ∙ lay-none cells (slot .next)));
+        fits = λ v left e k. (
+          answer read (h .same) v left e,
+          sym (ap (lay cells (slot .next)) (bare v left e .entries (slot .parent) (slot .next) at)
+              ∙ lay-none cells (slot .next)),
+        );
         full = λ v left e k. absurd (omega (arith, bare v left e .size));
       }
     where
-      answer : (read : Judged) → shown read ≡ shownOf valueForm s x → (v : Value) (left : List ℕ) → x ≡ found v left → withoutItems read ≡ Items (valueForm v) (placeIn s left) (itemSize v) (itemsOf v)
+      answer : (read : Judged) → shown read ≡ shownOf valueForm s x → (v : Value) (left : List ℕ) → x ≡ found v left
+          → withoutItems read ≡ Items (valueForm v) (placeIn s left) (itemSize v) (itemsOf v)
       answer (Judged.Found form end) q v left e =
           let k : foundAt form end ≡ foundAt (valueForm v) (placeIn s left) = q ∙ ap (shownOf valueForm s) e in
           let f : form ≡ valueForm v = ap (λ (y : Shown). y .form) k in
@@ -294,7 +322,8 @@ module _ (s : List ℕ) (at lists : ℕ) (also cells : List ℕ) (slot : Slot) w
           absurd (number-positive why (ap (λ (y : Shown). y .number) k))
 
   bare-ahead : (x : Found Value) (read : Judged) → Judges valueForm s at x read → (room : ℕ) → Ahead s at lists room (withoutItems read)
-  bare-ahead x (Judged.Found form end) h room = let k = h .ahead form end refl in ahead-items s at lists room form end 0 0 (omega arith) (omega arith) (omega arith) (omega arith)
+  bare-ahead x (Judged.Found form end) h room = let k = h .ahead form end refl in ahead-items s at lists room form end 0 0 (omega arith) (omega arith)
+      (omega arith) (omega arith)
   bare-ahead x (Judged.Refused why place) h room = ahead-full s at lists room (Full place) place refl
 
   -- no list
@@ -344,7 +373,8 @@ module _ (s : List ℕ) (at lists : ℕ) (also cells : List ℕ) (slot : Slot) w
         Fitting : Value → List ℕ → Type 0
         Fitting u left =
             itemSize u ≤ leftOf slot
-            → (r ≡ Items (valueForm u) (placeIn s left) (itemSize u) (itemsOf u)) × (after ≡ lay cells (slot .next) (itemEntries (slot .parent) (slot .next) at u))
+            → (r ≡ Items (valueForm u) (placeIn s left) (itemSize u) (itemsOf u))
+            × (after ≡ lay cells (slot .next) (itemEntries (slot .parent) (slot .next) at u))
 
         Filled : Value → Type 0
         Filled u = leftOf slot < itemSize u → r ≡ Full (firstOver (leftOf slot) (itemEntries (slot .parent) (slot .next) at u))
@@ -355,7 +385,8 @@ module _ (s : List ℕ) (at lists : ℕ) (also cells : List ℕ) (slot : Slot) w
         is-list : (v : Value) (left : List ℕ) → valueOf lists also (drop at s) ≡ found v left → MadeOf fewer list first-of v left
         is-list v left q = made-of fewer list first-of v left (sym (list-found s at lists also fewer o e) ∙ q)
 
-        made-list : {v : Value} (left : List ℕ) (p : MadeOf fewer list first-of v left) → itemAnd fewer list (drop (at + 1) s) ≡ found (list (p .first) (p .rest)) left
+        made-list : {v : Value} (left : List ℕ) (p : MadeOf fewer list first-of v left)
+            → itemAnd fewer list (drop (at + 1) s) ≡ found (list (p .first) (p .rest)) left
         made-list left p = together fewer list _ (p .first) (p .rest) left (p .parts)
 
         fits : (v : Value) (more : More) (left : List ℕ) → itemAnd fewer list (drop (at + 1) s) ≡ found (list v more) left → Fitting (list v more) left

@@ -52,7 +52,8 @@ module _ {A : Type 0} (lists : ℕ) (make : Value → More → A) where
   together x v more left p = rw (p .item, p .behind)
 
 -- a list that was found has these parts
-pub list-parts : (lists : ℕ) (l : List ℕ) (v : Value) (more : More) (left : List ℕ) → itemAnd lists list l ≡ found (list v more) left → Parts lists (valueOf lists listEnders l) v more left
+pub list-parts : (lists : ℕ) (l : List ℕ) (v : Value) (more : More) (left : List ℕ) → itemAnd lists list l ≡ found (list v more) left
+    → Parts lists (valueOf lists listEnders l) v more left
 list-parts lists l v more left e = go (made-of lists list (valueOf lists listEnders l) (list v more) left e)
   where
     go : MadeOf lists list (valueOf lists listEnders l) (list v more) left → Parts lists (valueOf lists listEnders l) v more left
@@ -64,7 +65,8 @@ list-parts lists l v more left e = go (made-of lists list (valueOf lists listEnd
         record { mid = p .mid; item = p .item ∙ ap (λ (w : Value). found w (p .mid)) a; behind = p .behind ∙ ap (λ (m : More). found m left) b }
 
 -- where no comma stands behind an item, "]" does
-pub closed : (lists : ℕ) (l : List ℕ) (more : More) (left : List ℕ) → startsWith (bytes ",") l ≡ false → moreOf lists l ≡ found more left → (more ≡ close) × (l ≡ byte "]" ∷ left)
+pub closed : (lists : ℕ) (l : List ℕ) (more : More) (left : List ℕ) → startsWith (bytes ",") l ≡ false → moreOf lists l ≡ found more left → (more ≡ close)
+    × (l ≡ byte "]" ∷ left)
 unfolding startsWith
 closed lists [] more left c e =
     let f : fault 9 [] ≡ found more left = sym (more-of-end lists) ∙ e in

@@ -37,9 +37,11 @@ shown-map form formed make s (fault n left) e = refl
 
 -- what is made of an item and of what stands behind it does not show, where all forms are those of lists
 made-alike : {A B : Type 0} (form : A → ℕ) (formed : B → ℕ) (f : Value → More → A) (g : Value → More → B) (s : List ℕ) (lists : ℕ) (x : Found Value)
-    → ((v : Value) (more : More) → (form (f v more) ≡ 12) × (formed (g v more) ≡ 12)) → shownOf form s (withMore lists f x) ≡ shownOf formed s (withMore lists g x)
+    → ((v : Value) (more : More) → (form (f v more) ≡ 12) × (formed (g v more) ≡ 12))
+    → shownOf form s (withMore lists f x) ≡ shownOf formed s (withMore lists g x)
 made-alike form formed f g s lists (found v left) e =
-    shown-map listForm form (f v) s (moreOf lists left) (λ more. e v more .0) ∙ sym (shown-map listForm formed (g v) s (moreOf lists left) (λ more. e v more .1))
+    shown-map listForm form (f v) s (moreOf lists left) (λ more. e v more .0)
+    ∙ sym (shown-map listForm formed (g v) s (moreOf lists left) (λ more. e v more .1))
 made-alike form formed f g s lists (fault n left) e = refl
 
 -- ---- bytes at a place
@@ -153,7 +155,8 @@ module _ (s : List ℕ) (i lists : ℕ) where
 -- ---- a trait's whole value
 
 -- so many lists may be opened in one another
-pub counted : (s : List ℕ) (at n lists : ℕ) (r : Judged) → n ≡ lists → Judges valueForm s at (valueOf n [] (drop at s)) r → Judges valueForm s at (valueOf lists [] (drop at s)) r
+pub counted : (s : List ℕ) (at n lists : ℕ) (r : Judged) → n ≡ lists → Judges valueForm s at (valueOf n [] (drop at s)) r
+    → Judges valueForm s at (valueOf lists [] (drop at s)) r
 counted s at n lists r e h = subst (λ (k : ℕ). Judges valueForm s at (valueOf k [] (drop at s)) r) e h
 
 module _ (s : List ℕ) (at lists : ℕ) (r : Judged) (h : Judges valueForm s at (valueOf lists [] (drop at s)) r) where

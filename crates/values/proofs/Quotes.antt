@@ -43,7 +43,8 @@ module _ (quote b : ℕ) where
 
 -- the pieces do not show in the answer, where each run of them has the same form
 more-seen : (make : List Piece → Leaf) (f : ℕ) → ((ps : List Piece) → leafForm (make ps) ≡ f) → (s : List ℕ) (p : Piece) (x : Found (List Piece))
-    → shownOf leafForm s (andThen x (λ ps left. found (make ps) left)) ≡ shownOf leafForm s (andThen (andThen x (λ ps left. found (p ∷ ps) left)) (λ ps left. found (make ps) left))
+    → shownOf leafForm s (andThen x (λ ps left. found (make ps) left))
+    ≡ shownOf leafForm s (andThen (andThen x (λ ps left. found (p ∷ ps) left)) (λ ps left. found (make ps) left))
 more-seen make f formed s p (found ps left) = rw (formed ps, formed (p ∷ ps))
 more-seen make f formed s p (fault n left) = refl
 
@@ -56,14 +57,17 @@ module _ (turn : ℕ → List ℕ → Turn Piece) (shorter : (room : ℕ) (s : L
 
   run-more : (f : ℕ) → ((ps : List Piece) → leafForm (make ps) ≡ f) → (s t mid : List ℕ) (p : Piece) → turn 0 t ≡ more p mid
       → shownOf leafForm s (quotedOf turn make mid) ≡ shownOf leafForm s (quotedOf turn make t)
-  run-more f formed s t mid p e = rw (many-turn (λ p. 0) turn shorter (suc (length t)) 0 t (omega arith), e) (more-seen make f formed s p (manyOf (λ p. 0) turn 0 mid))
+  run-more f formed s t mid p e = rw (many-turn (λ p. 0) turn shorter (suc (length t)) 0 t (omega arith), e)
+      (more-seen make f formed s p (manyOf (λ p. 0) turn 0 mid))
 
 -- ---- an escape that was read
 
-escape-at : (quote : ℕ) (s : List ℕ) (i : ℕ) → i < length s → getD s i 0 ≡ byte "\\" → Reads (drop i s) (Stood quote (drop i s)) (escape quote (drop i s) (drop (i + 1) s))
+escape-at : (quote : ℕ) (s : List ℕ) (i : ℕ) → i < length s → getD s i 0
+    ≡ byte "\\" → Reads (drop i s) (Stood quote (drop i s)) (escape quote (drop i s) (drop (i + 1) s))
 escape-at quote s i h b = rw (here s i h, b) (escape-reads quote (drop (i + 1) s))
 
-module _ (quote : ℕ) (s : List ℕ) (i : ℕ) (h : i < length s) (b : getD s i 0 ≡ byte "\\") (q : Judged) (e : Judges noForm s i (escape quote (drop i s) (drop (i + 1) s)) q) where
+module _ (quote : ℕ) (s : List ℕ) (i : ℕ) (h : i < length s) (b : getD s i 0
+    ≡ byte "\\") (q : Judged) (e : Judges noForm s i (escape quote (drop i s) (drop (i + 1) s)) q) where
   escape-stands : (f end : ℕ) → q ≡ Judged.Found f end → FoundTo (Stood quote (drop i s)) s i (escape quote (drop i s) (drop (i + 1) s)) end
   escape-stands f end p = stands e (Stood quote (drop i s)) (escape-at quote s i h b) f end p
 
@@ -93,7 +97,8 @@ module _ (s : List ℕ) (i : ℕ) (h : i < length s) where
       → Judges leafForm s (i + 1) (stringOf (drop (i + 1) s)) r → Judges leafForm s i (stringOf (drop i s)) r
   string-itself q k l e =
       moved e i (stringOf (drop i s)) (omega arith)
-      (run-more pieceTurn turn-shorter string 1 (λ ps. refl) s _ _ _ (piece-at (turn-itself 0 _ _ (inside-itself (byte "\"") (getD s i 0) q k (λ n. l (inl n)) (λ n. l (inr n))))))
+      (run-more pieceTurn turn-shorter string 1 (λ ps. refl) s _ _ _ (piece-at
+      (turn-itself 0 _ _ (inside-itself (byte "\"") (getD s i 0) q k (λ n. l (inl n)) (λ n. l (inr n))))))
 
   module _ (b : getD s i 0 ≡ byte "\\") (q : Judged) (e : Judges noForm s i (escape (byte "\"") (drop i s) (drop (i + 1) s)) q) where
     string-escape : pieceTurn 0 (drop i s) ≡ turnOf (escape (byte "\"") (drop i s) (drop (i + 1) s))
@@ -101,9 +106,11 @@ module _ (s : List ℕ) (i : ℕ) (h : i < length s) where
     string-escape = piece-at (turn-escapes 0 (getD s i 0) (drop (i + 1) s) (rw b)) ∙ rw (here s i h)
 
     pub string-refused : (why : Refusal) (place : ℕ) → q ≡ Judged.Refused why place → Judges leafForm s i (stringOf (drop i s)) q
-    string-refused why place p = passes e leafForm i (stringOf (drop i s)) why place p (λ left x. run-stop pieceTurn turn-shorter string _ _ _ (string-escape ∙ ap turnOf x))
+    string-refused why place p = passes e leafForm i (stringOf (drop i s)) why place p
+        (λ left x. run-stop pieceTurn turn-shorter string _ _ _ (string-escape ∙ ap turnOf x))
 
-    pub string-escaped : (f end : ℕ) → q ≡ Judged.Found f end → {r : Judged} → Judges leafForm s end (stringOf (drop end s)) r → Judges leafForm s i (stringOf (drop i s)) r
+    pub string-escaped : (f end : ℕ) → q ≡ Judged.Found f end → {r : Judged} → Judges leafForm s end (stringOf (drop end s)) r
+        → Judges leafForm s i (stringOf (drop i s)) r
     string-escaped f end p k =
         let x = escape-stands (byte "\"") s i h b q e f end p in
         moved k i (stringOf (drop i s)) (omega (arith, e .ahead f end p))
@@ -185,11 +192,13 @@ module _ (s : List ℕ) (i : ℕ) (h : i < length s) where
     backtick-escaped f e =
         let k : i + 1 + 1 ≡ i + 2 = omega arith in
         let g : startsWith (bytes "\\`") (getD s i 0 ∷ drop (i + 1) s) ≡ true = rw (here s i h) at f in
-        let x : backtickTurn 0 (drop i s) ≡ more (escaped (byte "`")) (drop (i + 2) s) = tick-at (rw (ne-eqb (getD s i 0) (byte "`") n, backtickTurn, g, drop-drop, k)) in
+        let x : backtickTurn 0 (drop i s) ≡ more (escaped (byte "`")) (drop (i + 2) s) =
+        tick-at (rw (ne-eqb (getD s i 0) (byte "`") n, backtickTurn, g, drop-drop, k)) in
         moved e i (backtickOf (drop i s)) (omega arith) (run-more backtickTurn tick-shorter backtick 1 (λ ps. refl) s (drop i s) _ _ x)
 
     pub backtick-itself : startsWith (bytes "\\`") (drop i s) ≡ false → {r : Judged} → Judges leafForm s (i + 1) (backtickOf (drop (i + 1) s)) r
         → Judges leafForm s i (backtickOf (drop i s)) r
     backtick-itself f e =
         moved e i (backtickOf (drop i s)) (omega arith)
-        (run-more backtickTurn tick-shorter backtick 1 (λ ps. refl) s _ _ _ (tick-at (tick-itself 0 (drop (i + 1) s) (getD s i 0) (ne-eqb (getD s i 0) (byte "`") n) (rw (here s i h) at f))))
+        (run-more backtickTurn tick-shorter backtick 1 (λ ps. refl) s _ _ _
+        (tick-at (tick-itself 0 (drop (i + 1) s) (getD s i 0) (ne-eqb (getD s i 0) (byte "`") n) (rw (here s i h) at f))))

@@ -26,7 +26,8 @@ module _ {A : Type 0} (form : A → ℕ) (s : List ℕ) (at : ℕ) (x : Found A)
         inside = λ why place q. let z : _≡_ {A = ℕ} 0 1 = cc in absurd (omega arith);
       }
 
-  pub refuses : (r : Judged) (why : Refusal) (place : ℕ) → r ≡ Judged.Refused why place → place ≤ length s → refusedAt (numberOf why) place ≡ shownOf form s x → Judges form s at x r
+  pub refuses : (r : Judged) (why : Refusal) (place : ℕ) → r ≡ Judged.Refused why place → place ≤ length s → refusedAt (numberOf why) place ≡ shownOf form s x
+      → Judges form s at x r
   refuses r why place q h e =
       record {
         same = rw q e;

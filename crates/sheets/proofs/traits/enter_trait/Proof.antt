@@ -34,7 +34,8 @@ returns : tie.Need-returns
 returns c =
     let at-value = c .before .before in
     let top = at-value .before .before .before .before .before in
-    λ white w n. trait-refused (top .pre .0) (top .pre .2) (top .pre .1) white w (at-value .before .before .read-whole .ensures) (at-value .value .given .1) (c .refused .ensures)
+    λ white w n. trait-refused (top .pre .0) (top .pre .2) (top .pre .1) white w (at-value .before .before .read-whole .ensures) (at-value .value .given .1)
+    (c .refused .ensures)
 
 enum-told : tie.Need-enum-told
 enum-told c = search needs
@@ -49,7 +50,8 @@ returns-2 : tie.Need-returns-2
 returns-2 c =
     let at-full = c .before .before in
     let top = at-full .before .before .before .before .before .before in
-    λ white w n. trait-full (top .pre .0) (top .pre .2) (top .pre .1) white w (value (at-full .before)) (at-full .is-full .ensures) (c .before .if1 .taken) (c .refused2 .ensures)
+    λ white w n. trait-full (top .pre .0) (top .pre .2) (top .pre .1) white w (value (at-full .before)) (at-full .is-full .ensures) (c .before .if1 .taken)
+    (c .refused2 .ensures)
 
 under-requires : tie.Need-under-requires
 under-requires c κs = let top = c .before .before .before .before .before .before .before .before in omega (arith, top .pre .1 .few, top .pre .1 .inside)
@@ -57,8 +59,10 @@ under-requires c κs = let top = c .before .before .before .before .before .befo
 enter-whole-requires : tie.Need-enter-whole-requires
 enter-whole-requires c κs =
     let at-if = c .before .before in
-    let top = at-if .before .before .before .before .before .before .before in
-    (items-stand (top .pre .0) (top .pre .1) (c .under .ensures) (at-if .before .is-full .ensures) (at-if .if1 .left), c .before .before .before .before .before .before .read-whole .ensures)
+    let top = at-if .before .before .before .before .before .before .before in (
+      items-stand (top .pre .0) (top .pre .1) (c .under .ensures) (at-if .before .is-full .ensures) (at-if .if1 .left),
+      c .before .before .before .before .before .before .read-whole .ensures,
+    )
 
 enum-known-place : tie.Need-enum-known-place
 enum-known-place c = search needs
@@ -73,13 +77,19 @@ cast-t27 : tie.Need-cast-t27
 cast-t27 c = omega (arith, far (c .before .before))
 
 cast-t28 : tie.Need-cast-t28
-cast-t28 c = let top = c .before .before .before .before .before .before .before .before .before .before .before .before .before .before .before .before in omega (arith, top .pre .0 .within, top .pre .0 .inside, top .pre .2)
+cast-t28 c = let top =
+    c .before .before .before .before .before .before .before .before .before .before .before .before .before .before .before .before in omega
+    (arith, top .pre .0 .within, top .pre .0 .inside, top .pre .2)
 
 cast-t29 : tie.Need-cast-t29
-cast-t29 c = let top = c .before .before .before .before .before .before .before .before .before .before .before .before .before .before .before .before in omega (arith, top .pre .0 .within, top .pre .0 .inside)
+cast-t29 c = let top =
+    c .before .before .before .before .before .before .before .before .before .before .before .before .before .before .before .before in omega
+    (arith, top .pre .0 .within, top .pre .0 .inside)
 
 cast-t30 : tie.Need-cast-t30
-cast-t30 c = let top = c .before .before .before .before .before .before .before .before .before .before .before .before .before .before .before .before in omega (arith, top .pre .0 .within, top .pre .0 .inside)
+cast-t30 c = let top =
+    c .before .before .before .before .before .before .before .before .before .before .before .before .before .before .before .before in omega
+    (arith, top .pre .0 .within, top .pre .0 .inside)
 
 cast-t31 : tie.Need-cast-t31
 cast-t31 c = omega (arith, far (c .before .before))
@@ -102,7 +112,8 @@ returns-3 c =
     let at-enter = c .before .before .before .before .before .before in
     let at-if = at-enter .before .before .before in
     let top = at-if .before .before .before .before .before .before .before in
-    λ white w n. items-full (top .pre .0) (top .pre .2) (top .pre .1) white w (value (at-if .before .before)) (at-if .before .is-full .ensures) (at-if .if1 .left)
+    λ white w n. items-full (top .pre .0) (top .pre .2) (top .pre .1) white w (value (at-if .before .before)) (at-if .before .is-full .ensures)
+    (at-if .if1 .left)
     (at-enter .before .under .ensures) (at-enter .enter-whole .ensures .1) (c .before .before .place .given .1) (c .refused3 .ensures)
 
 same-length-2 : tie.Need-same-length-2
@@ -113,8 +124,10 @@ returns-4 c =
     let at-enter = c .before .before .before .before .before .before .before .before .before in
     let at-if = at-enter .before .before .before in
     let top = at-if .before .before .before .before .before .before .before in
-    λ white w n. trait-made (top .pre .0) (top .pre .2) (top .pre .1) white w (value (at-if .before .before)) (at-if .before .is-full .ensures) (at-if .if1 .left)
-    (at-enter .before .under .ensures) (at-enter .enter-whole .ensures .1) n (c .before .before .before .before .before .form .given .1) (c .before .before .put .ensures) refl
+    λ white w n. trait-made (top .pre .0) (top .pre .2) (top .pre .1) white w (value (at-if .before .before)) (at-if .before .is-full .ensures)
+    (at-if .if1 .left)
+    (at-enter .before .under .ensures) (at-enter .enter-whole .ensures .1) n (c .before .before .before .before .before .form .given .1)
+    (c .before .before .put .ensures) refl
 
 pub enter-trait-spec : {M : Type 1} → statement M
 enter-trait-spec =

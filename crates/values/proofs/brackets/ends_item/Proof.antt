@@ -27,7 +27,8 @@ returns-2 : tie.Need-returns-2
 returns-2 c =
     let at-told = c .before .before in
     let start = at-told .before .before .before in
-    either-first _ (c .before .goes-on .ensures) (c .if1 .taken) ∙ list-ends _ (start .args .s .now) (start .args .at) (start .pre) (at-told .enum-told2 .given .1)
+    either-first _ (c .before .goes-on .ensures) (c .if1 .taken) ∙ list-ends _ (start .args .s .now) (start .args .at) (start .pre)
+    (at-told .enum-told2 .given .1)
 
 returns-3 : tie.Need-returns-3
 returns-3 c =

@@ -98,9 +98,14 @@ enter-items-calls t = (
 
 -- ---- one value
 
-opened : (t : ℕ) (c : enter-lts.After-fewer (enter-calls t) (enter-at t) enter.Post) → Opened (c .before .before .before .before .before .before .before .args .s .now) (c .before .before .before .before .before .before .before .args .at) (c .before .before .before .before .before .before .before .args .nesting .left) (c .fewer .given .0 .0 .left)
+opened : (t : ℕ) (c : enter-lts.After-fewer (enter-calls t) (enter-at t) enter.Post)
+    → (let top = c .before .before .before .before .before .before .before in
+    Opened (top .args .s .now) (top .args .at) (top .args .nesting .left) (c .fewer .given .0 .0 .left))
 opened t c =
-    record { opens = sym (c .before .before .before .before .opens .ensures) ∙ not-false _ (c .before .before .before .if1 .left); deeper = one-less _ _ (c .before .before .step .ensures) _ (c .fewer .given .1) }
+    record {
+      opens = sym (c .before .before .before .before .opens .ensures) ∙ not-false _ (c .before .before .before .if1 .left);
+      deeper = one-less _ _ (c .before .before .step .ensures) _ (c .fewer .given .1);
+    }
 
 enter-opens-requires : (t : ℕ) → enter-lts.Need-opens-requires (enter-calls t) (enter-at t) enter.Post
 enter-opens-requires t c κs = search needs
@@ -113,7 +118,8 @@ enter-without-items-requires t c κs = search needs
 
 enter-returns : (t : ℕ) → enter-lts.Need-returns (enter-calls t) (enter-at t) enter.Post
 enter-returns t c =
-    leaf-enters _ _ _ _ _ _ _ (sym (c .before .before .before .opens .ensures) ∙ not-true _ (c .before .before .if1 .taken)) (c .before .read-leaf .ensures) _ (c .without-items .ensures)
+    leaf-enters _ _ _ _ _ _ _ (sym (c .before .before .before .opens .ensures) ∙ not-true _ (c .before .before .if1 .taken)) (c .before .read-leaf .ensures) _
+    (c .without-items .ensures)
 
 enter-step-requires : (t : ℕ) → enter-lts.Need-step-requires (enter-calls t) (enter-at t) enter.Post
 enter-step-requires t c κs = search needs
@@ -126,7 +132,9 @@ enter-enum-told t c = search needs
 
 enter-returns-2 : (t : ℕ) → enter-lts.Need-returns-2 (enter-calls t) (enter-at t) enter.Post
 enter-returns-2 t c =
-    deep-enters _ _ _ _ _ _ (c .before .before .before .before .before .before .before .pre .1 .place) (sym (c .before .before .before .before .opens .ensures) ∙ not-false _ (c .before .before .before .if1 .left)) (no-less _ _ (c .before .before .step .ensures) (c .enum-told .given .1))
+    deep-enters _ _ _ _ _ _ (c .before .before .before .before .before .before .before .pre .1 .place)
+    (sym (c .before .before .before .before .opens .ensures) ∙ not-false _ (c .before .before .before .if1 .left))
+    (no-less _ _ (c .before .before .step .ensures) (c .enum-told .given .1))
 
 enter-add-first : (t : ℕ) → enter-lts.Need-add-first (enter-calls t) (enter-at t) enter.Post
 enter-add-first t c = let h = c .before .before .before .before .before .before .before .before .pre .1 in omega (arith, h .place, h .short)
@@ -150,7 +158,9 @@ enter-same-length : (t : ℕ) → enter-lts.Need-same-length (enter-calls t) (en
 enter-same-length t c = search needs
 
 enter-returns-4 : (t : ℕ) → enter-lts.Need-returns-4 (enter-calls t) (enter-at t) enter.Post
-enter-returns-4 t c = list-enters _ _ _ _ _ _ _ (opened t (c .before .before .before .before .before .before .before)) (sym (c .before .before .before .before .before .closes .ensures) ∙ c .before .before .before .before .if2 .left) _ _ (c .before .before .enter-items .ensures)
+enter-returns-4 t c = list-enters _ _ _ _ _ _ _ (opened t (c .before .before .before .before .before .before .before))
+    (sym (c .before .before .before .before .before .closes .ensures) ∙ c .before .before .before .before .if2 .left) _ _
+    (c .before .before .enter-items .ensures)
 
 -- ---- the items of a list
 
@@ -166,98 +176,138 @@ enter-items-μ-loop s at nesting cells₀ slot i₀ made₀ own₀ cells i made 
 -- a turn behind the slot of the next entry, and behind the item
 turn : (t : ℕ) (c : enter-items-lts.After-after (enter-items-calls t) (enter-items-at t) enter-items.Post enter-items-Inv-loop enter-items-μ-loop)
     → (let top = c .before .before .before .before in let loop = c .before .loop in
-    Turn (top .args .s .now) (top .args .at) (top .args .nesting .left) (top .args .cells .now) (top .args .slot) (loop .i) (loop .made) (loop .own) (loop .cells) (c .after .result))
+    Turn (top .args .s .now) (top .args .at) (top .args .nesting .left) (top .args .cells .now) (top .args .slot) (loop .i) (loop .made) (loop .own)
+    (loop .cells) (c .after .result))
 turn t c =
     let inv = c .before .loop .inv in
-    record { stands = c .before .before .before .before .pre .1; from = inv .0; place = inv .1; few = inv .2; owned = inv .3; kept = inv .4; next-is = c .after .ensures }
+    record {
+      stands = c .before .before .before .before .pre .1;
+      from = inv .0;
+      place = inv .1;
+      few = inv .2;
+      owned = inv .3;
+      kept = inv .4;
+      next-is = c .after .ensures;
+    }
 
 item-turn : (t : ℕ) (c : enter-items-lts.After-enter (enter-items-calls t) (enter-items-at t) enter-items.Post enter-items-Inv-loop enter-items-μ-loop)
-    → (let top = c .before .before .before .before .before .before .before .before .before in let loop = c .before .before .before .before .before .before .loop in
-    Turned (top .args .s .now) (top .args .at) (top .args .nesting .left) (top .args .cells .now) (top .args .slot) (loop .i) (loop .made) (loop .own) (loop .cells)
+    → (let top = c .before .before .before .before .before .before .before .before .before in
+    let loop = c .before .before .before .before .before .before .loop in
+    Turned (top .args .s .now) (top .args .at) (top .args .nesting .left) (top .args .cells .now) (top .args .slot) (loop .i) (loop .made) (loop .own)
+    (loop .cells)
     (c .before .before .before .before .before .after .result) (c .enter .result) (c .enter .last .1 .1 .1 .1 .0))
 item-turn t c =
-    turned (turn t (c .before .before .before .before .before)) _ (c .before .before .before .before .is-full .ensures) (c .before .before .before .if1 .left) _ (c .before .under .ensures) _ _ (c .enter .kept .1 .1 .1 .1 .0) (c .enter .ensures)
+    turned (turn t (c .before .before .before .before .before)) _ (c .before .before .before .before .is-full .ensures)
+    (c .before .before .before .if1 .left) _ (c .before .under .ensures) _ _ (c .enter .kept .1 .1 .1 .1 .0) (c .enter .ensures)
 
 item-far : (t : ℕ) (c : enter-items-lts.After-item (enter-items-calls t) (enter-items-at t) enter-items.Post enter-items-Inv-loop enter-items-μ-loop)
-    → (let top = c .before .before .before .before .before .before .before .before .before .before .before .before .before in let loop = c .before .before .before .before .before .before .before .before .before .before .loop in let item = c .item .given .0 .1 in
-    Far (top .args .s .now) (top .args .at) (top .args .nesting .left) (top .args .slot) (loop .i) (loop .made) (loop .own) (item .0) (item .1 .0) (item .1 .1 .0))
+    → (let top = c .before .before .before .before .before .before .before .before .before .before .before .before .before in
+    let loop = c .before .before .before .before .before .before .before .before .before .before .loop in
+    let item = c .item .given .0 .1 in
+    Far (top .args .s .now) (top .args .at) (top .args .nesting .left) (top .args .slot) (loop .i) (loop .made) (loop .own) (item .0) (item .1 .0)
+    (item .1 .1 .0))
 item-far t c = far (item-turn t (c .before .before .before .before)) _ _ _ _ (c .item .given .1)
 
-enter-items-loop-holds : (t : ℕ) → enter-items-lts.Need-loop-holds (enter-items-calls t) (enter-items-at t) enter-items.Post enter-items-Inv-loop enter-items-μ-loop
+enter-items-loop-holds : (t : ℕ) → enter-items-lts.Need-loop-holds (enter-items-calls t)
+    (enter-items-at t) enter-items.Post enter-items-Inv-loop enter-items-μ-loop
 enter-items-loop-holds t c = search needs
 
-enter-items-after-requires : (t : ℕ) → enter-items-lts.Need-after-requires (enter-items-calls t) (enter-items-at t) enter-items.Post enter-items-Inv-loop enter-items-μ-loop
+enter-items-after-requires : (t : ℕ) → enter-items-lts.Need-after-requires (enter-items-calls t)
+    (enter-items-at t) enter-items.Post enter-items-Inv-loop enter-items-μ-loop
 enter-items-after-requires t c κs = search needs
 
-enter-items-is-full-requires : (t : ℕ) → enter-items-lts.Need-is-full-requires (enter-items-calls t) (enter-items-at t) enter-items.Post enter-items-Inv-loop enter-items-μ-loop
+enter-items-is-full-requires : (t : ℕ) → enter-items-lts.Need-is-full-requires (enter-items-calls t)
+    (enter-items-at t) enter-items.Post enter-items-Inv-loop enter-items-μ-loop
 enter-items-is-full-requires t c κs = search needs
 
-enter-items-same-length : (t : ℕ) → enter-items-lts.Need-same-length (enter-items-calls t) (enter-items-at t) enter-items.Post enter-items-Inv-loop enter-items-μ-loop
+enter-items-same-length : (t : ℕ) → enter-items-lts.Need-same-length (enter-items-calls t)
+    (enter-items-at t) enter-items.Post enter-items-Inv-loop enter-items-μ-loop
 enter-items-same-length t c = search needs
 
 enter-items-returns : (t : ℕ) → enter-items-lts.Need-returns (enter-items-calls t) (enter-items-at t) enter-items.Post enter-items-Inv-loop enter-items-μ-loop
-enter-items-returns t c =
-    (ahead-full _ _ _ _ _ _ refl, c .before .before .before .loop .inv .5 _ _ (full-turn (turn t (c .before .before)) _ (c .before .is-full .ensures) (c .if1 .taken)))
+enter-items-returns t c = (
+  ahead-full _ _ _ _ _ _ refl,
+  c .before .before .before .loop .inv .5 _ _
+      (full-turn (turn t (c .before .before)) _ (c .before .is-full .ensures) (c .if1 .taken)),
+)
 
-enter-items-under-requires : (t : ℕ) → enter-items-lts.Need-under-requires (enter-items-calls t) (enter-items-at t) enter-items.Post enter-items-Inv-loop enter-items-μ-loop
+enter-items-under-requires : (t : ℕ) → enter-items-lts.Need-under-requires (enter-items-calls t)
+    (enter-items-at t) enter-items.Post enter-items-Inv-loop enter-items-μ-loop
 enter-items-under-requires t c κs = next-small (turn t (c .before .before .before))
 
-enter-items-enter-requires : (t : ℕ) → enter-items-lts.Need-enter-requires (enter-items-calls t) (enter-items-at t) enter-items.Post enter-items-Inv-loop enter-items-μ-loop
-enter-items-enter-requires t c κs =
-    (omega (arith, c .before .before .before .before .before .before .before .before .pre .0), item-stands (turn t (c .before .before .before .before)) _ (c .before .before .before .is-full .ensures) (c .before .before .if1 .left) _ (c .under .ensures))
+enter-items-enter-requires : (t : ℕ) → enter-items-lts.Need-enter-requires (enter-items-calls t)
+    (enter-items-at t) enter-items.Post enter-items-Inv-loop enter-items-μ-loop
+enter-items-enter-requires t c κs = (
+  omega (arith, c .before .before .before .before .before .before .before .before .pre .0),
+  item-stands (turn t (c .before .before .before .before)) _ (c .before .before .before .is-full .ensures) (c .before .before .if1 .left) _
+      (c .under .ensures),
+)
 
-enter-items-enum-known-item : (t : ℕ) → enter-items-lts.Need-enum-known-item (enter-items-calls t) (enter-items-at t) enter-items.Post enter-items-Inv-loop enter-items-μ-loop
+enter-items-enum-known-item : (t : ℕ) → enter-items-lts.Need-enum-known-item (enter-items-calls t)
+    (enter-items-at t) enter-items.Post enter-items-Inv-loop enter-items-μ-loop
 enter-items-enum-known-item t c = search needs
 
-enter-items-enum-told : (t : ℕ) → enter-items-lts.Need-enum-told (enter-items-calls t) (enter-items-at t) enter-items.Post enter-items-Inv-loop enter-items-μ-loop
+enter-items-enum-told : (t : ℕ) → enter-items-lts.Need-enum-told (enter-items-calls t)
+    (enter-items-at t) enter-items.Post enter-items-Inv-loop enter-items-μ-loop
 enter-items-enum-told t c = search needs
 
-enter-items-same-length-2 : (t : ℕ) → enter-items-lts.Need-same-length-2 (enter-items-calls t) (enter-items-at t) enter-items.Post enter-items-Inv-loop enter-items-μ-loop
+enter-items-same-length-2 : (t : ℕ) → enter-items-lts.Need-same-length-2 (enter-items-calls t)
+    (enter-items-at t) enter-items.Post enter-items-Inv-loop enter-items-μ-loop
 enter-items-same-length-2 t c = search needs
 
-enter-items-returns-2 : (t : ℕ) → enter-items-lts.Need-returns-2 (enter-items-calls t) (enter-items-at t) enter-items.Post enter-items-Inv-loop enter-items-μ-loop
+enter-items-returns-2 : (t : ℕ) → enter-items-lts.Need-returns-2 (enter-items-calls t)
+    (enter-items-at t) enter-items.Post enter-items-Inv-loop enter-items-μ-loop
 enter-items-returns-2 t c =
     let at-enter = c .before .before .before .before in
     let q = c .enum-told .given .1 in
     (ahead-full _ _ _ _ _ _ q, at-enter .before .before .before .before .before .before .loop .inv .5 _ _ (none-turn (item-turn t at-enter) _ q))
 
-enter-items-cast-nameless : (t : ℕ) → enter-items-lts.Need-cast-nameless (enter-items-calls t) (enter-items-at t) enter-items.Post enter-items-Inv-loop enter-items-μ-loop
+enter-items-cast-nameless : (t : ℕ) → enter-items-lts.Need-cast-nameless (enter-items-calls t)
+    (enter-items-at t) enter-items.Post enter-items-Inv-loop enter-items-μ-loop
 enter-items-cast-nameless t c = omega (arith, item-far t (c .before .before))
 
-enter-items-cast-nameless-2 : (t : ℕ) → enter-items-lts.Need-cast-nameless-2 (enter-items-calls t) (enter-items-at t) enter-items.Post enter-items-Inv-loop enter-items-μ-loop
+enter-items-cast-nameless-2 : (t : ℕ) → enter-items-lts.Need-cast-nameless-2 (enter-items-calls t)
+    (enter-items-at t) enter-items.Post enter-items-Inv-loop enter-items-μ-loop
 enter-items-cast-nameless-2 t c = omega (arith, item-far t (c .before .before))
 
-enter-items-cast-nameless-3 : (t : ℕ) → enter-items-lts.Need-cast-nameless-3 (enter-items-calls t) (enter-items-at t) enter-items.Post enter-items-Inv-loop enter-items-μ-loop
+enter-items-cast-nameless-3 : (t : ℕ) → enter-items-lts.Need-cast-nameless-3 (enter-items-calls t)
+    (enter-items-at t) enter-items.Post enter-items-Inv-loop enter-items-μ-loop
 enter-items-cast-nameless-3 t c = omega (arith, item-far t (c .before .before))
 
-enter-items-nameless-requires : (t : ℕ) → enter-items-lts.Need-nameless-requires (enter-items-calls t) (enter-items-at t) enter-items.Post enter-items-Inv-loop enter-items-μ-loop
+enter-items-nameless-requires : (t : ℕ) → enter-items-lts.Need-nameless-requires (enter-items-calls t)
+    (enter-items-at t) enter-items.Post enter-items-Inv-loop enter-items-μ-loop
 enter-items-nameless-requires t c κs = search needs
 
-enter-items-put-requires : (t : ℕ) → enter-items-lts.Need-put-requires (enter-items-calls t) (enter-items-at t) enter-items.Post enter-items-Inv-loop enter-items-μ-loop
+enter-items-put-requires : (t : ℕ) → enter-items-lts.Need-put-requires (enter-items-calls t)
+    (enter-items-at t) enter-items.Post enter-items-Inv-loop enter-items-μ-loop
 enter-items-put-requires t c κs = put-room (item-turn t (c .before .before .before .before .before .before .before))
 
 enter-items-add-made : (t : ℕ) → enter-items-lts.Need-add-made (enter-items-calls t) (enter-items-at t) enter-items.Post enter-items-Inv-loop enter-items-μ-loop
 enter-items-add-made t c = omega (arith, item-far t (c .before .before .before .before .before .before))
 
-enter-items-add-made-2 : (t : ℕ) → enter-items-lts.Need-add-made-2 (enter-items-calls t) (enter-items-at t) enter-items.Post enter-items-Inv-loop enter-items-μ-loop
+enter-items-add-made-2 : (t : ℕ) → enter-items-lts.Need-add-made-2 (enter-items-calls t)
+    (enter-items-at t) enter-items.Post enter-items-Inv-loop enter-items-μ-loop
 enter-items-add-made-2 t c = omega (arith, item-far t (c .before .before .before .before .before .before))
 
 enter-items-add-own : (t : ℕ) → enter-items-lts.Need-add-own (enter-items-calls t) (enter-items-at t) enter-items.Post enter-items-Inv-loop enter-items-μ-loop
 enter-items-add-own t c = omega (arith, item-far t (c .before .before .before .before .before .before))
 
-enter-items-goes-on-requires : (t : ℕ) → enter-items-lts.Need-goes-on-requires (enter-items-calls t) (enter-items-at t) enter-items.Post enter-items-Inv-loop enter-items-μ-loop
+enter-items-goes-on-requires : (t : ℕ) → enter-items-lts.Need-goes-on-requires (enter-items-calls t)
+    (enter-items-at t) enter-items.Post enter-items-Inv-loop enter-items-μ-loop
 enter-items-goes-on-requires t c κs = search needs
 
 enter-items-add-t31 : (t : ℕ) → enter-items-lts.Need-add-t31 (enter-items-calls t) (enter-items-at t) enter-items.Post enter-items-Inv-loop enter-items-μ-loop
 enter-items-add-t31 t c = omega (arith, item-far t (c .before .before .before .before .before .before .before .before))
 
-enter-items-same-length-3 : (t : ℕ) → enter-items-lts.Need-same-length-3 (enter-items-calls t) (enter-items-at t) enter-items.Post enter-items-Inv-loop enter-items-μ-loop
+enter-items-same-length-3 : (t : ℕ) → enter-items-lts.Need-same-length-3 (enter-items-calls t)
+    (enter-items-at t) enter-items.Post enter-items-Inv-loop enter-items-μ-loop
 enter-items-same-length-3 t c =
     let at-put = c .before .before .before .before in
     let it = item-turn t (at-put .before .before .before .before .before .before .before .before) in
     at-put .put .kept .0 ∙ it .same ∙ it .turn .kept
 
-enter-items-returns-3 : (t : ℕ) → enter-items-lts.Need-returns-3 (enter-items-calls t) (enter-items-at t) enter-items.Post enter-items-Inv-loop enter-items-μ-loop
+enter-items-returns-3 : (t : ℕ) → enter-items-lts.Need-returns-3 (enter-items-calls t)
+    (enter-items-at t) enter-items.Post enter-items-Inv-loop enter-items-μ-loop
 enter-items-returns-3 t c =
     let at-put = c .before .before .before .before in
     let at-item = at-put .before .before .before .before in
@@ -266,22 +316,27 @@ enter-items-returns-3 t c =
     let q = at-item .item .given .1 in
     let last = sym (c .before .goes-on .ensures) ∙ not-true _ (c .if2 .taken) in (
       last-ahead it _ _ _ _ q,
-      at-enter .before .before .before .before .before .before .loop .inv .5 _ _ (last-turn it _ _ _ _ q _ (at-put .before .nameless .ensures) _ (at-put .put .ensures) last),
+      at-enter .before .before .before .before .before .before .loop .inv .5 _ _
+          (last-turn it _ _ _ _ q _ (at-put .before .nameless .ensures) _ (at-put .put .ensures) last),
     )
 
 enter-items-add-end : (t : ℕ) → enter-items-lts.Need-add-end (enter-items-calls t) (enter-items-at t) enter-items.Post enter-items-Inv-loop enter-items-μ-loop
 enter-items-add-end t c = omega (arith, item-far t (c .before .before .before .before .before .before .before .before))
 
-enter-items-end-requires : (t : ℕ) → enter-items-lts.Need-end-requires (enter-items-calls t) (enter-items-at t) enter-items.Post enter-items-Inv-loop enter-items-μ-loop
+enter-items-end-requires : (t : ℕ) → enter-items-lts.Need-end-requires (enter-items-calls t)
+    (enter-items-at t) enter-items.Post enter-items-Inv-loop enter-items-μ-loop
 enter-items-end-requires t c κs =
     let at-item = c .before .before .before .before .before .before .before .before in
     let s = at-item .before .before .before .before .before .before .before .before .before .before .before .before .before .args .s .now in
     omega (arith, stands-inside (bytes ",") s (at-item .item .given .0 .1 .0) (sym (c .before .goes-on .ensures) ∙ not-false _ (c .if2 .left)))
 
-enter-items-loop-less : (t : ℕ) → enter-items-lts.Need-loop-less (enter-items-calls t) (enter-items-at t) enter-items.Post enter-items-Inv-loop enter-items-μ-loop
-enter-items-loop-less t c = omega (arith, item-far t (c .before .before .before .before .before .before .before .before .before), c .end .ensures .1, c .end .ensures .2)
+enter-items-loop-less : (t : ℕ) → enter-items-lts.Need-loop-less (enter-items-calls t)
+    (enter-items-at t) enter-items.Post enter-items-Inv-loop enter-items-μ-loop
+enter-items-loop-less t c =
+    omega (arith, item-far t (c .before .before .before .before .before .before .before .before .before), c .end .ensures .1, c .end .ensures .2)
 
-enter-items-loop-again : (t : ℕ) → enter-items-lts.Need-loop-again (enter-items-calls t) (enter-items-at t) enter-items.Post enter-items-Inv-loop enter-items-μ-loop
+enter-items-loop-again : (t : ℕ) → enter-items-lts.Need-loop-again (enter-items-calls t)
+    (enter-items-at t) enter-items.Post enter-items-Inv-loop enter-items-μ-loop
 enter-items-loop-again t c =
     let at-put = c .before .before .before .before .before in
     let at-item = at-put .before .before .before .before in

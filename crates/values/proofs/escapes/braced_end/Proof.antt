@@ -26,7 +26,8 @@ returns : tie.Need-returns
 returns c =
     let at-end = c .before .before in
     let start = at-end .before .before in
-    λ quote. no-value _ _ _ _ _ _ (c .no-value .ensures) (omega arith) (braced-many quote _ (start .args .at) _ _ (at-end .end .ensures) (c .before .if1 .taken))
+    λ quote. no-value _ _ _ _ _ _ (c .no-value .ensures) (omega arith)
+    (braced-many quote _ (start .args .at) _ _ (at-end .end .ensures) (c .before .if1 .taken))
 
 cut-requires : tie.Need-cut-requires
 cut-requires c κs = search needs

@@ -36,7 +36,8 @@ returns-2 c =
     let at-if1 = c .before .before in
     let at-end = at-if1 .before in
     let start = at-end .before .before in
-    λ quote. no-value _ _ _ _ _ _ (c .no-value .ensures) (omega arith) (four-other quote _ (start .args .at) _ _ (at-end .end .ensures) (at-if1 .if1 .taken) (omega arith))
+    λ quote. no-value _ _ _ _ _ _ (c .no-value .ensures) (omega arith)
+    (four-other quote _ (start .args .at) _ _ (at-end .end .ensures) (at-if1 .if1 .taken) (omega arith))
 
 sub-spells-scalar : tie.Need-sub-spells-scalar
 sub-spells-scalar c = search needs

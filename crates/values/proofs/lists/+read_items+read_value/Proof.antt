@@ -94,10 +94,12 @@ read-value-calls t = (
 read-items-loop-holds : (t : ℕ) → read-items-lts.Need-loop-holds (read-items-calls t) (read-items-at t) read-items.Post read-items-Inv-loop read-items-μ-loop
 read-items-loop-holds t c = (omega arith, c .before .pre .1, refl)
 
-read-items-read-value-requires : (t : ℕ) → read-items-lts.Need-read-value-requires (read-items-calls t) (read-items-at t) read-items.Post read-items-Inv-loop read-items-μ-loop
+read-items-read-value-requires : (t : ℕ) → read-items-lts.Need-read-value-requires (read-items-calls t)
+    (read-items-at t) read-items.Post read-items-Inv-loop read-items-μ-loop
 read-items-read-value-requires t c κs = (omega (arith, c .before .before .pre .0), c .loop .inv .1)
 
-read-items-enum-known-item : (t : ℕ) → read-items-lts.Need-enum-known-item (read-items-calls t) (read-items-at t) read-items.Post read-items-Inv-loop read-items-μ-loop
+read-items-enum-known-item : (t : ℕ) → read-items-lts.Need-enum-known-item (read-items-calls t)
+    (read-items-at t) read-items.Post read-items-Inv-loop read-items-μ-loop
 read-items-enum-known-item t c = search needs
 
 read-items-enum-told : (t : ℕ) → read-items-lts.Need-enum-told (read-items-calls t) (read-items-at t) read-items.Post read-items-Inv-loop read-items-μ-loop
@@ -108,7 +110,8 @@ read-items-returns t c =
     let at-loop = c .before .before .before in
     moved (item-refused _ _ _ _ (c .before .before .read-value .ensures) _ _ (c .enum-told .given .1)) _ _ (at-loop .loop .inv .0) (at-loop .loop .inv .2)
 
-read-items-cut-requires : (t : ℕ) → read-items-lts.Need-cut-requires (read-items-calls t) (read-items-at t) read-items.Post read-items-Inv-loop read-items-μ-loop
+read-items-cut-requires : (t : ℕ) → read-items-lts.Need-cut-requires (read-items-calls t)
+    (read-items-at t) read-items.Post read-items-Inv-loop read-items-μ-loop
 read-items-cut-requires t c κs = search needs
 
 read-items-returns-2 : (t : ℕ) → read-items-lts.Need-returns-2 (read-items-calls t) (read-items-at t) read-items.Post read-items-Inv-loop read-items-μ-loop
@@ -118,7 +121,8 @@ read-items-returns-2 t c =
     moved (item-cut _ _ _ _ (at-item .before .before .read-value .ensures) _ _ (at-item .item .given .1) _ (c .cut .ensures) (c .before .if1 .taken))
     _ _ (at-loop .loop .inv .0) (at-loop .loop .inv .2)
 
-read-items-closes-requires : (t : ℕ) → read-items-lts.Need-closes-requires (read-items-calls t) (read-items-at t) read-items.Post read-items-Inv-loop read-items-μ-loop
+read-items-closes-requires : (t : ℕ) → read-items-lts.Need-closes-requires (read-items-calls t)
+    (read-items-at t) read-items.Post read-items-Inv-loop read-items-μ-loop
 read-items-closes-requires t c κs = search needs
 
 read-items-add-t11 : (t : ℕ) → read-items-lts.Need-add-t11 (read-items-calls t) (read-items-at t) read-items.Post read-items-Inv-loop read-items-μ-loop
@@ -131,10 +135,12 @@ read-items-returns-3 t c =
     moved (item-last _ _ _ _ (at-item .before .before .read-value .ensures) _ _ (at-item .item .given .1) (sym (c .before .closes .ensures) ∙ c .if2 .taken))
     _ _ (at-loop .loop .inv .0) (at-loop .loop .inv .2)
 
-read-items-goes-on-requires : (t : ℕ) → read-items-lts.Need-goes-on-requires (read-items-calls t) (read-items-at t) read-items.Post read-items-Inv-loop read-items-μ-loop
+read-items-goes-on-requires : (t : ℕ) → read-items-lts.Need-goes-on-requires (read-items-calls t)
+    (read-items-at t) read-items.Post read-items-Inv-loop read-items-μ-loop
 read-items-goes-on-requires t c κs = search needs
 
-read-items-no-value-requires : (t : ℕ) → read-items-lts.Need-no-value-requires (read-items-calls t) (read-items-at t) read-items.Post read-items-Inv-loop read-items-μ-loop
+read-items-no-value-requires : (t : ℕ) → read-items-lts.Need-no-value-requires (read-items-calls t)
+    (read-items-at t) read-items.Post read-items-Inv-loop read-items-μ-loop
 read-items-no-value-requires t c κs = search needs
 
 read-items-returns-4 : (t : ℕ) → read-items-lts.Need-returns-4 (read-items-calls t) (read-items-at t) read-items.Post read-items-Inv-loop read-items-μ-loop
@@ -143,13 +149,15 @@ read-items-returns-4 t c =
     let at-item = at-closes .before .before .before in
     let at-loop = at-item .before .before .before in
     moved (item-wrong _ _ _ _ (at-item .before .before .read-value .ensures) _ _ (at-item .item .given .1) (omega (arith, at-closes .before .if1 .left))
-    (sym (at-closes .closes .ensures) ∙ c .before .before .before .if2 .left) (sym (c .before .before .goes-on .ensures) ∙ not-true _ (c .before .if3 .taken)) _ (c .no-value .ensures))
+    (sym (at-closes .closes .ensures) ∙ c .before .before .before .if2 .left)
+    (sym (c .before .before .goes-on .ensures) ∙ not-true _ (c .before .if3 .taken)) _ (c .no-value .ensures))
     _ _ (at-loop .loop .inv .0) (at-loop .loop .inv .2)
 
 read-items-add-end : (t : ℕ) → read-items-lts.Need-add-end (read-items-calls t) (read-items-at t) read-items.Post read-items-Inv-loop read-items-μ-loop
 read-items-add-end t c = search needs
 
-read-items-end-requires : (t : ℕ) → read-items-lts.Need-end-requires (read-items-calls t) (read-items-at t) read-items.Post read-items-Inv-loop read-items-μ-loop
+read-items-end-requires : (t : ℕ) → read-items-lts.Need-end-requires (read-items-calls t)
+    (read-items-at t) read-items.Post read-items-Inv-loop read-items-μ-loop
 read-items-end-requires t c κs = search needs
 
 read-items-loop-less : (t : ℕ) → read-items-lts.Need-loop-less (read-items-calls t) (read-items-at t) read-items.Post read-items-Inv-loop read-items-μ-loop
@@ -164,14 +172,20 @@ read-items-loop-again t c =
     let inv = at-read .before .loop .inv in (
       omega (arith, inv .0, at-read .read-value .ensures .ahead _ _ (at-item .item .given .1), c .end .ensures .1),
       c .end .ensures .2,
-      sym (item-next _ _ _ _ (at-read .read-value .ensures) _ _ (at-item .item .given .1) (sym (c .before .before .goes-on .ensures) ∙ not-false _ (c .before .if3 .left)) _ (c .end .ensures)) ∙ inv .2,
+      sym (item-next _ _ _ _ (at-read .read-value .ensures) _ _ (at-item .item .given .1)
+          (sym (c .before .before .goes-on .ensures) ∙ not-false _ (c .before .if3 .left)) _ (c .end .ensures)) ∙ inv .2,
     )
 
 -- ---- one value
 
-opened : (t : ℕ) (c : read-value-lts.After-fewer (read-value-calls t) (read-value-at t) read-value.Post) → Opened (c .before .before .before .before .before .before .args .s .now) (c .before .before .before .before .before .before .args .at) (c .before .before .before .before .before .before .args .nesting .left) (c .fewer .given .0 .0 .left)
+opened : (t : ℕ) (c : read-value-lts.After-fewer (read-value-calls t) (read-value-at t) read-value.Post)
+    → (let top = c .before .before .before .before .before .before in
+    Opened (top .args .s .now) (top .args .at) (top .args .nesting .left) (c .fewer .given .0 .0 .left))
 opened t c =
-    record { opens = sym (c .before .before .before .before .opens .ensures) ∙ not-false _ (c .before .before .before .if1 .left); deeper = one-less _ _ (c .before .before .step .ensures) _ (c .fewer .given .1) }
+    record {
+      opens = sym (c .before .before .before .before .opens .ensures) ∙ not-false _ (c .before .before .before .if1 .left);
+      deeper = one-less _ _ (c .before .before .step .ensures) _ (c .fewer .given .1);
+    }
 
 read-value-opens-requires : (t : ℕ) → read-value-lts.Need-opens-requires (read-value-calls t) (read-value-at t) read-value.Post
 read-value-opens-requires t c κs = search needs
@@ -193,28 +207,46 @@ read-value-enum-told t c = search needs
 
 read-value-returns-2 : (t : ℕ) → read-value-lts.Need-returns-2 (read-value-calls t) (read-value-at t) read-value.Post
 read-value-returns-2 t c =
-    deep-value _ _ _ _ (c .before .before .before .before .before .before .pre .1) (sym (c .before .before .before .before .opens .ensures) ∙ not-false _ (c .before .before .before .if1 .left)) (no-less _ _ (c .before .before .step .ensures) (c .enum-told .given .1))
+    deep-value _ _ _ _ (c .before .before .before .before .before .before .pre .1)
+    (sym (c .before .before .before .before .opens .ensures) ∙ not-false _ (c .before .before .before .if1 .left))
+    (no-less _ _ (c .before .before .step .ensures) (c .enum-told .given .1))
 
 read-value-add-first : (t : ℕ) → read-value-lts.Need-add-first (read-value-calls t) (read-value-at t) read-value.Post
 read-value-add-first t c =
-    omega (arith, stands-inside (bytes "[") (c .before .before .before .before .before .before .before .args .s .now) (c .before .before .before .before .before .before .before .args .at) (opened t (c .before) .opens))
+    omega (
+      arith,
+      stands-inside (bytes "[") (c .before .before .before .before .before .before .before .args .s .now)
+          (c .before .before .before .before .before .before .before .args .at) (opened t (c .before) .opens),
+    )
 
 read-value-closes-requires : (t : ℕ) → read-value-lts.Need-closes-requires (read-value-calls t) (read-value-at t) read-value.Post
 read-value-closes-requires t c κs = search needs
 
 read-value-add-t12 : (t : ℕ) → read-value-lts.Need-add-t12 (read-value-calls t) (read-value-at t) read-value.Post
-read-value-add-t12 t c = omega (arith, stands-inside (bytes "]") (c .before .before .before .before .before .before .before .before .before .args .s .now) (c .before .before .before .before .before .before .before .before .before .args .at + 1) (sym (c .before .closes .ensures) ∙ c .if2 .taken))
+read-value-add-t12 t c =
+    omega (
+      arith,
+      stands-inside (bytes "]") (c .before .before .before .before .before .before .before .before .before .args .s .now)
+          (c .before .before .before .before .before .before .before .before .before .args .at + 1) (sym (c .before .closes .ensures) ∙ c .if2 .taken),
+    )
 
 read-value-returns-3 : (t : ℕ) → read-value-lts.Need-returns-3 (read-value-calls t) (read-value-at t) read-value.Post
 read-value-returns-3 t c = empty-value _ _ _ _ _ (opened t (c .before .before .before)) (sym (c .before .closes .ensures) ∙ c .if2 .taken)
 
 read-value-read-items-requires : (t : ℕ) → read-value-lts.Need-read-items-requires (read-value-calls t) (read-value-at t) read-value.Post
 read-value-read-items-requires t c κs =
-    let o = opened t (c .before .before .before) in
-    (fewer-falls _ _ _ (o .deeper) (c .before .before .before .before .before .before .before .before .before .pre .0), omega (arith, stands-inside (bytes "[") (c .before .before .before .before .before .before .before .before .before .args .s .now) (c .before .before .before .before .before .before .before .before .before .args .at) (o .opens)))
+    let o = opened t (c .before .before .before) in (
+      fewer-falls _ _ _ (o .deeper) (c .before .before .before .before .before .before .before .before .before .pre .0),
+      omega (
+        arith,
+        stands-inside (bytes "[") (c .before .before .before .before .before .before .before .before .before .args .s .now)
+            (c .before .before .before .before .before .before .before .before .before .args .at) (o .opens),
+      ),
+    )
 
 read-value-returns-4 : (t : ℕ) → read-value-lts.Need-returns-4 (read-value-calls t) (read-value-at t) read-value.Post
-read-value-returns-4 t c = list-value _ _ _ _ _ (opened t (c .before .before .before .before)) (sym (c .before .before .closes .ensures) ∙ c .before .if2 .left) _ (c .read-items .ensures)
+read-value-returns-4 t c = list-value _ _ _ _ _ (opened t (c .before .before .before .before))
+    (sym (c .before .before .closes .ensures) ∙ c .before .if2 .left) _ (c .read-items .ensures)
 
 pub +read-items+read-value-spec : {M : Type 1} → statement M
 +read-items+read-value-spec = close μ-read-items μ-read-value (λ t. read-items-lts.spec (read-items-calls t)

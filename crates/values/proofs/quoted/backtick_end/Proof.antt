@@ -49,8 +49,11 @@ loop-again : tie.Need-loop-again Inv-loop μ-loop
 loop-again c =
     let at-if1 = c .before .before .before in
     let at-loop-test = at-if1 .before .before in
-    let at-loop = at-loop-test .before in
-    (omega arith, λ r e. at-loop .loop .inv .1 r (backtick-escaped _ _ (at-loop-test .loop-test .taken) (at-if1 .if1 .left) (sym (c .before .starts-with .ensures) ∙ c .if2 .taken) e))
+    let at-loop = at-loop-test .before in (
+      omega arith,
+      λ r e. at-loop .loop .inv .1 r (backtick-escaped _ _ (at-loop-test .loop-test .taken) (at-if1 .if1 .left)
+          (sym (c .before .starts-with .ensures) ∙ c .if2 .taken) e),
+    )
 
 add-i-2 : tie.Need-add-i-2 Inv-loop μ-loop
 add-i-2 c = search needs
@@ -62,8 +65,11 @@ loop-again-2 : tie.Need-loop-again-2 Inv-loop μ-loop
 loop-again-2 c =
     let at-if1 = c .before .before .before in
     let at-loop-test = at-if1 .before .before in
-    let at-loop = at-loop-test .before in
-    (omega arith, λ r e. at-loop .loop .inv .1 r (backtick-itself _ _ (at-loop-test .loop-test .taken) (at-if1 .if1 .left) (sym (c .before .starts-with .ensures) ∙ c .if2 .left) e))
+    let at-loop = at-loop-test .before in (
+      omega arith,
+      λ r e. at-loop .loop .inv .1 r (backtick-itself _ _ (at-loop-test .loop-test .taken) (at-if1 .if1 .left)
+          (sym (c .before .starts-with .ensures) ∙ c .if2 .left) e),
+    )
 
 cut-requires : tie.Need-cut-requires Inv-loop μ-loop
 cut-requires c κs = search needs

@@ -74,7 +74,8 @@ returns-5 c =
     let at-escape-end = at-escape .before .before in
     let at-match = at-escape-end .before in
     let at-if1 = at-match .before .before in
-    character-escaped _ _ (at-if1 .if1 .left) (at-match .match .keys2) _ (at-escape-end .escape-end .ensures) _ _ (at-escape .escape .given .1) (c .closing-quote .ensures)
+    character-escaped _ _ (at-if1 .if1 .left) (at-match .match .keys2) _ (at-escape-end .escape-end .ensures) _ _ (at-escape .escape .given .1)
+    (c .closing-quote .ensures)
 
 returns-6 : tie.Need-returns-6
 returns-6 c =

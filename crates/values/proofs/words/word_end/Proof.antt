@@ -36,8 +36,12 @@ loop-less c = search needs
 loop-again : tie.Need-loop-again Inv-loop μ-loop
 loop-again c =
     let at-loop-test = c .before .before in
-    let at-loop = at-loop-test .before in
-    (omega arith, omega arith, sym (word-turns _ _ _ (at-loop-test .loop-test .taken) (sym (c .before .ends-word .ensures) ∙ c .if1 .left)) ∙ at-loop .loop .inv .2)
+    let at-loop = at-loop-test .before in (
+      omega arith,
+      omega arith,
+      sym (word-turns _ _ _ (at-loop-test .loop-test .taken) (sym (c .before .ends-word .ensures) ∙ c .if1 .left))
+          ∙ at-loop .loop .inv .2,
+    )
 
 returns-2 : tie.Need-returns-2 Inv-loop μ-loop
 returns-2 c = (sym (word-out _ _ _ (c .loop-test .left)) ∙ c .before .loop .inv .2, omega arith, omega arith)
