@@ -4,15 +4,15 @@ use crate::brackets::Around;
 use crate::brackets::closes;
 use crate::brackets::goes_on;
 use crate::brackets::opens;
-use crate::forms::LIST;
 use crate::judged::Judged;
 use crate::leaves::read_leaf;
 use crate::nesting::Deeper;
 use crate::nesting::Nesting;
-use entries::ITEM;
 use entries::Slot;
 use entries::nameless;
 use entries::put;
+use paper::forms;
+use paper::kinds;
 use text::runs;
 use text::runs::Class;
 ghost use mathlib.Core.Path.{_≡_};
@@ -76,7 +76,7 @@ fn enter(
     let first = at + 1;
     if closes(s, first) {
         return Entered::Items {
-            form: LIST,
+            form: forms::LIST,
             end: first + 1,
             made: 0,
             own: 0,
@@ -127,13 +127,20 @@ fn enter_items(s: &[u8], at: usize, nesting: Nesting, cells: &mut [u32], slot: S
         put(
             cells,
             n,
-            nameless(ITEM, form, slot.parent, count as u32, i as u32, end as u32),
+            nameless(
+                kinds::ITEM,
+                form,
+                slot.parent,
+                count as u32,
+                i as u32,
+                end as u32,
+            ),
         );
         made += 1 + inside;
         own += 1;
         if !goes_on(s, end) {
             return Entered::Items {
-                form: LIST,
+                form: forms::LIST,
                 end: end + 1,
                 made,
                 own,

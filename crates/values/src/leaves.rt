@@ -1,11 +1,11 @@
 // Values that are no lists, by their first byte.
 // Document 01, "The grammar", Values.
 use crate::brackets::Around;
-use crate::forms;
 use crate::judged;
 use crate::judged::Judged;
 use crate::quoted;
 use crate::words;
+use paper::forms;
 ghost use Prim.Native.Nat.{_≤_};
 ghost use lib.ListN.{length};
 ghost use Rattle.paper.specs.Values.{leafForm};

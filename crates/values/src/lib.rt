@@ -3,7 +3,6 @@
 mod brackets;
 pub mod entering;
 mod escapes;
-pub mod forms;
 mod iris;
 pub mod judged;
 mod leaves;

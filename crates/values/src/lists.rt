@@ -4,7 +4,6 @@ use crate::brackets::Around;
 use crate::brackets::closes;
 use crate::brackets::goes_on;
 use crate::brackets::opens;
-use crate::forms::LIST;
 use crate::judged::Judged;
 use crate::judged::cut;
 use crate::judged::no_value;
@@ -12,6 +11,7 @@ use crate::leaves::read_leaf;
 use crate::nesting::Deeper;
 use crate::nesting::Nesting;
 use paper::Refusal;
+use paper::forms;
 use text::runs;
 use text::runs::Class;
 ghost use Prim.Native.Nat.{_≤_};
@@ -54,7 +54,7 @@ fn read_value(s: &[u8], at: usize, nesting: Nesting, around: Around) -> Judged
     let first = at + 1;
     if closes(s, first) {
         return Judged::Found {
-            form: LIST,
+            form: forms::LIST,
             end: first + 1,
         };
     }
@@ -77,7 +77,7 @@ fn read_items(s: &[u8], at: usize, nesting: Nesting) -> Judged
         }
         if closes(s, end) {
             return Judged::Found {
-                form: LIST,
+                form: forms::LIST,
                 end: end + 1,
             };
         }
