@@ -1,4 +1,4 @@
--- One trait: where the entries of a value's items start, and a law for each way out of `value_end`, `enter_trait` and `read_trait` (src/traits.rt).
+-- One trait: where the entries of a value's items start, and a law for each way out of `enter_trait` and `read_trait` (src/traits.rt).
 -- Over plain lists. Assumes nothing.
 use Prim.Native.Nat.{ℕ, zero, suc, _+_, _-_, _≤_, _<_}
 use mathlib.Core.Path.{_≡_, refl, sym, ap, _∙_}
@@ -15,50 +15,32 @@ use Rattle.paper.specs.Found.{Found, found, fault, andThen, placeIn}
 use Rattle.paper.specs.Limits.{sheetLimit, entryLimit, listLimit}
 use Rattle.paper.specs.Values.{Value, leaf, emptyList, list, More, close, comma, valueOnto, moreOnto, valueForm}
 use Rattle.paper.specs.Tree.{Trait}
-use Rattle.paper.specs.ReadingValues.{valueOf, wholeValue}
+use Rattle.paper.specs.ReadingValues.{wholeValue}
 use Rattle.paper.specs.Entries.{Entry, valueWidth, itemsOf, itemSize, itemEntry, itemEntries, moreEntries, traitSize}
 use Rattle.paper.specs.Reading.{enters, name, due, trait, bounds}
 use Rattle.paper.specs.Bytes.{byte}
 use Rattle.paper.specs.Names.{isTraitName}
 use Rattle.paper.proofs.Tests.{upTo}
 use Rattle.paper.proofs.Sizes.{item-size}
-use Rattle.paper.proofs.ReadValues.{ReadValue, value-length, whole-fault, whole-found, whole-reads}
+use Rattle.paper.proofs.ReadValues.{ReadValue, value-length, whole-reads}
 use Rattle.paper.proofs.Markers.{enters-complete}
 use Rattle.text.proofs.Places.{place-back}
 use Rattle.entries.specs.Laid.{lay, slotUnder, Fits}
 use Rattle.entries.specs.declared.Slot.{Slot}
 use Rattle.entries.proofs.Laying.{lay-before}
 use Rattle.entries.proofs.Slots.{fits-under}
-use Rattle.values.specs.declared.read.Read.{Read as Whole}
+use Rattle.values.specs.declared.judged.Judged.{Judged}
 use Rattle.values.specs.declared.entering.Entered.{Entered}
 use Rattle.values.specs.declared.entering.Entered.the-variants.{Items, Full}
-use Rattle.values.specs.Seen.{Seen as WholeSeen, seen as whole-seen, seenOf as whole-of, Reading}
-use Rattle.values.specs.Entering.{Stands, leftOf, firstOver, Ahead, Enters}
+use Rattle.values.specs.Shown.{Shown, shown, shownOf, Judges}
+use Rattle.values.specs.Entering.{Ready, leftOf, firstOver, Ahead, Enters}
+use Rattle.values.proofs.Showing.{stands}
 use Rattle.lines.specs.Parts.{Seen, seen, passed, Makes, In}
 use Rattle.lines.specs.declared.part.Part.{Part}
 use Rattle.lines.specs.declared.part.Part.the-variants.{Read, Refused}
-use Rattle.lines.proofs.Crossing.{found-at, makes-refused, makes-passed, makes-read}
+use Rattle.lines.proofs.Crossing.{makes-refused, makes-passed, makes-read}
 use Rattle.lines.proofs.ReadAt.{DueAt, NameAt}
-use Rattle.sheets.specs.Traits.{valueIn, oneTrait}
-
--- ---- a value's answer as that of a part, without its form
-
-abbrev formless : WholeSeen → Seen
-formless y = record { number = y .number; place = y .place; made = 0; own = 0 }
-
-module _ {A : Type 0} (form : A → ℕ) (s : List ℕ) (at : ℕ) (x : Found A) (read : Whole) (h : Reading form s at x read) (r : Part) where
-  as-passed : formless (whole-seen read) ≡ passed s x
-  as-passed = ap formless (h .same) ∙ go x
-    where
-      go : (x : Found A) → formless (whole-of form s x) ≡ passed s x
-      go (found a left) = refl
-      go (fault n left) = refl
-
-  pub part-found : (f end : ℕ) → read ≡ Whole.Found f end → r ≡ Read end 0 0 → seen r ≡ passed s x
-  part-found f end q e = ap seen e ∙ ap (λ (y : Whole). formless (whole-seen y)) (sym q) ∙ as-passed
-
-  pub part-refused : (why : Refusal) (place : ℕ) → read ≡ Whole.Refused why place → r ≡ Refused why place → seen r ≡ passed s x
-  part-refused why place q e = ap seen e ∙ ap (λ (y : Whole). formless (whole-seen y)) (sym q) ∙ as-passed
+use Rattle.sheets.specs.Traits.{valueIn, MakesTrait, MakesValued}
 
 -- ---- where the entries of a value's items start
 
@@ -71,7 +53,8 @@ moved-append : (by bound : ℕ) {es fs gs hs : List Entry} → Moved by bound es
 moved-append by bound none m = m
 moved-append by bound (one e f s l k) m = one e f s l (moved-append by bound k m)
 
-moved-first : (by bound : ℕ) {es fs : List Entry} (n : ℕ) → Moved by bound es fs → n < length es → (firstOver n es ≡ by + firstOver n fs) × (firstOver n es ≤ bound)
+moved-first : (by bound : ℕ) {es fs : List Entry} (n : ℕ) → Moved by bound es fs → n < length es → (firstOver n es ≡ by + firstOver n fs)
+    × (firstOver n es ≤ bound)
 moved-first by bound n none h = absurd (omega arith)
 moved-first by bound zero (one e f s l m) h = (s, l)
 moved-first by bound (suc n) (one e f s l m) h = moved-first by bound n m (omega arith)
@@ -79,53 +62,60 @@ moved-first by bound (suc n) (one e f s l m) h = moved-first by bound n m (omega
 mutual
   unfolding itemEntries valueOnto
 
-  item-moved : (v : Value) (by bound parent next at owner other from : ℕ) → at ≡ by + from → at + valueWidth v ≤ bound → Moved by bound (itemEntries parent next at v) (itemEntries owner other from v)
+  item-moved : (v : Value) (by bound parent next at owner other from : ℕ) → at ≡ by + from → at + valueWidth v ≤ bound
+      → Moved by bound (itemEntries parent next at v) (itemEntries owner other from v)
   item-moved (leaf v) by bound parent next at owner other from e h = none
   item-moved emptyList by bound parent next at owner other from e h = none
   item-moved (list v more) by bound parent next at owner other from e h =
       let n = value-length v (moreOnto more []) in
       one (itemEntry parent (at + 1) v) (itemEntry owner (from + 1) v) (omega arith) (omega arith)
       (moved-append by bound (item-moved v by bound next (next + 1) (at + 1) other (other + 1) (from + 1) (omega arith) (omega arith))
-      (more-moved more by bound parent (next + 1 + itemSize v) (at + 1 + valueWidth v) owner (other + 1 + itemSize v) (from + 1 + valueWidth v) (omega arith) (omega arith)))
+      (more-moved more by bound parent (next + 1 + itemSize v) (at + 1 + valueWidth v) owner (other + 1 + itemSize v) (from + 1 + valueWidth v) (omega arith)
+      (omega arith)))
 
-  more-moved : (more : More) (by bound parent next at owner other from : ℕ) → at ≡ by + from → at + length (moreOnto more []) ≤ bound → Moved by bound (moreEntries parent next at more) (moreEntries owner other from more)
+  more-moved : (more : More) (by bound parent next at owner other from : ℕ) → at ≡ by + from → at + length (moreOnto more []) ≤ bound
+      → Moved by bound (moreEntries parent next at more) (moreEntries owner other from more)
   more-moved close by bound parent next at owner other from e h = none
   more-moved (comma white v more) by bound parent next at owner other from e h =
       let n = value-length v (moreOnto more []) in
       let m = length-append white (valueOnto v (moreOnto more [])) in
       one (itemEntry parent (at + 1 + length white) v) (itemEntry owner (from + 1 + length white) v) (omega arith) (omega arith)
-      (moved-append by bound (item-moved v by bound next (next + 1) (at + 1 + length white) other (other + 1) (from + 1 + length white) (omega arith) (omega arith))
-      (more-moved more by bound parent (next + 1 + itemSize v) (at + 1 + length white + valueWidth v) owner (other + 1 + itemSize v) (from + 1 + length white + valueWidth v) (omega arith) (omega arith)))
+      (moved-append by bound (item-moved v by bound next (next + 1) (at + 1 + length white) other (other + 1) (from + 1 + length white) (omega arith)
+      (omega arith))
+      (more-moved more by bound parent (next + 1 + itemSize v) (at + 1 + length white + valueWidth v) owner (other + 1 + itemSize v)
+      (from + 1 + length white + valueWidth v) (omega arith) (omega arith)))
 
 -- ---- a whole value that stands at a place
+
+abbrev formless : Shown → Seen
+formless y = record { number = y .number; place = y .place; made = 0; own = 0 }
 
 pub record ValueAt (s : List ℕ) (at : ℕ) : Type 0 where
   pub it : Value
   pub end : ℕ
   pub whole : wholeValue listLimit (drop at s) ≡ found it (drop end s)
-  pub reads : valueOf listLimit [] (drop at s) ≡ found it (drop end s)
   pub wide : end ≡ at + valueWidth it
   pub inside : end ≤ length s
 
--- what is found of a whole value is what is found of the value
-value-found : (lists : ℕ) (s : List ℕ) (v : Value) (left : List ℕ) → wholeValue lists s ≡ found v left → valueOf lists [] s ≡ found v left
-value-found lists s v left e = go (valueOf lists [] s) refl
-  where
-    go : (x : Found Value) → valueOf lists [] s ≡ x → x ≡ found v left
-    go (found u end) q = sym (whole-found lists s u end q) ∙ e
-    go (fault n end) q = let f = sym (whole-fault lists s n end q) ∙ e in let z : _≡_ {A = ℕ} 0 1 = cc in absurd (omega arith)
+module _ {s : List ℕ} {at : ℕ} {value : Judged} (h : Judges valueForm s at (wholeValue listLimit (drop at s)) value) where
+  pub value-at : (form end : ℕ) → value ≡ Judged.Found form end → ValueAt s at
+  value-at form end q =
+      let f = stands h (ReadValue listLimit [] (drop at s)) (whole-reads listLimit (drop at s)) form end q in
+      record {
+        it = f .it;
+        end = end;
+        whole = f .finds;
+        wide = omega (arith, ap length (f .holds .covers), value-length (f .it) (drop end s), length-drop at s, length-drop end s, f .inside, f .ahead);
+        inside = f .inside;
+      }
 
-pub value-at : (s : List ℕ) (at : ℕ) (r : Part) (end made mine : ℕ) → at ≤ length s → seen r ≡ passed s (wholeValue listLimit (drop at s)) → r ≡ Read end made mine → ValueAt s at
-value-at s at r end made mine h e q =
-    let f = found-at (λ v. 0) (λ v. 0) s r (ReadValue listLimit [] (drop at s)) at (wholeValue listLimit (drop at s)) end made mine e (whole-reads listLimit (drop at s)) h q in
-    record {
-      it = f .it;
-      end = end;
-      whole = f .finds;
-      reads = value-found listLimit (drop at s) (f .it) (drop end s) (f .finds);
-      wide = omega (arith, ap length (f .holds .covers), value-length (f .it) (drop end s), length-drop at s, length-drop end s, f .inside, f .ahead);
-      inside = f .inside;
-    }
+  -- a value's refusal as that of a part
+  value-passed : {why : Refusal} {place : ℕ} → value ≡ Judged.Refused why place → seen (Refused why place) ≡ passed s (wholeValue listLimit (drop at s))
+  value-passed {why} {place} q = ap (λ (y : Judged). formless (shown y)) (sym q) ∙ ap formless (h .same) ∙ go (wholeValue listLimit (drop at s))
+    where
+      go : (x : Found Value) → formless (shownOf valueForm s x) ≡ passed s x
+      go (found v left) = refl
+      go (fault n left) = refl
 
 -- ---- the room for a trait and its items
 
@@ -136,7 +126,8 @@ module _ (room : ℕ) (named valued : List ℕ) (t : Trait) (left : List ℕ) wh
   no-room z = rw (lt-leb (traitSize t) room (omega arith), enters, z)
 
   -- one is left for the trait, but not for all items
-  few-room : (items : ℕ) → room ≡ suc items → items < itemSize (t .value) → enters room named valued t left ≡ fault 11 (drop (firstOver items (itemEntries 0 0 0 (t .value))) valued)
+  few-room : (items : ℕ) → room ≡ suc items → items < itemSize (t .value)
+      → enters room named valued t left ≡ fault 11 (drop (firstOver items (itemEntries 0 0 0 (t .value))) valued)
   unfolding enters
   few-room items e h = rw (lt-leb (traitSize t) room (omega arith), enters, e)
 
@@ -148,8 +139,8 @@ pub record Far (end made own : ℕ) : Type 0 where
   pub few : made ≤ entryLimit
   pub owned : own ≤ made
 
-module _ {s : List ℕ} {at : ℕ} (place : In s at) {cells : List ℕ} {slot : Slot} (fits : Fits cells slot) {under : Slot} (u : under ≡ slotUnder slot) {lists : ℕ} (l : lists ≡ listLimit) where
-  pub items-stand : {o : Bool} → o ≡ leb (slot .room) (slot .next) → o ≡ false → Stands s at lists cells under
+module _ {s : List ℕ} {at : ℕ} (place : In s at) {cells : List ℕ} {slot : Slot} (fits : Fits cells slot) {under : Slot} (u : under ≡ slotUnder slot) where
+  pub items-stand : {o : Bool} → o ≡ leb (slot .room) (slot .next) → o ≡ false → Ready s at listLimit cells under
   items-stand asked f =
       rw u (record {
         place = place .inside;
@@ -158,7 +149,7 @@ module _ {s : List ℕ} {at : ℕ} (place : In s at) {cells : List ℕ} {slot : 
         fits = fits-under fits asked f refl;
       })
 
-  pub far-end : {items : Entered} → Ahead s at lists (leftOf under) items → {form end made own : ℕ} → items ≡ Items form end made own → Far end made own
+  pub far-end : {items : Entered} → Ahead s at listLimit (leftOf under) items → {form end made own : ℕ} → items ≡ Items form end made own → Far end made own
   far-end h {form} {end} {made} {own} q =
       let f = h .far form end made own q in
       let n : leftOf under ≡ leftOf (slotUnder slot) = ap leftOf u in
@@ -166,16 +157,19 @@ module _ {s : List ℕ} {at : ℕ} (place : In s at) {cells : List ℕ} {slot : 
 
 -- ---- a trait whose name stands between two places
 
-module _ {s : List ℕ} {from to : ℕ} (place : In s (to + 1)) (between : from ≤ to) {cells : List ℕ} {slot : Slot} (fits : Fits cells slot) (white w : List ℕ) where
+module _ {s : List ℕ} {from to : ℕ} (place : In s (to + 1)) (between : from ≤ to) {cells : List ℕ} {slot : Slot} (fits : Fits cells slot)
+    (white w : List ℕ) where
   abbrev Made : Part → List ℕ → Type 0
-  Made r after = Makes traitSize (λ t. 1) (oneTrait (slot .parent) (slot .next) from) s cells (slot .next) (valueIn (leftOf slot) (drop from s) white w (drop (to + 1) s)) r after
+  Made r after = MakesTrait s from cells slot (valueIn (leftOf slot) (drop from s) white w (drop (to + 1) s)) r after
 
   -- what the trait makes of its value
   abbrev of-value : Found Value → Found Trait
   of-value x = andThen x (λ v left. enters (leftOf slot) (drop from s) (drop (to + 1) s) (record { white = white; name = w; value = v }) left)
 
-  pub trait-refused : (r : Part) → seen r ≡ passed s (wholeValue listLimit (drop (to + 1) s)) → {why : Refusal} {at : ℕ} → r ≡ Refused why at → Made r cells
-  trait-refused r e {why} {at} q = makes-passed _ _ _ _ _ _ _ r cells (λ v. 0) (λ v. 0) of-value (λ k left. refl) (wholeValue listLimit (drop (to + 1) s)) why at e q refl
+  pub trait-refused : {value : Judged} → Judges valueForm s (to + 1) (wholeValue listLimit (drop (to + 1) s)) value → {why : Refusal} {at : ℕ}
+      → value ≡ Judged.Refused why at → {r : Part} → r ≡ Refused why at → Made r cells
+  trait-refused h {why} {at} q {r} e = makes-passed _ _ _ _ _ _ _ r cells (λ v. 0) (λ v. 0) of-value (λ k left. refl)
+      (wholeValue listLimit (drop (to + 1) s)) why at (ap seen e ∙ value-passed h q) e refl
 
   module _ (value : ValueAt s (to + 1)) {o : Bool} (asked : o ≡ leb (slot .room) (slot .next)) where
     abbrev it : Trait
@@ -185,39 +179,46 @@ module _ {s : List ℕ} {from to : ℕ} (place : In s (to + 1)) (between : from 
     by-value = ap of-value (value .whole)
 
     pub trait-full : o ≡ true → {r : Part} → r ≡ Refused NoEntryLeft from → Made r cells
-    trait-full t {r} q = makes-refused _ _ _ _ _ _ _ r cells NoEntryLeft from q (omega (arith, place .inside)) (by-value ∙ no-room _ _ _ it _ (omega (arith, leb-true (slot .room) (slot .next) (sym asked ∙ t))))
+    trait-full t {r} q = makes-refused _ _ _ _ _ _ _ r cells NoEntryLeft from q (omega (arith, place .inside))
+        (by-value ∙ no-room _ _ _ it _ (omega (arith, leb-true (slot .room) (slot .next) (sym asked ∙ t))))
 
-    module _ (f : o ≡ false) {under : Slot} (u : under ≡ slotUnder slot) {lists : ℕ} (l : lists ≡ listLimit) {items : Entered} {mid : List ℕ} (h : Enters s (to + 1) cells under (valueOf lists [] (drop (to + 1) s)) items mid) where
+    module _ (f : o ≡ false) {under : Slot} (u : under ≡ slotUnder slot) {items : Entered} {mid : List ℕ}
+        (h : Enters s (to + 1) cells under (wholeValue listLimit (drop (to + 1) s)) items mid) where
       one-left : leftOf slot ≡ suc (leftOf (slotUnder slot))
       one-left = omega (arith, leb-false (slot .room) (slot .next) (sym asked ∙ f))
 
-      entered : Enters s (to + 1) cells (slotUnder slot) (valueOf listLimit [] (drop (to + 1) s)) items mid
-      entered = rw (u, l) at h
+      entered : Enters s (to + 1) cells (slotUnder slot) (wholeValue listLimit (drop (to + 1) s)) items mid
+      entered = rw u at h
 
       -- an item has no entry left
       pub items-full : {at : ℕ} → items ≡ Full at → {r : Part} → r ≡ Refused NoEntryLeft at → {after : List ℕ} → Made r after
       items-full {at} q {r} e {after} =
           upTo (itemSize (value .it)) (leftOf (slotUnder slot))
-          (λ k. let g = entered .fits (value .it) _ (value .reads) k .0 in
+          (λ k. let g = entered .fits (value .it) _ (value .whole) k .0 in
           let z : _≡_ {A = ℕ} 0 1 = cc in
           absurd (omega arith))
-          (λ k. let g : Full at ≡ Full (firstOver (leftOf (slotUnder slot)) (itemEntries (slot .next) (slot .next + 1) (to + 1) (value .it))) = sym q ∙ entered .full (value .it) _ (value .reads) k in
+          (λ k. let g : Full at ≡ Full (firstOver (leftOf (slotUnder slot)) (itemEntries (slot .next) (slot .next + 1) (to + 1) (value .it))) = sym q
+          ∙ entered .full (value .it) _ (value .whole) k in
           let p : at ≡ firstOver (leftOf (slotUnder slot)) (itemEntries (slot .next) (slot .next + 1) (to + 1) (value .it)) = cc in
-          let m = moved-first (to + 1) (length s) (leftOf (slotUnder slot)) (item-moved (value .it) (to + 1) (length s) (slot .next) (slot .next + 1) (to + 1) 0 0 0 (omega arith) (omega (arith, value .wide, value .inside))) (omega (arith, item-size (value .it) (slot .next) (slot .next + 1) (to + 1))) in
+          let m = moved-first (to + 1) (length s) (leftOf (slotUnder slot))
+          (item-moved (value .it) (to + 1) (length s) (slot .next) (slot .next + 1) (to + 1) 0 0 0 (omega arith)
+          (omega (arith, value .wide, value .inside))) (omega (arith, item-size (value .it) (slot .next) (slot .next + 1) (to + 1))) in
           makes-refused _ _ _ _ _ _ _ r after NoEntryLeft at e (omega (arith, m .1))
           (by-value ∙ few-room _ _ _ it _ (leftOf (slotUnder slot)) one-left k
           ∙ ap (fault 11) (drop-drop _ (to + 1) s ∙ ap (λ (n : ℕ). drop n s) (sym (p ∙ m .0)))))
 
       -- the trait's own entry is put before those of its items
       abbrev own-entry : ℕ → ℕ → ℕ → Entry
-      own-entry form count end = record { kind = 2; form = form; parent = slot .parent; count = count; nameStart = from; nameEnd = to; start = to + 1; end = end }
+      own-entry form count end =
+          record { kind = 2; form = form; parent = slot .parent; count = count; nameStart = from; nameEnd = to; start = to + 1; end = end }
 
       pub trait-made : length w ≡ to - from → {form end inside count : ℕ} → items ≡ Items form end inside count
           → {after : List ℕ} → after ≡ lay mid (slot .next) (own-entry form count end ∷ []) → {r : Part} → r ≡ Read end (1 + inside) 1 → Made r after
       trait-made n {form} {end} {inside} {count} q {after} p {r} z =
           upTo (itemSize (value .it)) (leftOf (slotUnder slot))
-          (λ fit. let g = entered .fits (value .it) _ (value .reads) fit in
-          let a : Items form end inside count ≡ Items (valueForm (value .it)) (placeIn s (drop (value .end) s)) (itemSize (value .it)) (itemsOf (value .it)) = sym q ∙ g .0 in
+          (λ fit. let g = entered .fits (value .it) _ (value .whole) fit in
+          let a : Items form end inside count ≡ Items (valueForm (value .it)) (placeIn s (drop (value .end) s)) (itemSize (value .it)) (itemsOf (value .it)) =
+          sym q ∙ g .0 in
           let formed : form ≡ valueForm (value .it) = cc in
           let ends : end ≡ placeIn s (drop (value .end) s) = cc in
           let size : inside ≡ itemSize (value .it) = cc in
@@ -231,7 +232,7 @@ module _ {s : List ℕ} {from to : ℕ} (place : In s (to + 1)) (between : from 
           ∙ ap (λ (x : List ℕ). lay x (slot .next) (own-entry form count end ∷ [])) (g .1)
           ∙ lay-before cells (slot .next) (own-entry form count end) (itemEntries (slot .next) (slot .next + 1) (to + 1) (value .it))
           ∙ rw (formed, own, there, value .wide, past)))
-          (λ over. let g = entered .full (value .it) _ (value .reads) over in
+          (λ over. let g = entered .full (value .it) _ (value .whole) over in
           let z : _≡_ {A = ℕ} 0 1 = cc in
           absurd (omega arith))
 
@@ -254,22 +255,23 @@ module _ {s : List ℕ} {at : ℕ} (place : In s at) {cells : List ℕ} {slot : 
     by-name = refl
 
     abbrev Traited : Part → List ℕ → Type 0
-    Traited r after = Makes traitSize (λ t. 1) (oneTrait (slot .parent) (slot .next) at) s cells (slot .next) (trait bounds (leftOf slot) white (drop at s)) r after
+    Traited r after = MakesTrait s at cells slot (trait bounds (leftOf slot) white (drop at s)) r after
 
     pub no-name : (r : Part) → seen r ≡ passed s (name isTraitName (drop at s)) → {why : Refusal} {place : ℕ} → r ≡ Refused why place → Traited r cells
-    no-name r e {why} {place} q = makes-passed _ _ _ _ _ _ _ r cells (λ w. 0) (λ w. 0) of-name (λ k left. refl) (name isTraitName (drop at s)) why place e q by-name
+    no-name r e {why} {place} q = makes-passed _ _ _ _ _ _ _ r cells (λ w. 0) (λ w. 0) of-name (λ k left. refl)
+        (name isTraitName (drop at s)) why place e q by-name
 
     module _ {to : ℕ} (named : NameAt isTraitName s at to) where
       by-equals : trait bounds (leftOf slot) white (drop at s) ≡ of-equals (named .it) (due (byte "=") (drop to s))
       by-equals = by-name ∙ ap of-name (named .finds)
 
       pub no-equals : (r : Part) → seen r ≡ passed s (due (byte "=") (drop to s)) → {why : Refusal} {place : ℕ} → r ≡ Refused why place → Traited r cells
-      no-equals r e {why} {place} q = makes-passed _ _ _ _ _ _ _ r cells (λ b. 0) (λ b. 0) (of-equals (named .it)) (λ k left. refl) (due (byte "=") (drop to s)) why place e q by-equals
+      no-equals r e {why} {place} q = makes-passed _ _ _ _ _ _ _ r cells (λ b. 0) (λ b. 0) (of-equals (named .it)) (λ k left. refl)
+          (due (byte "=") (drop to s)) why place e q by-equals
 
-      pub trait-entered : {end : ℕ} → DueAt (byte "=") s to end → {r : Part} {after : List ℕ}
-          → ((white w : List ℕ) → length w ≡ to - at → Makes traitSize (λ t. 1) (oneTrait (slot .parent) (slot .next) at) s cells (slot .next) (valueIn (leftOf slot) (drop at s) white w (drop (to + 1) s)) r after)
-          → Traited r after
+      pub trait-entered : {end : ℕ} → DueAt (byte "=") s to end → {r : Part} {after : List ℕ} → MakesValued s at to cells slot r after → Traited r after
       trait-entered equals k =
           let by-value : trait bounds (leftOf slot) white (drop at s) ≡ valueIn (leftOf slot) (drop at s) white (named .it) (drop (to + 1) s) =
-          by-equals ∙ ap (of-equals (named .it)) (equals .finds) ∙ ap (λ (n : ℕ). valueIn (leftOf slot) (drop at s) white (named .it) (drop n s)) (equals .next) in
+          by-equals ∙ ap (of-equals (named .it)) (equals .finds) ∙ ap (λ (n : ℕ). valueIn (leftOf slot) (drop at s) white (named .it) (drop n s))
+          (equals .next) in
           rw by-value (k white (named .it) (named .long))

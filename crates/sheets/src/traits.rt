@@ -8,7 +8,6 @@ use lines::part::Whose;
 use lines::part::byte_due;
 use lines::part::cut;
 use lines::part::name_end;
-use lines::part::past;
 use lines::part::refused;
 use paper::Refusal;
 use paper::kinds;
@@ -16,60 +15,29 @@ use text::classes::is_one_of;
 use text::runs;
 use text::runs::Class;
 use values::entering::Entered;
-use values::entering::enter;
+use values::entering::enter_whole;
+use values::judged::Judged;
 use values::lists::read_whole;
-use values::nesting::Nesting;
-use values::read::Read;
-ghost use mathlib.Core.Path.{_≡_};
-ghost use mathlib.Core.List.{List};
-ghost use Prim.Native.Nat.{ℕ, _+_, _-_, _≤_};
-ghost use lib.ListN.{length, drop};
-ghost use Rattle.paper.specs.Limits.{listLimit};
-ghost use Rattle.paper.specs.ReadingValues.{wholeValue};
-ghost use Rattle.paper.specs.Entries.{traitSize, traitsSize, traitEntries};
-ghost use Rattle.paper.specs.Reading.{trait, bounds};
+ghost use Prim.Native.Nat.{_+_, _≤_};
 ghost use Rattle.entries.specs.Laid.{Fits};
-ghost use Rattle.lines.specs.Parts.{seen, passed, Makes, In};
-ghost use Rattle.sheets.specs.Traits.{traitsOf, valueIn, oneTrait};
-
-// Past the whole value that stands at `at`.
-fn value_end(s: &[u8], at: usize) -> Part
-    requires { ⌜ at ≤ length (now s) ⌝ }
-    ensures { λ r. ⌜ seen r ≡ passed (now (s .entry)) (wholeValue listLimit (drop at (now (s .entry)))) ⌝ }
-{
-    match read_whole(s, at) {
-        Read::Found { form: _, end } => past(end),
-        Read::Refused { refusal, place } => refused(refusal, place),
-    }
-}
+ghost use Rattle.lines.specs.Parts.{In};
+ghost use Rattle.sheets.specs.Traits.{MakesValued, MakesNamed, MakesTraits};
 
 // Reads the value behind the "=" that stands at `to`, whole before anything is entered; then enters the trait, whose name
 // stands from `from` to `to`, and the items of its value.
 fn enter_trait(s: &[u8], from: usize, to: usize, cells: &mut [u32], slot: Slot) -> Part
     requires { ⌜ In (now s) (to + 1) × Fits (now cells) slot × (from ≤ to) ⌝ }
-    ensures { λ r. ⌜ ((white w : List ℕ) → length w ≡ to - from → Makes traitSize (λ t. 1) (oneTrait (slot .parent) (slot .next) from) (now (s .entry)) (now (cells .entry)) (slot .next) (valueIn (slot .room - slot .next) (drop from (now (s .entry))) white w (drop (to + 1) (now (s .entry)))) r (now (cells .exit))) ⌝ }
+    ensures { λ r. ⌜ MakesValued (now (s .entry)) from to (now (cells .entry)) slot r (now (cells .exit)) ⌝ }
 {
     let at = to + 1;
-    let value = value_end(s, at);
-    let Part::Read {
-        end: _,
-        made: _,
-        own: _,
-    } = value
-    else {
-        return value;
-    };
+    let value = read_whole(s, at);
+    if let Judged::Refused { refusal, place } = value {
+        return refused(refusal, place);
+    }
     if slot.is_full() {
         return refused(Refusal::NoEntryLeft, from);
     }
-    match enter(
-        s,
-        at,
-        Nesting::new(Nesting::LISTS),
-        false,
-        cells,
-        slot.under(),
-    ) {
+    match enter_whole(s, at, value, cells, slot.under()) {
         Entered::Full { place } => refused(Refusal::NoEntryLeft, place),
         Entered::Items {
             form,
@@ -104,24 +72,14 @@ fn enter_trait(s: &[u8], from: usize, to: usize, cells: &mut [u32], slot: Slot) 
 // Reads the trait whose name stands at `at`, and enters it.
 fn read_trait(s: &[u8], at: usize, cells: &mut [u32], slot: Slot) -> Part
     requires { ⌜ In (now s) at × Fits (now cells) slot ⌝ }
-    ensures { λ r. ⌜ ((white : List ℕ) → Makes traitSize (λ t. 1) (oneTrait (slot .parent) (slot .next) at) (now (s .entry)) (now (cells .entry)) (slot .next) (trait bounds (slot .room - slot .next) white (drop at (now (s .entry)))) r (now (cells .exit))) ⌝ }
+    ensures { λ r. ⌜ MakesNamed (now (s .entry)) at (now (cells .entry)) slot r (now (cells .exit)) ⌝ }
 {
     let name = name_end(s, at, Whose::Traits);
-    let Part::Read {
-        end: to,
-        made: _,
-        own: _,
-    } = name
-    else {
+    let Part::Read { end: to, .. } = name else {
         return name;
     };
     let equals = byte_due(s, to, b'=');
-    let Part::Read {
-        end: _,
-        made: _,
-        own: _,
-    } = equals
-    else {
+    let Part::Read { .. } = equals else {
         return equals;
     };
     enter_trait(s, at, to, cells, slot)
@@ -130,7 +88,7 @@ fn read_trait(s: &[u8], at: usize, cells: &mut [u32], slot: Slot) -> Part
 // Reads the traits that stand at `at`, each after white space, up to where the marker's end is due, and enters them.
 pub fn read_traits(s: &[u8], at: usize, cells: &mut [u32], slot: Slot) -> Part
     requires { ⌜ In (now s) at × Fits (now cells) slot ⌝ }
-    ensures { λ r. ⌜ Makes traitsSize length (traitEntries (slot .parent) (slot .next) at) (now (s .entry)) (now (cells .entry)) (slot .next) (traitsOf (slot .room - slot .next) (drop at (now (s .entry)))) r (now (cells .exit)) ⌝ }
+    ensures { λ r. ⌜ MakesTraits (now (s .entry)) at (now (cells .entry)) slot r (now (cells .exit)) ⌝ }
 {
     let mut i = at;
     let mut made = 0;
@@ -150,7 +108,7 @@ pub fn read_traits(s: &[u8], at: usize, cells: &mut [u32], slot: Slot) -> Part
         let Part::Read {
             end,
             made: more,
-            own: _,
+            ..
         } = one
         else {
             return one;

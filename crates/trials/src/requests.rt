@@ -7,8 +7,8 @@ use crate::words::Listed;
 use crate::words::Numeral;
 use paper::Refusal;
 use text::utf8;
+use values::judged::Judged;
 use values::lists;
-use values::read::Read;
 ghost use Prim.Native.Nat.{_≤_};
 ghost use lib.ListN.{length};
 ghost use Rattle.trials.specs.Lines.{lineLimit, Request, cellLimit};
@@ -84,8 +84,8 @@ fn mode_table(table: &[u8]) {
 
 fn value(bytes: &[u8]) {
     match lists::read_whole(bytes, 0) {
-        Read::Found { form, end } => print::row(&[0, end as u64, form as u64]),
-        Read::Refused { refusal, place } => {
+        Judged::Found { form, end } => print::row(&[0, end as u64, form as u64]),
+        Judged::Refused { refusal, place } => {
             print::row(&[paper::number(refusal) as u64, place as u64]);
         }
     }

@@ -5,32 +5,33 @@ use mathlib.Core.Bool.{true, false}
 use mathlib.Core.List.{List, [], _∷_, _++_, append-nil}
 use native.Mathlib.Omega.{arith}
 use lib.ListN.{length, drop, length-drop}
-use lib.Seq.{drop-drop, length-take-le}
+use lib.Seq.{length-take-le}
 use Rattle.paper.specs.declared.Refusal.the-variants.{TooDeep}
 use Rattle.paper.specs.Found.{Found, found, fault, andThen, placeIn}
 use Rattle.paper.specs.Bytes.{byte, bytes, isWhite, lengthIn, front, behind, startsWith}
 use Rattle.paper.specs.Values.{listEnders, Leaf, leafForm, Value, leaf, emptyList, list, valueForm, More, close, comma}
-use Rattle.paper.specs.ReadingValues.{leafOf, valueOf, moreOf, itemAnd}
+use Rattle.paper.specs.ReadingValues.{leafOf, valueOf, moreOf, itemAnd, wholeValue}
 use Rattle.paper.specs.Entries.{Entry, unnamed, valueWidth, itemsOf, moreItems, itemSize, moreSize, itemEntry, itemEntries, moreEntries}
 use Rattle.paper.specs.Answer.{numberOf}
 use Rattle.paper.proofs.Told.{number-positive}
 use Rattle.paper.proofs.Tests.{upTo}
-use Rattle.paper.proofs.Lists.{starts-is, length-in}
+use Rattle.paper.proofs.Lists.{length-in}
 use Rattle.paper.proofs.Finds.{Reads}
-use Rattle.paper.proofs.ReadValues.{ReadValue, value-reads, value-length, value-of-leaf, more-of-comma}
+use Rattle.paper.proofs.ReadValues.{ReadValue, value-reads, value-length, value-of-leaf, more-of-comma, whole-found, whole-fault}
 use Rattle.paper.proofs.Sizes.{item-size}
 use Rattle.text.proofs.Places.{left-at}
 use Rattle.text.proofs.Stretch.{Stretch, behind-at}
 use Rattle.entries.specs.Laid.{lay, slotAfter, slotUnder}
 use Rattle.entries.specs.declared.Slot.{Slot}
 use Rattle.entries.proofs.Laying.{lay-none, lay-before, lay-append}
-use Rattle.values.specs.declared.read.Read.{Read}
+use Rattle.values.specs.declared.judged.Judged.{Judged}
 use Rattle.values.specs.declared.entering.Entered.{Entered}
 use Rattle.values.specs.declared.entering.Entered.the-variants.{Items, Full}
-use Rattle.values.specs.Entering.{withoutItems, leftOf, firstOver, entriesFrom, sizeFrom, Ahead, Enters, EntersFrom}
-use Rattle.values.specs.Seen.{Seen, foundAt, refusedAt, seen, seenOf, Reading}
-use Rattle.values.proofs.Seeing.{fails}
-use Rattle.values.proofs.ListLaws.{leaf-value, deep-value, empty-found, empty-value, list-found}
+use Rattle.values.specs.Entering.{withoutItems, leftOf, firstOver, entriesFrom, sizeFrom}
+use Rattle.values.specs.Entering.{Ahead, Enters, EntersValue, EntersWhole, EntersFrom, EntersItems}
+use Rattle.values.specs.Shown.{Shown, foundAt, refusedAt, shown, shownOf, Judges}
+use Rattle.values.proofs.Showing.{fails}
+use Rattle.values.proofs.ListLaws.{byte-at, Opened, leaf-value, deep-value, empty-found, empty-value, list-found}
 use Rattle.values.proofs.ItemsFound.{Parts, MadeOf, made-of, together, list-parts, closed, first-in, first-past}
 
 -- what was found at a place: where it ends, and what is left there
@@ -56,12 +57,14 @@ module _ (s : List ℕ) (i lists : ℕ) (cells : List ℕ) (slot : Slot) (made o
   abbrev under : Slot
   under = slotUnder (slotAfter slot made)
 
-  module _ (room : slot .next + made < slot .room) (item : Entered) (mid : List ℕ) (h : Enters s i cells under (valueOf lists listEnders (drop i s)) item mid) where
+  module _ (room : slot .next + made < slot .room) (item : Entered) (mid : List ℕ)
+      (h : Enters s i cells under (valueOf lists listEnders (drop i s)) item mid) where
     more-left : leftOf slot - made ≡ suc (leftOf under)
     more-left = omega arith
 
     -- it was entered, and so all its entries had room
-    pub fit-inside : (v : Value) (left : List ℕ) → valueOf lists listEnders (drop i s) ≡ found v left → (form end inside count : ℕ) → item ≡ Items form end inside count → itemSize v ≤ leftOf under
+    pub fit-inside : (v : Value) (left : List ℕ) → valueOf lists listEnders (drop i s) ≡ found v left → (form end inside count : ℕ)
+        → item ≡ Items form end inside count → itemSize v ≤ leftOf under
     fit-inside v left e form end inside count q =
         upTo (itemSize v) (leftOf under) (λ k. k)
         (λ k. let f = h .full v left e k in
@@ -82,14 +85,17 @@ module _ (s : List ℕ) (i lists : ℕ) (cells : List ℕ) (slot : Slot) (made o
             let z : _≡_ {A = ℕ} 0 1 = cc in
             omega arith
 
-        first : (v : Value) (more : More) (left : List ℕ) → valueOf lists listEnders (drop i s) ≡ found v left → item ≡ Full (firstOver (leftOf slot - made) (entriesFrom (slot .parent) (slot .next + made) i v more))
+        first : (v : Value) (more : More) (left : List ℕ) → valueOf lists listEnders (drop i s) ≡ found v left
+            → item ≡ Full (firstOver (leftOf slot - made) (entriesFrom (slot .parent) (slot .next + made) i v more))
         first v more left e =
             upTo (itemSize v) (leftOf under) (λ k. absurd (no-fit v left e k))
             (λ k. h .full v left e k
-            ∙ ap Full (sym (rw more-left (first-in (itemEntries (slot .next + made) (slot .next + made + 1) i v) _ (leftOf under) (omega (arith, item-size v (slot .next + made) (slot .next + made + 1) i))))))
+            ∙ ap Full (sym (rw more-left (first-in (itemEntries (slot .next + made) (slot .next + made + 1) i v) _ (leftOf under)
+            (omega (arith, item-size v (slot .next + made) (slot .next + made + 1) i))))))
 
     -- it was entered, and its own entry stands before those of its items
-    module _ (form end inside count : ℕ) (q : item ≡ Items form end inside count) (start : i ≤ length s) (entry : Entry) (k : entry ≡ unnamed 3 form (slot .parent) count i end) (laid : List ℕ) (p : laid ≡ lay mid (slot .next + made) (entry ∷ [])) where
+    module _ (form end inside count : ℕ) (q : item ≡ Items form end inside count) (start : i ≤ length s) (entry : Entry)
+        (k : entry ≡ unnamed 3 form (slot .parent) count i end) (laid : List ℕ) (p : laid ≡ lay mid (slot .next + made) (entry ∷ [])) where
       record Laid (v : Value) (left : List ℕ) : Type 0 where
         room-inside : itemSize v ≤ leftOf under
         size : inside ≡ itemSize v
@@ -121,7 +127,8 @@ module _ (s : List ℕ) (i lists : ℕ) (cells : List ℕ) (slot : Slot) (made o
           }
 
       -- it is the last one
-      pub last-item : startsWith (bytes ",") (drop end s) ≡ false → EntersFrom s i cells slot made own (itemAnd lists list (drop i s)) (Items 12 (end + 1) (made + (1 + inside)) (own + 1)) laid
+      pub last-item : startsWith (bytes ",") (drop end s) ≡ false → EntersFrom s i cells slot made own (itemAnd lists list (drop i s))
+          (Items 12 (end + 1) (made + (1 + inside)) (own + 1)) laid
       unfolding itemSize itemsOf itemEntries
       last-item c =
           record {
@@ -129,18 +136,22 @@ module _ (s : List ℕ) (i lists : ℕ) (cells : List ℕ) (slot : Slot) (made o
             full = λ v more left e f. absurd (over v more left (list-parts lists (drop i s) v more left e) f);
           }
         where
-          shut : (v : Value) (more : More) (left : List ℕ) (t : Parts lists (valueOf lists listEnders (drop i s)) v more left) → (more ≡ close) × (drop end s ≡ byte "]" ∷ left)
+          shut : (v : Value) (more : More) (left : List ℕ) (t : Parts lists (valueOf lists listEnders (drop i s)) v more left) → (more ≡ close)
+              × (drop end s ≡ byte "]" ∷ left)
           shut v more left t =
               let l = laid-item v (t .mid) (t .item) .onward in
               closed lists (drop end s) more left c (ap (moreOf lists) (sym l) ∙ t .behind)
 
-          over : (v : Value) (more : More) (left : List ℕ) → Parts lists (valueOf lists listEnders (drop i s)) v more left → leftOf slot < made + sizeFrom v more → ⊥
+          over : (v : Value) (more : More) (left : List ℕ) → Parts lists (valueOf lists listEnders (drop i s)) v more left
+              → leftOf slot < made + sizeFrom v more → ⊥
           over v more left t f =
               let z : moreSize more ≡ 0 = ap moreSize (shut v more left t .0) in
               omega (arith, laid-item v (t .mid) (t .item) .room-inside)
 
           ends : (v : Value) (more : More) (left : List ℕ) → Parts lists (valueOf lists listEnders (drop i s)) v more left
-              → (_≡_ {A = Entered} (Items 12 (end + 1) (made + (1 + inside)) (own + 1)) (Items 12 (placeIn s left) (made + sizeFrom v more) (own + suc (moreItems more)))) × (laid ≡ lay cells (slot .next + made) (entriesFrom (slot .parent) (slot .next + made) i v more))
+              → (_≡_ {A = Entered} (Items 12 (end + 1) (made + (1 + inside)) (own + 1))
+              (Items 12 (placeIn s left) (made + sizeFrom v more) (own + suc (moreItems more))))
+              × (laid ≡ lay cells (slot .next + made) (entriesFrom (slot .parent) (slot .next + made) i v more))
           ends v more left t =
               let d = laid-item v (t .mid) (t .item) in
               let m = shut v more left t in
@@ -150,8 +161,12 @@ module _ (s : List ℕ) (i lists : ℕ) (cells : List ℕ) (slot : Slot) (made o
               let b : made + (1 + inside) ≡ made + sizeFrom v more = omega (arith, d .size) in
               let n : own + 1 ≡ own + suc (moreItems more) = omega arith in
               let es = itemEntries (slot .next + made) (slot .next + made + 1) i v in
-              let x : moreEntries (slot .parent) (slot .next + made + 1 + itemSize v) (i + valueWidth v) more ≡ [] = ap (moreEntries (slot .parent) (slot .next + made + 1 + itemSize v) (i + valueWidth v)) (m .0) in
-              (cc, d .cells-are ∙ ap (λ (l : List Entry). lay cells (slot .next + made) (itemEntry (slot .parent) i v ∷ l)) (sym (ap (λ (l : List Entry). es ++ l) x ∙ append-nil es)))
+              let x : moreEntries (slot .parent) (slot .next + made + 1 + itemSize v) (i + valueWidth v) more ≡ [] =
+              ap (moreEntries (slot .parent) (slot .next + made + 1 + itemSize v) (i + valueWidth v)) (m .0) in (
+                cc,
+                d .cells-are ∙ ap (λ (l : List Entry). lay cells (slot .next + made) (itemEntry (slot .parent) i v ∷ l))
+                    (sym (ap (λ (l : List Entry). es ++ l) x ∙ append-nil es)),
+              )
 
       -- another one stands behind it
       module _ (c : startsWith (bytes ",") (drop end s) ≡ true) (next : ℕ) (run : Stretch isWhite s (end + 1) next) where
@@ -167,7 +182,7 @@ module _ (s : List ℕ) (i lists : ℕ) (cells : List ℕ) (slot : Slot) (made o
         behind-comma : moreOf lists (drop end s) ≡ itemAnd lists (comma white) (drop next s)
         unfolding white
         behind-comma =
-            ap (moreOf lists) (starts-is (bytes ",") (drop end s) c ∙ ap (λ (l : List ℕ). byte "," ∷ l) (drop-drop 1 end s))
+            ap (moreOf lists) (byte-at (byte ",") s end c)
             ∙ more-of-comma lists (drop (end + 1) s)
             ∙ ap (itemAnd lists (comma white)) (behind-at isWhite s (end + 1) next run)
 
@@ -189,21 +204,25 @@ module _ (s : List ℕ) (i lists : ℕ) (cells : List ℕ) (slot : Slot) (made o
         entries-on : Value → More → List Entry
         entries-on v rest = entriesFrom (slot .parent) (slot .next + (made + (1 + inside))) next v rest
 
-        all-entries : (v : Value) (more : More) (left mid′ : List ℕ) → Laid v mid′ → (w : Next v more left) → entriesFrom (slot .parent) (slot .next + made) i v more ≡ first-entries v ++ entries-on (w .second) (w .rest)
+        all-entries : (v : Value) (more : More) (left mid′ : List ℕ) → Laid v mid′ → (w : Next v more left)
+            → entriesFrom (slot .parent) (slot .next + made) i v more ≡ first-entries v ++ entries-on (w .second) (w .rest)
         unfolding first-entries entries-on itemEntries white
         all-entries v more left mid′ d w =
             let n : slot .next + made + 1 + itemSize v ≡ slot .next + (made + (1 + inside)) = omega (arith, d .size) in
-            let l : length (front isWhite (drop (end + 1) s)) ≡ lengthIn isWhite (drop (end + 1) s) = length-take-le (lengthIn isWhite (drop (end + 1) s)) (drop (end + 1) s) (length-in isWhite (drop (end + 1) s)) in
+            let l : length (front isWhite (drop (end + 1) s)) ≡ lengthIn isWhite (drop (end + 1) s) =
+            length-take-le (lengthIn isWhite (drop (end + 1) s)) (drop (end + 1) s) (length-in isWhite (drop (end + 1) s)) in
             let a : i + valueWidth v + 1 + length (front isWhite (drop (end + 1) s)) ≡ next = omega (arith, d .place) in
             ap (λ (m : More). entriesFrom (slot .parent) (slot .next + made) i v m) (w .is)
             ∙ ap₂ (λ (k at : ℕ). first-entries v ++ entriesFrom (slot .parent) k at (w .second) (w .rest)) n a
 
-        sizes : (v : Value) (more : More) (left : List ℕ) (w : Next v more left) → (moreSize more ≡ sizeFrom (w .second) (w .rest)) × (moreItems more ≡ suc (moreItems (w .rest)))
+        sizes : (v : Value) (more : More) (left : List ℕ) (w : Next v more left) → (moreSize more ≡ sizeFrom (w .second) (w .rest))
+            × (moreItems more ≡ suc (moreItems (w .rest)))
         unfolding itemSize itemsOf
         sizes v more left w = (ap moreSize (w .is), ap moreItems (w .is))
 
         -- what is entered from the next one on is entered from this one on
-        pub next-item : (r : Entered) (after : List ℕ) → EntersFrom s next laid slot (made + (1 + inside)) (own + 1) (itemAnd lists list (drop next s)) r after → EntersFrom s i cells slot made own (itemAnd lists list (drop i s)) r after
+        pub next-item : (r : Entered) (after : List ℕ) → EntersFrom s next laid slot (made + (1 + inside)) (own + 1) (itemAnd lists list (drop next s)) r after
+            → EntersFrom s i cells slot made own (itemAnd lists list (drop i s)) r after
         unfolding first-entries entries-on
         next-item r after k =
             record {
@@ -211,8 +230,10 @@ module _ (s : List ℕ) (i lists : ℕ) (cells : List ℕ) (slot : Slot) (made o
               full = λ v more left e f. go-full v more left (list-parts lists (drop i s) v more left e) f;
             }
           where
-            go-fits : (v : Value) (more : More) (left : List ℕ) → Parts lists (valueOf lists listEnders (drop i s)) v more left → made + sizeFrom v more ≤ leftOf slot
-                → (r ≡ Items 12 (placeIn s left) (made + sizeFrom v more) (own + suc (moreItems more))) × (after ≡ lay cells (slot .next + made) (entriesFrom (slot .parent) (slot .next + made) i v more))
+            go-fits : (v : Value) (more : More) (left : List ℕ) → Parts lists (valueOf lists listEnders (drop i s)) v more left
+                → made + sizeFrom v more ≤ leftOf slot
+                → (r ≡ Items 12 (placeIn s left) (made + sizeFrom v more) (own + suc (moreItems more)))
+                × (after ≡ lay cells (slot .next + made) (entriesFrom (slot .parent) (slot .next + made) i v more))
             go-fits v more left t f =
                 let d = laid-item v (t .mid) (t .item) in
                 let w = next-is v more left t in
@@ -228,7 +249,8 @@ module _ (s : List ℕ) (i lists : ℕ) (cells : List ℕ) (slot : Slot) (made o
                       ∙ ap (lay cells (slot .next + made)) (sym (all-entries v more left (t .mid) d w)),
                 )
 
-            go-full : (v : Value) (more : More) (left : List ℕ) → Parts lists (valueOf lists listEnders (drop i s)) v more left → leftOf slot < made + sizeFrom v more
+            go-full : (v : Value) (more : More) (left : List ℕ) → Parts lists (valueOf lists listEnders (drop i s)) v more left
+                → leftOf slot < made + sizeFrom v more
                 → r ≡ Full (firstOver (leftOf slot - made) (entriesFrom (slot .parent) (slot .next + made) i v more))
             go-full v more left t f =
                 let d = laid-item v (t .mid) (t .item) in
@@ -275,82 +297,138 @@ bare-empty = record { size = refl; count = refl; entries = λ parent next at. re
 
 module _ (s : List ℕ) (at lists : ℕ) (also cells : List ℕ) (slot : Slot) where
   -- a value that has none
-  bare-enters : (x : Found Value) (read : Read) → Reading valueForm s at x read → ((v : Value) (left : List ℕ) → x ≡ found v left → Bare v) → Enters s at cells slot x (withoutItems read) cells
+  bare-enters : (x : Found Value) (read : Judged) → Judges valueForm s at x read → ((v : Value) (left : List ℕ) → x ≡ found v left → Bare v)
+      → Enters s at cells slot x (withoutItems read) cells
   bare-enters x read h bare =
       record {
-        fits = λ v left e k. (answer read (h .same) v left e, sym (ap (lay cells (slot .next)) (bare v left e .entries (slot .parent) (slot .next) at) ∙ lay-none cells (slot .next)));
+        fits = λ v left e k. (
+          answer read (h .same) v left e,
+          sym (ap (lay cells (slot .next)) (bare v left e .entries (slot .parent) (slot .next) at)
+              ∙ lay-none cells (slot .next)),
+        );
         full = λ v left e k. absurd (omega (arith, bare v left e .size));
       }
     where
-      answer : (read : Read) → seen read ≡ seenOf valueForm s x → (v : Value) (left : List ℕ) → x ≡ found v left → withoutItems read ≡ Items (valueForm v) (placeIn s left) (itemSize v) (itemsOf v)
-      answer (Read.Found form end) q v left e =
-          let k : foundAt form end ≡ foundAt (valueForm v) (placeIn s left) = q ∙ ap (seenOf valueForm s) e in
-          let f : form ≡ valueForm v = ap (λ (y : Seen). y .form) k in
-          let n : end ≡ placeIn s left = ap (λ (y : Seen). y .place) k in
+      answer : (read : Judged) → shown read ≡ shownOf valueForm s x → (v : Value) (left : List ℕ) → x ≡ found v left
+          → withoutItems read ≡ Items (valueForm v) (placeIn s left) (itemSize v) (itemsOf v)
+      answer (Judged.Found form end) q v left e =
+          let k : foundAt form end ≡ foundAt (valueForm v) (placeIn s left) = q ∙ ap (shownOf valueForm s) e in
+          let f : form ≡ valueForm v = ap (λ (y : Shown). y .form) k in
+          let n : end ≡ placeIn s left = ap (λ (y : Shown). y .place) k in
           let b = bare v left e in
           rw (f, n, b .size, b .count)
-      answer (Read.Refused why place) q v left e =
-          let k : refusedAt (numberOf why) place ≡ foundAt (valueForm v) (placeIn s left) = q ∙ ap (seenOf valueForm s) e in
-          absurd (number-positive why (ap (λ (y : Seen). y .number) k))
+      answer (Judged.Refused why place) q v left e =
+          let k : refusedAt (numberOf why) place ≡ foundAt (valueForm v) (placeIn s left) = q ∙ ap (shownOf valueForm s) e in
+          absurd (number-positive why (ap (λ (y : Shown). y .number) k))
 
-  bare-ahead : (x : Found Value) (read : Read) → Reading valueForm s at x read → (room : ℕ) → Ahead s at lists room (withoutItems read)
-  bare-ahead x (Read.Found form end) h room = let k = h .ahead form end refl in ahead-items s at lists room form end 0 0 (omega arith) (omega arith) (omega arith) (omega arith)
-  bare-ahead x (Read.Refused why place) h room = ahead-full s at lists room (Full place) place refl
+  bare-ahead : (x : Found Value) (read : Judged) → Judges valueForm s at x read → (room : ℕ) → Ahead s at lists room (withoutItems read)
+  bare-ahead x (Judged.Found form end) h room = let k = h .ahead form end refl in ahead-items s at lists room form end 0 0 (omega arith) (omega arith)
+      (omega arith) (omega arith)
+  bare-ahead x (Judged.Refused why place) h room = ahead-full s at lists room (Full place) place refl
 
   -- no list
-  pub leaf-enters : (read : Read) → startsWith (bytes "[") (drop at s) ≡ false → Reading leafForm s at (leafOf also (drop at s)) read → (r : Entered) → r ≡ withoutItems read
-      → Ahead s at lists (leftOf slot) r × Enters s at cells slot (valueOf lists also (drop at s)) r cells
-  leaf-enters read e h r q =
-      let k = leaf-value s at lists also read e h in
-      rw q (bare-ahead (valueOf lists also (drop at s)) read k (leftOf slot), bare-enters (valueOf lists also (drop at s)) read k (λ v left q. go (leafOf also (drop at s)) v left (sym (value-of-leaf lists also (drop at s) e) ∙ q)))
+  leaf-bare : startsWith (bytes "[") (drop at s) ≡ false → (v : Value) (left : List ℕ) → valueOf lists also (drop at s) ≡ found v left → Bare v
+  leaf-bare e v left q = go (leafOf also (drop at s)) v left (sym (value-of-leaf lists also (drop at s) e) ∙ q)
     where
       go : (x : Found Leaf) (v : Value) (left : List ℕ) → andThen x (λ u end. found (leaf u) end) ≡ found v left → Bare v
       go (found u end) v left q = let k : leaf u ≡ v = cc in rw (← k) (bare-leaf u)
       go (fault n end) v left q = let z : _≡_ {A = ℕ} 0 1 = cc in absurd (omega arith)
 
+  pub leaf-enters : (read : Judged) → startsWith (bytes "[") (drop at s) ≡ false → Judges leafForm s at (leafOf also (drop at s)) read
+      → (r : Entered) → r ≡ withoutItems read → EntersValue lists also s at cells slot r cells
+  leaf-enters read e h r q =
+      let x = valueOf lists also (drop at s) in
+      let k = leaf-value s at lists also read e h in
+      rw q (bare-ahead x read k (leftOf slot), bare-enters x read k (leaf-bare e))
+
   -- a list too deep
-  pub deep-enters : at ≤ length s → startsWith (bytes "[") (drop at s) ≡ true → lists ≡ 0
-      → Ahead s at lists (leftOf slot) (Full at) × Enters s at cells slot (valueOf lists also (drop at s)) (Full at) cells
+  pub deep-enters : at ≤ length s → startsWith (bytes "[") (drop at s) ≡ true → lists ≡ 0 → EntersValue lists also s at cells slot (Full at) cells
   deep-enters l e z =
       let k = deep-value s at lists also l e z in
-      (bare-ahead (valueOf lists also (drop at s)) _ k (leftOf slot), bare-enters (valueOf lists also (drop at s)) _ k (λ v left q. let f = fails k TooDeep at refl .faults in let y : _≡_ {A = ℕ} 0 1 = cc in absurd (omega arith)))
+      let f = fails k TooDeep at refl .faults in
+      let x = valueOf lists also (drop at s) in
+      (bare-ahead x _ k (leftOf slot), bare-enters x _ k (λ v left q. let y : _≡_ {A = ℕ} 0 1 = cc in absurd (omega arith)))
 
-  -- an empty list
-  pub empty-enters : startsWith (bytes "[]") (drop at s) ≡ true → (fewer : ℕ) → lists ≡ suc fewer
-      → Ahead s at lists (leftOf slot) (Items 12 (at + 2) 0 0) × Enters s at cells slot (valueOf lists also (drop at s)) (Items 12 (at + 2) 0 0) cells
-  empty-enters e fewer z =
-      let k = empty-value s at lists also e fewer z in
-      let f = empty-found s at lists also e fewer z in
-      (bare-ahead (valueOf lists also (drop at s)) _ k (leftOf slot), bare-enters (valueOf lists also (drop at s)) _ k (λ v left q. let y : emptyList ≡ v = cc in rw (← y) bare-empty))
+  module _ (fewer : ℕ) (o : Opened s at lists fewer) where
+    -- an empty list
+    pub empty-enters : startsWith (bytes "]") (drop (at + 1) s) ≡ true → EntersValue lists also s at cells slot (Items 12 (at + 1 + 1) 0 0) cells
+    empty-enters e =
+        let k = empty-value s at lists also fewer o e in
+        let f = empty-found s at lists also fewer o e in
+        let x = valueOf lists also (drop at s) in
+        (bare-ahead x _ k (leftOf slot), bare-enters x _ k (λ v left q. let y : emptyList ≡ v = cc in rw (← y) bare-empty))
 
-  -- a list of items
-  pub list-enters : startsWith (bytes "[") (drop at s) ≡ true → startsWith (bytes "[]") (drop at s) ≡ false → (fewer : ℕ) → lists ≡ suc fewer → (r : Entered) (after : List ℕ)
-      → Ahead s (at + 1) (fewer + 1) (leftOf slot) r × EntersFrom s (at + 1) cells slot 0 0 (itemAnd fewer list (drop (at + 1) s)) r after
-      → Ahead s at lists (leftOf slot) r × Enters s at cells slot (valueOf lists also (drop at s)) r after
-  unfolding itemSize itemsOf itemEntries
-  list-enters e f fewer z r after h = (
-    record { far = λ form end made own q. omega (arith, h .0 .far form end made own q) },
-    record {
-      fits = λ v left q k. let p = is-list v left q in subst⁻¹ (λ (u : Value). itemSize u ≤ leftOf slot → (r ≡ Items (valueForm u) (placeIn s left) (itemSize u) (itemsOf u)) × (after ≡ lay cells (slot .next) (itemEntries (slot .parent) (slot .next) at u))) (p .made) (fits (p .first) (p .rest) left (together fewer list _ (p .first) (p .rest) left (p .parts))) k;
-      full = λ v left q k. let p = is-list v left q in subst⁻¹ (λ (u : Value). leftOf slot < itemSize u → r ≡ Full (firstOver (leftOf slot) (itemEntries (slot .parent) (slot .next) at u))) (p .made) (full (p .first) (p .rest) left (together fewer list _ (p .first) (p .rest) left (p .parts))) k;
-    },
-  )
+    -- a list of items
+    pub list-enters : startsWith (bytes "]") (drop (at + 1) s) ≡ false → (r : Entered) (after : List ℕ)
+        → EntersItems fewer s (at + 1) cells slot r after → EntersValue lists also s at cells slot r after
+    unfolding itemSize itemsOf itemEntries
+    list-enters e r after h = (
+      record { far = λ form end made own q. omega (arith, h .0 .far form end made own q, o .deeper) },
+      record {
+        fits = λ v left q. let p = is-list v left q in subst⁻¹ (λ (u : Value). Fitting u left) (p .made) (fits (p .first) (p .rest) left (made-list left p));
+        full = λ v left q. let p = is-list v left q in subst⁻¹ Filled (p .made) (full (p .first) (p .rest) left (made-list left p));
+      },
+    )
+      where
+        Fitting : Value → List ℕ → Type 0
+        Fitting u left =
+            itemSize u ≤ leftOf slot
+            → (r ≡ Items (valueForm u) (placeIn s left) (itemSize u) (itemsOf u))
+            × (after ≡ lay cells (slot .next) (itemEntries (slot .parent) (slot .next) at u))
+
+        Filled : Value → Type 0
+        Filled u = leftOf slot < itemSize u → r ≡ Full (firstOver (leftOf slot) (itemEntries (slot .parent) (slot .next) at u))
+
+        first-of : Found Value
+        first-of = valueOf fewer listEnders (drop (at + 1) s)
+
+        is-list : (v : Value) (left : List ℕ) → valueOf lists also (drop at s) ≡ found v left → MadeOf fewer list first-of v left
+        is-list v left q = made-of fewer list first-of v left (sym (list-found s at lists also fewer o e) ∙ q)
+
+        made-list : {v : Value} (left : List ℕ) (p : MadeOf fewer list first-of v left)
+            → itemAnd fewer list (drop (at + 1) s) ≡ found (list (p .first) (p .rest)) left
+        made-list left p = together fewer list _ (p .first) (p .rest) left (p .parts)
+
+        fits : (v : Value) (more : More) (left : List ℕ) → itemAnd fewer list (drop (at + 1) s) ≡ found (list v more) left → Fitting (list v more) left
+        fits v more left q k =
+            let x = h .1 .fits v more left q (omega arith) in
+            let n : slot .next + 0 ≡ slot .next = omega arith in
+            let a : 0 + sizeFrom v more ≡ sizeFrom v more = omega arith in
+            let b : 0 + suc (moreItems more) ≡ suc (moreItems more) = omega arith in (
+              x .0 ∙ ap₂ (λ (m o : ℕ). Items 12 (placeIn s left) m o) a b,
+              x .1 ∙ ap (λ (m : ℕ). lay cells m (entriesFrom (slot .parent) m (at + 1) v more)) n,
+            )
+
+        full : (v : Value) (more : More) (left : List ℕ) → itemAnd fewer list (drop (at + 1) s) ≡ found (list v more) left → Filled (list v more)
+        full v more left q k =
+            let n : slot .next + 0 ≡ slot .next = omega arith in
+            let a : leftOf slot - 0 ≡ leftOf slot = omega arith in
+            h .1 .full v more left q (omega arith) ∙ ap₂ (λ (m o : ℕ). Full (firstOver m (entriesFrom (slot .parent) o (at + 1) v more))) a n
+
+-- ---- the items of a trait's whole value
+
+module _ (s : List ℕ) (at lists : ℕ) (cells : List ℕ) (slot : Slot) where
+  -- what is found of it is what is found of the value
+  value-found : (v : Value) (left : List ℕ) → wholeValue lists (drop at s) ≡ found v left → valueOf lists [] (drop at s) ≡ found v left
+  value-found v left e = go (valueOf lists [] (drop at s)) refl
     where
-      is-list : (v : Value) (left : List ℕ) → valueOf lists also (drop at s) ≡ found v left → MadeOf fewer list (valueOf fewer listEnders (drop (at + 1) s)) v left
-      is-list v left q = made-of fewer list (valueOf fewer listEnders (drop (at + 1) s)) v left (sym (list-found s at lists also e f fewer z) ∙ q)
+      go : (x : Found Value) → valueOf lists [] (drop at s) ≡ x → x ≡ found v left
+      go (found u end) q = sym (whole-found lists (drop at s) u end q) ∙ e
+      go (fault n end) q =
+          let f = sym (whole-fault lists (drop at s) n end q) ∙ e in
+          let z : _≡_ {A = ℕ} 0 1 = cc in
+          absurd (omega arith)
 
-      fits : (v : Value) (more : More) (left : List ℕ) → itemAnd fewer list (drop (at + 1) s) ≡ found (list v more) left → itemSize (list v more) ≤ leftOf slot
-          → (r ≡ Items (valueForm (list v more)) (placeIn s left) (itemSize (list v more)) (itemsOf (list v more))) × (after ≡ lay cells (slot .next) (itemEntries (slot .parent) (slot .next) at (list v more)))
-      fits v more left q k =
-          let x = h .1 .fits v more left q (omega arith) in
-          let n : slot .next + 0 ≡ slot .next = omega arith in
-          let a : 0 + sizeFrom v more ≡ sizeFrom v more = omega arith in
-          let b : 0 + suc (moreItems more) ≡ suc (moreItems more) = omega arith in
-          (x .0 ∙ ap₂ (λ (m o : ℕ). Items 12 (placeIn s left) m o) a b, x .1 ∙ ap (λ (m : ℕ). lay cells m (entriesFrom (slot .parent) m (at + 1) v more)) n)
+  -- a list is entered as the value that it is
+  pub whole-list : (r : Entered) (after : List ℕ) (n : ℕ) → n ≡ lists → EntersValue n [] s at cells slot r after → EntersWhole lists s at cells slot r after
+  whole-list r after n e h =
+      let k : EntersValue lists [] s at cells slot r after = rw e at h in
+      (k .0, record { fits = λ v left q. k .1 .fits v left (value-found v left q); full = λ v left q. k .1 .full v left (value-found v left q) })
 
-      full : (v : Value) (more : More) (left : List ℕ) → itemAnd fewer list (drop (at + 1) s) ≡ found (list v more) left → leftOf slot < itemSize (list v more)
-          → r ≡ Full (firstOver (leftOf slot) (itemEntries (slot .parent) (slot .next) at (list v more)))
-      full v more left q k =
-          let n : slot .next + 0 ≡ slot .next = omega arith in
-          let a : leftOf slot - 0 ≡ leftOf slot = omega arith in
-          h .1 .full v more left q (omega arith) ∙ ap₂ (λ (m o : ℕ). Full (firstOver m (entriesFrom (slot .parent) o (at + 1) v more))) a n
+  -- what is no list was judged when it was read
+  pub whole-bare : (read : Judged) → startsWith (bytes "[") (drop at s) ≡ false → Judges valueForm s at (wholeValue lists (drop at s)) read
+      → (r : Entered) → r ≡ withoutItems read → EntersWhole lists s at cells slot r cells
+  whole-bare read e h r q =
+      let x = wholeValue lists (drop at s) in
+      let bare : (v : Value) (left : List ℕ) → x ≡ found v left → Bare v = λ v left p. leaf-bare s at lists [] cells slot e v left (value-found v left p) in
+      rw q (bare-ahead s at lists [] cells slot x read h (leftOf slot), bare-enters s at lists [] cells slot x read h bare)

@@ -15,20 +15,24 @@ use Rattle.entries.specs.Laid.{lay, slotAfter, slotUnder}
 use Rattle.entries.specs.declared.Slot.{Slot}
 use Rattle.values.specs.declared.entering.Entered.{Entered}
 use Rattle.values.specs.declared.entering.Entered.the-variants.{Items, Full}
-use Rattle.values.specs.Entering.{Stands, leftOf, Ahead, Enters, EntersFrom}
+use Rattle.values.specs.Entering.{Ready, leftOf, Ahead, Enters, EntersFrom}
 use Rattle.text.proofs.Compared.{stands-inside}
 use Rattle.text.proofs.Stretch.{Stretch}
+use Rattle.values.proofs.ListLaws.{Opened}
 use Rattle.values.proofs.EnterLaws.{ahead-items, none-left, none-inside, last-item, next-item}
 
 -- behind "[", one list deeper
-pub stands-deeper : (s : List ℕ) (at lists : ℕ) (cells : List ℕ) (slot : Slot) → Stands s at lists cells slot → startsWith (bytes "[") (drop at s) ≡ true → (fewer : ℕ) → lists ≡ suc fewer → Stands s (at + 1) fewer cells slot
-stands-deeper s at lists cells slot h l fewer e = record { place = omega (arith, stands-inside (bytes "[") s at l); short = h .short; few = omega (arith, h .few); fits = h .fits }
+pub stands-deeper : {s : List ℕ} {at lists : ℕ} {cells : List ℕ} {slot : Slot} → Ready s at lists cells slot
+    → {fewer : ℕ} → Opened s at lists fewer → Ready s (at + 1) fewer cells slot
+stands-deeper {s} {at} h o =
+    let k = stands-inside (bytes "[") s at (o .opens) in
+    record { place = omega arith; short = h .short; few = omega (arith, h .few, o .deeper); fits = h .fits }
 
 -- ---- one turn
 
 -- where a turn stands, with the slot of the next entry
 pub record Turn (s : List ℕ) (at lists : ℕ) (start : List ℕ) (slot : Slot) (i made own : ℕ) (cells : List ℕ) (next : Slot) : Type 0 where
-  pub stands : Stands s at lists start slot
+  pub stands : Ready s at lists start slot
   pub from : at ≤ i
   pub place : i ≤ length s
   pub few : made ≤ leftOf slot
@@ -36,7 +40,8 @@ pub record Turn (s : List ℕ) (at lists : ℕ) (start : List ℕ) (slot : Slot)
   pub kept : length cells ≡ length start
   pub next-is : next ≡ slotAfter slot made
 
-module _ {s : List ℕ} {at lists : ℕ} {start : List ℕ} {slot : Slot} {i made own : ℕ} {cells : List ℕ} {next : Slot} (h : Turn s at lists start slot i made own cells next) where
+module _ {s : List ℕ} {at lists : ℕ} {start : List ℕ} {slot : Slot} {i made own : ℕ} {cells : List ℕ} {next : Slot}
+    (h : Turn s at lists start slot i made own cells next) where
   number : next .next ≡ slot .next + made
   number = ap (λ (x : Slot). x .next) (h .next-is)
 
@@ -58,7 +63,7 @@ module _ {s : List ℕ} {at lists : ℕ} {start : List ℕ} {slot : Slot} {i mad
       under-is : under ≡ slotUnder (slotAfter slot made)
       under-is = b ∙ ap slotUnder (h .next-is)
 
-      pub item-stands : Stands s i lists cells under
+      pub item-stands : Ready s i lists cells under
       item-stands =
           let n : under .next ≡ slot .next + made + 1 = ap (λ (x : Slot). x .next) under-is in
           let r : under .room ≡ slot .room = ap (λ (x : Slot). x .room) under-is in
@@ -71,16 +76,20 @@ module _ {s : List ℕ} {at lists : ℕ} {start : List ℕ} {slot : Slot} {i mad
           }
 
 -- the same with an item that was entered, and the cells that it left
-pub record Turned (s : List ℕ) (at lists : ℕ) (start : List ℕ) (slot : Slot) (i made own : ℕ) (cells : List ℕ) (next : Slot) (item : Entered) (mid : List ℕ) : Type 0 where
+pub record Turned (s : List ℕ) (at lists : ℕ) (start : List ℕ) (slot : Slot) (i made own : ℕ) (cells : List ℕ) (next : Slot) (item : Entered)
+    (mid : List ℕ) : Type 0 where
   pub turn : Turn s at lists start slot i made own cells next
   pub same : length mid ≡ length cells
   pub room : slot .next + made < slot .room
   pub ahead : Ahead s i lists (slot .room - (slot .next + made + 1)) item
   pub entered : Enters s i cells (slotUnder (slotAfter slot made)) (valueOf lists listEnders (drop i s)) item mid
 
-pub turned : {s : List ℕ} {at lists : ℕ} {start : List ℕ} {slot : Slot} {i made own : ℕ} {cells : List ℕ} {next : Slot} (h : Turn s at lists start slot i made own cells next)
-    (test : Bool) → test ≡ leb (next .room) (next .next) → test ≡ false → (under : Slot) → under ≡ slotUnder next → (item : Entered) (mid : List ℕ) → length mid ≡ length cells
-    → Ahead s i lists (leftOf under) item × Enters s i cells under (valueOf lists listEnders (drop i s)) item mid → Turned s at lists start slot i made own cells next item mid
+pub turned : {s : List ℕ} {at lists : ℕ} {start : List ℕ} {slot : Slot} {i made own : ℕ} {cells : List ℕ} {next : Slot}
+    (h : Turn s at lists start slot i made own cells next)
+    (test : Bool) → test ≡ leb (next .room) (next .next) → test ≡ false → (under : Slot) → under ≡ slotUnder next → (item : Entered) (mid : List ℕ)
+    → length mid ≡ length cells
+    → Ahead s i lists (leftOf under) item × Enters s i cells under (valueOf lists listEnders (drop i s)) item mid
+    → Turned s at lists start slot i made own cells next item mid
 turned h test f t under b item mid l k =
     let u = under-is h test f t under b in
     record { turn = h; same = l; room = room-left h test f t under b; ahead = rw u at (k .0); entered = rw u at (k .1) }
@@ -97,7 +106,8 @@ pub record Far (s : List ℕ) (at lists : ℕ) (slot : Slot) (i made own end ins
   pub count-in : count ≤ inside
   pub own-in : own ≤ made
 
-module _ {s : List ℕ} {at lists : ℕ} {start : List ℕ} {slot : Slot} {i made own : ℕ} {cells : List ℕ} {next : Slot} {item : Entered} {mid : List ℕ} (h : Turned s at lists start slot i made own cells next item mid) where
+module _ {s : List ℕ} {at lists : ℕ} {start : List ℕ} {slot : Slot} {i made own : ℕ} {cells : List ℕ} {next : Slot} {item : Entered} {mid : List ℕ}
+    (h : Turned s at lists start slot i made own cells next item mid) where
   pub put-room : suc (next .next) * entryCells ≤ length mid
   put-room = omega (arith, h .same, h .room, number (h .turn), h .turn .kept, h .turn .stands .fits .held)
 
@@ -123,15 +133,19 @@ module _ {s : List ℕ} {at lists : ℕ} {start : List ℕ} {slot : Slot} {i mad
         }
 
     pub last-ahead : Ahead s at (lists + 1) (leftOf slot) (Items 12 (end + 1) (made + (1 + inside)) (own + 1))
-    last-ahead = let k = far in ahead-items s at (lists + 1) (leftOf slot) 12 (end + 1) (made + (1 + inside)) (own + 1) (omega arith) (omega arith) (omega arith) (omega arith)
+    last-ahead = let k = far in ahead-items s at (lists + 1) (leftOf slot) 12 (end + 1) (made + (1 + inside)) (own + 1) (omega arith) (omega arith)
+        (omega arith) (omega arith)
 
     module _ (entry : Entry) (k : entry ≡ unnamed 3 form (slot .parent) count i end) (laid : List ℕ) (p : laid ≡ lay mid (next .next) (entry ∷ [])) where
       laid-there : laid ≡ lay mid (slot .next + made) (entry ∷ [])
       laid-there = p ∙ ap (λ (n : ℕ). lay mid n (entry ∷ [])) (number (h .turn))
 
-      pub last-turn : startsWith (bytes ",") (drop end s) ≡ false → EntersFrom s i cells slot made own (itemAnd lists list (drop i s)) (Items 12 (end + 1) (made + (1 + inside)) (own + 1)) laid
+      pub last-turn : startsWith (bytes ",") (drop end s) ≡ false → EntersFrom s i cells slot made own (itemAnd lists list (drop i s))
+          (Items 12 (end + 1) (made + (1 + inside)) (own + 1)) laid
       last-turn c = last-item s i lists cells slot made own (h .room) item mid (h .entered) form end inside count q (h .turn .place) entry k laid laid-there c
 
       pub next-turn : startsWith (bytes ",") (drop end s) ≡ true → (on : ℕ) → Stretch isWhite s (end + 1) on → (r : Entered) (after : List ℕ)
-          → EntersFrom s on laid slot (made + (1 + inside)) (own + 1) (itemAnd lists list (drop on s)) r after → EntersFrom s i cells slot made own (itemAnd lists list (drop i s)) r after
-      next-turn c on g r after w = next-item s i lists cells slot made own (h .room) item mid (h .entered) form end inside count q (h .turn .place) entry k laid laid-there c on g r after w
+          → EntersFrom s on laid slot (made + (1 + inside)) (own + 1) (itemAnd lists list (drop on s)) r after
+          → EntersFrom s i cells slot made own (itemAnd lists list (drop i s)) r after
+      next-turn c on g r after w = next-item s i lists cells slot made own (h .room) item mid (h .entered) form end inside count q
+          (h .turn .place) entry k laid laid-there c on g r after w

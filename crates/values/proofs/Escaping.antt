@@ -16,7 +16,8 @@ use Rattle.paper.specs.Values.{escaped, four, braces, spellsScalar, pieceRule}
 use Rattle.paper.specs.ReadingValues.{judged, fourDigits, bracedDigits, escape}
 use Rattle.paper.proofs.Tests.{split, true-false, inside, below}
 use Rattle.paper.proofs.Lists.{starts-is}
-use Rattle.paper.proofs.Pieces.{judged-keeps, judged-breaks, four-there, four-cut, four-not, braced-long, braced-cut, braced-closed, braced-not, escape-four, escape-braces, escape-letter}
+use Rattle.paper.proofs.Pieces.{judged-keeps, judged-breaks, four-there, four-cut, four-not, braced-long}
+use Rattle.paper.proofs.Pieces.{braced-cut, braced-closed, braced-not, escape-four, escape-braces, escape-letter}
 use Rattle.text.proofs.Places.{here}
 use Rattle.text.proofs.Stretch.{Stretch, front-at, behind-none, behind-some}
 use Rattle.values.proofs.Runs.{all-front}
@@ -61,15 +62,18 @@ module _ (quote : ℕ) (s : List ℕ) (at start stop : ℕ) (run : Stretch isHex
 
     module _ (h : stop < length s) where
       pub braced-other : (getD s stop 0 ≡ byte "}" → ⊥) → bracedDigits quote (drop at s) (drop start s) ≡ fault 6 (drop at s)
-      braced-other e = braced-not quote (drop at s) (drop start s) _ _ (omega arith) (behind-some isHex s start stop run h) (ne-eqb (getD s stop 0) (byte "}") e)
+      braced-other e = braced-not quote (drop at s) (drop start s) _ _ (omega arith) (behind-some isHex s start stop run h)
+          (ne-eqb (getD s stop 0) (byte "}") e)
 
       module _ (e : getD s stop 0 ≡ byte "}") where
-        braced-judged : bracedDigits quote (drop at s) (drop start s) ≡ judged quote (drop at s) (braces (take (stop - start) (drop start s))) (drop (stop + 1) s)
+        braced-judged : bracedDigits quote (drop at s) (drop start s) ≡ judged quote (drop at s) (braces (take (stop - start) (drop start s)))
+            (drop (stop + 1) s)
         braced-judged =
             braced-closed quote (drop at s) (drop start s) (drop (stop + 1) s) (omega arith) (behind-some isHex s start stop run h ∙ rw e)
             ∙ rw (front-at isHex s start stop run)
 
-        braced-rule : pieceRule quote (braces (take (stop - start) (drop start s))) ≡ (within 1 6 (stop - start) && spellsScalar (take (stop - start) (drop start s)))
+        braced-rule : pieceRule quote (braces (take (stop - start) (drop start s)))
+            ≡ (within 1 6 (stop - start) && spellsScalar (take (stop - start) (drop start s)))
         unfolding pieceRule
         braced-rule = rw (length-take-le (stop - start) (drop start s) (omega (arith, length-drop start s)))
 
@@ -98,12 +102,14 @@ module _ (quote : ℕ) (s : List ℕ) (at : ℕ) (h : at < length s) (b : getD s
   behind-part : (part : List ℕ) → startsWith (byte "\\" ∷ part) (drop at s) ≡ true → drop (at + 1) s ≡ part ++ drop (at + 1 + length part) s
   behind-part part e = starts-is part (drop (at + 1) s) (sym (starts-behind part) ∙ e) ∙ rw drop-drop
 
-  pub braced-there : startsWith (bytes "\\u{") (drop at s) ≡ true → escape quote (drop at s) (drop (at + 1) s) ≡ bracedDigits quote (drop at s) (drop (at + 3) s)
+  pub braced-there : startsWith (bytes "\\u{") (drop at s) ≡ true → escape quote (drop at s) (drop (at + 1) s)
+      ≡ bracedDigits quote (drop at s) (drop (at + 3) s)
   braced-there e =
       let n : at + 1 + 2 ≡ at + 3 = omega arith in
       rw (behind-part (bytes "u{") e, n) (escape-braces quote (drop at s) (drop (at + 3) s))
 
-  pub four-instead : startsWith (bytes "\\u{") (drop at s) ≡ false → startsWith (bytes "\\u") (drop at s) ≡ true → escape quote (drop at s) (drop (at + 1) s) ≡ fourDigits quote (drop at s) (drop (at + 2) s)
+  pub four-instead : startsWith (bytes "\\u{") (drop at s) ≡ false → startsWith (bytes "\\u") (drop at s) ≡ true
+      → escape quote (drop at s) (drop (at + 1) s) ≡ fourDigits quote (drop at s) (drop (at + 2) s)
   unfolding startsWith
   four-instead f e =
       let n : at + 1 + 1 ≡ at + 2 = omega arith in
@@ -118,7 +124,8 @@ module _ (quote : ℕ) (s : List ℕ) (at : ℕ) (h : at < length s) (b : getD s
   module _ (k : at + 1 < length s) (f : startsWith (bytes "\\u") (drop at s) ≡ false) where
     no-u : eqb (getD s (at + 1) 0) (byte "u") ≡ false
     unfolding startsWith
-    no-u = split (eqb (getD s (at + 1) 0) (byte "u")) (λ e. true-false (rw (here s (at + 1) k, startsWith, e) at (sym (starts-behind (bytes "u")) ∙ f))) (λ e. e)
+    no-u = split (eqb (getD s (at + 1) 0) (byte "u")) (λ e. true-false (rw (here s (at + 1) k, startsWith, e) at (sym (starts-behind (bytes "u")) ∙ f)))
+        (λ e. e)
 
     letter-judged : escape quote (drop at s) (drop (at + 1) s) ≡ judged quote (drop at s) (escaped (getD s (at + 1) 0)) (drop (at + 1 + 1) s)
     letter-judged = rw (here s (at + 1) k) (escape-letter quote _ (getD s (at + 1) 0) (drop (at + 1 + 1) s) no-u)

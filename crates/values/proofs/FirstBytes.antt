@@ -13,7 +13,8 @@ use Rattle.paper.specs.Found.{pick}
 use Rattle.paper.specs.Bytes.{byte, bytes, within, isUpper, isLower, isDigit, isLetter, isNameByte, isHex, elem, same, startsIn, lengthIn}
 use Rattle.paper.specs.Values.{isToken, isUuid, isIri, wordForm}
 use Rattle.paper.proofs.Tests.{split, true-false, either, in-range}
-use Rattle.paper.proofs.WordKinds.{Kind, boolean, integer, decimal, scientific, fraction, pascal, camel, uuid, iri, fits, formOf, firstForm, kinds, word-form, byKind, digitOr, hexDash, beginning, kind-first, by-first}
+use Rattle.paper.proofs.WordKinds.{Kind, boolean, integer, decimal, scientific, fraction, pascal, camel, uuid, iri}
+use Rattle.paper.proofs.WordKinds.{fits, formOf, firstForm, kinds, word-form, byKind, digitOr, hexDash, beginning, kind-first, by-first}
 use Rattle.text.proofs.Places.{here}
 use Rattle.values.specs.Kinds.{numberForm, isNamed, letteredForm, numeralForm}
 use Rattle.values.proofs.Runs.{all-run}
@@ -33,7 +34,8 @@ module _ (low high : ℕ) (w : List ℕ) where
     unfolding isNamed startsIn
     token-other e = rw (behind-sign, e)
 
-    pub token-run : (end : ℕ) → end ≡ 1 + lengthIn isNameByte (drop 1 w) → within low high (getD w 1 0) ≡ true → eqb end (length w) ≡ isNamed low high (drop 1 w)
+    pub token-run : (end : ℕ) → end ≡ 1 + lengthIn isNameByte (drop 1 w) → within low high (getD w 1 0) ≡ true
+        → eqb end (length w) ≡ isNamed low high (drop 1 w)
     unfolding isNamed startsIn
     token-run end r e =
         let s : startsIn (within low high) (drop 1 w) ≡ true = rw behind-sign e in
@@ -161,8 +163,10 @@ form-none [] h l n p c = absurd (h refl)
 form-none (b ∷ w) h l n p c = sym (by-first [] b w (no-kinds b l n [] (λ e. absurd (p (eqb-true b (byte "$") e))) (λ e. absurd (c (eqb-true b (byte "~") e)))))
 
 -- a token of a kind that its sign tells
-module _ (k : Kind) (sign low high : ℕ) (named : (w : List ℕ) → fits k (sign ∷ w) ≡ isNamed low high w) (only : (j : Kind) → beginning j sign ≡ true → Among j (k ∷ [])) where
-  token-form : (f : ℕ) (o : Bool) (w : List ℕ) → (length w ≡ 0 → ⊥) → getD w 0 0 ≡ sign → f ≡ pick o (formOf k) 0 → o ≡ isNamed low high (drop 1 w) → f ≡ wordForm w
+module _ (k : Kind) (sign low high : ℕ) (named : (w : List ℕ) → fits k (sign ∷ w) ≡ isNamed low high w)
+    (only : (j : Kind) → beginning j sign ≡ true → Among j (k ∷ [])) where
+  token-form : (f : ℕ) (o : Bool) (w : List ℕ) → (length w ≡ 0 → ⊥) → getD w 0 0 ≡ sign → f ≡ pick o (formOf k) 0 → o ≡ isNamed low high (drop 1 w)
+      → f ≡ wordForm w
   unfolding firstForm
   token-form f o [] h q e n = absurd (h refl)
   token-form f o (b ∷ w) h q e n = rw q (e ∙ rw (n, ← named w) (sym (by-first (k ∷ []) sign w only)))
@@ -176,14 +180,16 @@ module _ (f : ℕ) (o : Bool) (w : List ℕ) (some : length w ≡ 0 → ⊥) whe
   unfolding isUpper
   form-pascal =
       token-form pascal (byte "$") 0x41 0x5A (token-named (byte "$") 0x41 0x5A)
-      (no-kinds (byte "$") (λ l. omega (arith, letter-bounds (byte "$") l)) (λ n. omega (arith, numeral-bounds (byte "$") n)) _ (λ z. first refl) (λ z. true-false (sym z)))
+      (no-kinds (byte "$") (λ l. omega (arith, letter-bounds (byte "$") l)) (λ n. omega (arith, numeral-bounds (byte "$") n)) _ (λ z. first refl)
+      (λ z. true-false (sym z)))
       f o w some
 
   pub form-camel : getD w 0 0 ≡ byte "~" → f ≡ pick o 9 0 → o ≡ isNamed 0x61 0x7A (drop 1 w) → f ≡ wordForm w
   unfolding isLower
   form-camel =
       token-form camel (byte "~") 0x61 0x7A (token-named (byte "~") 0x61 0x7A)
-      (no-kinds (byte "~") (λ l. omega (arith, letter-bounds (byte "~") l)) (λ n. omega (arith, numeral-bounds (byte "~") n)) _ (λ z. true-false (sym z)) (λ z. first refl))
+      (no-kinds (byte "~") (λ l. omega (arith, letter-bounds (byte "~") l)) (λ n. omega (arith, numeral-bounds (byte "~") n)) _ (λ z. true-false (sym z))
+      (λ z. first refl))
       f o w some
 
 -- ---- the form of a word that begins with a letter, or with a digit or a sign

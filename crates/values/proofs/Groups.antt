@@ -26,7 +26,8 @@ no-groups k [] h = rw (ne-eqb 0 k (λ q. omega arith))
 no-groups k (m ∷ ns) h = rw (ne-eqb 0 k (λ q. omega arith))
 
 groups-are : (n k : ℕ) (ns w : List ℕ)
-    → hexGroups (n ∷ k ∷ ns) w ≡ ((eqb (length (upTo (is (byte "-")) w)) n && all isHex (upTo (is (byte "-")) w)) && hexGroups (k ∷ ns) (past (is (byte "-")) w))
+    → hexGroups (n ∷ k ∷ ns) w
+    ≡ ((eqb (length (upTo (is (byte "-")) w)) n && all isHex (upTo (is (byte "-")) w)) && hexGroups (k ∷ ns) (past (is (byte "-")) w))
 unfolding hexGroups
 groups-are n k ns w = refl
 
@@ -46,17 +47,18 @@ dash-not n w e q = rw q (rw (eq-eqb (lengthIn isHex w) n q) at e)
 
 module _ (n k : ℕ) (ns : List ℕ) (w : List ℕ) where
   -- nothing follows the digits, or "-"
-  dash-behind : endsAt (is (byte "-")) (behind isHex w) ≡ true → hexGroups (n ∷ k ∷ ns) w ≡ (eqb (lengthIn isHex w) n && hexGroups (k ∷ ns) (drop 1 (behind isHex w)))
+  dash-behind : endsAt (is (byte "-")) (behind isHex w) ≡ true → hexGroups (n ∷ k ∷ ns) w
+      ≡ (eqb (lengthIn isHex w) n && hexGroups (k ∷ ns) (drop 1 (behind isHex w)))
   dash-behind e =
       rw (groups-are n k ns w, up-to-run isHex (is (byte "-")) dash-apart w e, length-take-le (lengthIn isHex w) w (length-in isHex w), front-all isHex w)
       (ap (λ (x : Bool). x && hexGroups (k ∷ ns) (drop 1 (behind isHex w))) (and-true (eqb (lengthIn isHex w) n)))
 
-  pub group-there : isGroup n w ≡ true → hexGroups (n ∷ k ∷ ns) w ≡ hexGroups (k ∷ ns) (drop (n + 1) w)
+  group-there : isGroup n w ≡ true → hexGroups (n ∷ k ∷ ns) w ≡ hexGroups (k ∷ ns) (drop (n + 1) w)
   group-there e =
       let h = dash-there n w e in
       dash-behind (mark-ends (byte "-") (behind isHex w) (h .1)) ∙ rw (eq-eqb (lengthIn isHex w) n (sym (h .0)), drop-drop 1 (lengthIn isHex w) w, ← (h .0))
 
-  pub group-missing : 1 ≤ k → isGroup n w ≡ false → hexGroups (n ∷ k ∷ ns) w ≡ false
+  group-missing : 1 ≤ k → isGroup n w ≡ false → hexGroups (n ∷ k ∷ ns) w ≡ false
   group-missing some e =
       split (endsAt (is (byte "-")) (behind isHex w))
       (λ f. dash-behind f ∙ split (eqb (lengthIn isHex w) n)
@@ -65,7 +67,7 @@ module _ (n k : ℕ) (ns : List ℕ) (w : List ℕ) where
       (λ f. rw (groups-are n k ns w, up-to-more isHex (is (byte "-")) dash-apart w f, and-false (eqb (length (upTo (is (byte "-")) w)) n)))
 
 -- a group ends inside
-pub group-inside : (n : ℕ) (w : List ℕ) → isGroup n w ≡ true → n + 1 ≤ length w
+group-inside : (n : ℕ) (w : List ℕ) → isGroup n w ≡ true → n + 1 ≤ length w
 group-inside n w e =
     let h = dash-there n w e in
     let q = starts-is (bytes "-") (behind isHex w) (h .1) in
@@ -73,7 +75,7 @@ group-inside n w e =
 
 -- ---- the last group
 
-pub last-group : (n : ℕ) (w : List ℕ) → hexGroups (n ∷ []) w ≡ (eqb (length w) n && eqb (lengthIn isHex w) n)
+last-group : (n : ℕ) (w : List ℕ) → hexGroups (n ∷ []) w ≡ (eqb (length w) n && eqb (lengthIn isHex w) n)
 unfolding hexGroups
 last-group n w = split (eqb (length w) n) (λ e. rw (e, ← all-run isHex w, eqb-true (length w) n e)) (λ e. rw e)
 
@@ -91,44 +93,33 @@ module _ (w : List ℕ) (at size end : ℕ) (run : end ≡ at + lengthIn isHex (
   unfolding isGroup
   not-group e = rw (ne-eqb (end - at) size e, ne-eqb (lengthIn isHex (drop at w)) size (λ q. e (omega arith)))
 
--- ---- a UUID, group by group
+-- ---- a UUID, group by group: what it is from a place on
 
 module _ (w : List ℕ) where
-  pub no-first : isGroup 8 w ≡ false → false ≡ isUuid w
-  no-first e = sym (group-missing 8 4 _ w (omega arith) e)
+  module _ (at n k : ℕ) (ns : List ℕ) (rest : isUuid w ≡ hexGroups (n ∷ k ∷ ns) (drop at w)) where
+    pub group-off : 1 ≤ k → isGroup n (drop at w) ≡ false → false ≡ isUuid w
+    group-off some e = sym (rest ∙ group-missing n k ns (drop at w) some e)
 
-  module _ (first : isGroup 8 w ≡ true) where
-    after-first : isUuid w ≡ hexGroups (4 ∷ 4 ∷ 4 ∷ 12 ∷ []) (drop 9 w)
-    after-first = group-there 8 4 _ w first
+    pub group-on : isGroup n (drop at w) ≡ true → isUuid w ≡ hexGroups (k ∷ ns) (drop (at + (n + 1)) w)
+    group-on e = rest ∙ group-there n k ns (drop at w) e ∙ rw drop-drop
 
-    pub no-second : isGroup 4 (drop 9 w) ≡ false → false ≡ isUuid w
-    no-second e = sym (after-first ∙ group-missing 4 4 _ (drop 9 w) (omega arith) e)
+  -- where the next group is due
+  pub group-before : (at n : ℕ) → isGroup n (drop at w) ≡ true → at + (n + 1) ≤ length w
+  group-before at n e = omega (arith, group-inside n (drop at w) e, length-drop at w)
 
-    module _ (second : isGroup 4 (drop 9 w) ≡ true) where
-      after-second : isUuid w ≡ hexGroups (4 ∷ 4 ∷ 12 ∷ []) (drop 14 w)
-      after-second = after-first ∙ group-there 4 4 _ (drop 9 w) second ∙ rw (drop-drop 5 9 w)
+  -- the last group
+  module _ (rest : isUuid w ≡ hexGroups (12 ∷ []) (drop 24 w)) (end : ℕ) (run : end ≡ 24 + lengthIn isHex (drop 24 w)) where
+    size : eqb (length (drop 24 w)) 12 ≡ eqb (length w) 36
+    size = split (eqb (length w) 36)
+        (λ e. rw (e, eq-eqb (length (drop 24 w)) 12 (omega (arith, eqb-true (length w) 36 e, length-drop 24 w))))
+        (λ e. rw (e, ne-eqb (length (drop 24 w)) 12 (λ q. eqb-false (length w) 36 e (omega (arith, length-drop 24 w)))))
 
-      pub no-third : isGroup 4 (drop 14 w) ≡ false → false ≡ isUuid w
-      no-third e = sym (after-second ∙ group-missing 4 4 _ (drop 14 w) (omega arith) e)
+    by-size : isUuid w ≡ (eqb (length w) 36 && eqb (lengthIn isHex (drop 24 w)) 12)
+    by-size = rest ∙ last-group 12 (drop 24 w) ∙ rw size
 
-      module _ (third : isGroup 4 (drop 14 w) ≡ true) where
-        after-third : isUuid w ≡ hexGroups (4 ∷ 12 ∷ []) (drop 19 w)
-        after-third = after-second ∙ group-there 4 4 _ (drop 14 w) third ∙ rw (drop-drop 5 14 w)
+    pub last-digits : end ≡ 36 → eqb (length w) 36 ≡ isUuid w
+    last-digits e = sym (by-size ∙ rw (eq-eqb (lengthIn isHex (drop 24 w)) 12 (omega arith)) (and-true (eqb (length w) 36)))
 
-        pub no-fourth : isGroup 4 (drop 19 w) ≡ false → false ≡ isUuid w
-        no-fourth e = sym (after-third ∙ group-missing 4 12 _ (drop 19 w) (omega arith) e)
-
-        module _ (fourth : isGroup 4 (drop 19 w) ≡ true) (end : ℕ) (run : end ≡ 24 + lengthIn isHex (drop 24 w)) where
-          after-fourth : isUuid w ≡ (eqb (length (drop 24 w)) 12 && eqb (lengthIn isHex (drop 24 w)) 12)
-          after-fourth = after-third ∙ group-there 4 12 _ (drop 19 w) fourth ∙ rw (drop-drop 5 19 w) (last-group 12 (drop 24 w))
-
-          size : eqb (length (drop 24 w)) 12 ≡ eqb (length w) 36
-          size = split (eqb (length w) 36)
-              (λ e. rw (e, eq-eqb (length (drop 24 w)) 12 (omega (arith, eqb-true (length w) 36 e, length-drop 24 w))))
-              (λ e. rw (e, ne-eqb (length (drop 24 w)) 12 (λ q. eqb-false (length w) 36 e (omega (arith, length-drop 24 w)))))
-
-          pub fifth-digits : end ≡ 36 → eqb (length w) 36 ≡ isUuid w
-          fifth-digits e = sym (after-fourth ∙ rw (size, eq-eqb (lengthIn isHex (drop 24 w)) 12 (omega arith)) (and-true (eqb (length w) 36)))
-
-          pub no-fifth : (end ≡ 36 → ⊥) → eqb end 36 ≡ isUuid w
-          no-fifth e = sym (after-fourth ∙ rw (ne-eqb (lengthIn isHex (drop 24 w)) 12 (λ q. e (omega arith)), ne-eqb end 36 e) (and-false (eqb (length (drop 24 w)) 12)))
+    pub no-last : (end ≡ 36 → ⊥) → eqb end 36 ≡ isUuid w
+    no-last e =
+        sym (by-size ∙ rw (ne-eqb (lengthIn isHex (drop 24 w)) 12 (λ q. e (omega arith)), ne-eqb end 36 e) (and-false (eqb (length w) 36)))

@@ -57,7 +57,8 @@ counted-digit b l d some =
     (λ e. let n : countLength (b ∷ l) ≡ suc (lengthIn isDigit l) = rw (d, lengthIn, e) in
     rw n (record {
       size = rw (d, lengthIn);
-      good = rw (d, front-all isDigit l, length-take-le (lengthIn isDigit l) l (length-in isDigit l)) (one-or (suc (lengthIn isDigit l)) (eqb b (byte "0")) e (omega arith));
+      good = rw (d, front-all isDigit l, length-take-le (lengthIn isDigit l) l (length-in isDigit l))
+          (one-or (suc (lengthIn isDigit l)) (eqb b (byte "0")) e (omega arith));
     }))
 
 no-digit-first : (w : List ℕ) → startsIn isDigit w ≡ false → countLength w ≡ 0

@@ -10,7 +10,8 @@ use lib.Seq.{drop-drop}
 use lib.Dec.{leb}
 use borrow.Author.Tests.{le-leb}
 use Rattle.paper.specs.Found.{Found, found, fault}
-use Rattle.paper.specs.Bytes.{byte, bytes, within, isUpper, isLower, isDigit, isLetter, isNameByte, all, elem, startsIn, startsWith, lengthIn, front, behind, scalar}
+use Rattle.paper.specs.Bytes.{byte, bytes, within, isUpper, isLower, isDigit, isLetter, isNameByte}
+use Rattle.paper.specs.Bytes.{all, elem, startsIn, startsWith, lengthIn, front, behind, scalar}
 use Rattle.paper.specs.Values.{upTo, onward, is, isIriScalar, isIriBody, isScheme, isIri}
 use Rattle.paper.proofs.Tests.{split, apart, inside, below, above, byRange}
 use Rattle.paper.proofs.Lists.{elem-apart, front-all}
@@ -30,19 +31,31 @@ marks = bytes "-._~:/?#[]@!$&'()*+,;=%"
 pub iri-ascii : (b : ℕ) → b ≤ 0x7F → (isNameByte b || elem b marks) ≡ isIriScalar b
 unfolding isIriScalar
 iri-ascii b h =
-    rw (below 0xA0 0xD7FF b (omega arith), below 0xF900 0xFDCF b (omega arith), below 0xFDF0 0xFFEF b (omega arith), below 0x10000 0xDFFFF b (omega arith), below 0xE1000 0xEFFFD b (omega arith))
+    rw (
+      below 0xA0 0xD7FF b (omega arith),
+      below 0xF900 0xFDCF b (omega arith),
+      below 0xFDF0 0xFFEF b (omega arith),
+      below 0x10000 0xDFFFF b (omega arith),
+      below 0xE1000 0xEFFFD b (omega arith),
+    )
     (split (isNameByte b || elem b marks) (λ e. rw e) (λ e. rw e))
 
 -- the others lie in ranges
 unfoldable inRanges : ℕ → Bool
 inRanges v =
-    within 0xA0 0xD7FF v || within 0xF900 0xFDCF v || within 0xFDF0 0xFFEF v || (within 0x10000 0xDFFFF v && leb (v % 0x10000) 0xFFFD) || within 0xE1000 0xEFFFD v
+    within 0xA0 0xD7FF v || within 0xF900 0xFDCF v || within 0xFDF0 0xFFEF v ||
+    (within 0x10000 0xDFFFF v && leb (v % 0x10000) 0xFFFD) || within 0xE1000 0xEFFFD v
 
 module _ (v : ℕ) where
   iri-high : 0x80 ≤ v → inRanges v ≡ isIriScalar v
   unfolding isIriScalar inRanges isNameByte isLetter isUpper isLower isDigit elem all
   iri-high h =
-      rw (above 0x41 0x5A v (omega arith), above 0x61 0x7A v (omega arith), above 0x30 0x39 v (omega arith), elem-apart (leb 0x80) v marks (le-leb 0x80 v h) refl)
+      rw (
+        above 0x41 0x5A v (omega arith),
+        above 0x61 0x7A v (omega arith),
+        above 0x30 0x39 v (omega arith),
+        elem-apart (leb 0x80) v marks (le-leb 0x80 v h) refl,
+      )
 
   outside : (low high : ℕ) → (low ≤ v → v ≤ high → ⊥) → within low high v ≡ false
   outside low high n = byRange low high v (λ l h e. absurd (n l h)) (λ e. e)
@@ -62,17 +75,31 @@ module _ (v : ℕ) where
   pub iri-planes : 0x10000 ≤ v → v ≤ 0xDFFFF → leb (v % 0x10000) 0xFFFD ≡ isIriScalar v
   unfolding inRanges
   iri-planes l h =
-      rw (above 0xA0 0xD7FF v (omega arith), above 0xF900 0xFDCF v (omega arith), above 0xFDF0 0xFFEF v (omega arith), inside 0x10000 0xDFFFF v l h, below 0xE1000 0xEFFFD v (omega arith), or-false (leb (v % 0x10000) 0xFFFD)) at (iri-high (omega arith))
+      rw (
+        above 0xA0 0xD7FF v (omega arith),
+        above 0xF900 0xFDCF v (omega arith),
+        above 0xFDF0 0xFFEF v (omega arith),
+        inside 0x10000 0xDFFFF v l h,
+        below 0xE1000 0xEFFFD v (omega arith),
+        or-false (leb (v % 0x10000) 0xFFFD),
+      ) at (iri-high (omega arith))
 
   pub iri-last-plane : 0xE1000 ≤ v → v ≤ 0xEFFFD → true ≡ isIriScalar v
   unfolding inRanges
   iri-last-plane l h =
-      rw (above 0xA0 0xD7FF v (omega arith), above 0xF900 0xFDCF v (omega arith), above 0xFDF0 0xFFEF v (omega arith), above 0x10000 0xDFFFF v (omega arith), inside 0xE1000 0xEFFFD v l h) at (iri-high (omega arith))
+      rw (
+        above 0xA0 0xD7FF v (omega arith),
+        above 0xF900 0xFDCF v (omega arith),
+        above 0xFDF0 0xFFEF v (omega arith),
+        above 0x10000 0xDFFFF v (omega arith),
+        inside 0xE1000 0xEFFFD v l h,
+      ) at (iri-high (omega arith))
 
   pub iri-none : 0x80 ≤ v → (0xA0 ≤ v → v ≤ 0xD7FF → ⊥) → (0xF900 ≤ v → v ≤ 0xFDCF → ⊥) → (0xFDF0 ≤ v → v ≤ 0xFFEF → ⊥)
       → (0x10000 ≤ v → v ≤ 0xDFFFF → ⊥) → (0xE1000 ≤ v → v ≤ 0xEFFFD → ⊥) → false ≡ isIriScalar v
   unfolding inRanges
-  iri-none h a b c d e = rw (outside 0xA0 0xD7FF a, outside 0xF900 0xFDCF b, outside 0xFDF0 0xFFEF c, outside 0x10000 0xDFFFF d, outside 0xE1000 0xEFFFD e) at (iri-high h)
+  iri-none h a b c d e =
+      rw (outside 0xA0 0xD7FF a, outside 0xF900 0xFDCF b, outside 0xFDF0 0xFFEF c, outside 0x10000 0xDFFFF d, outside 0xE1000 0xEFFFD e) at (iri-high h)
 
 -- ---- a body, one scalar value at a time
 

@@ -19,6 +19,10 @@ use Rattle.values.specs.Entering.{firstOver}
 
 -- ---- parts
 
+-- an item, what stands behind it, and what is made of both
+abbrev pub withMore : {A : Type 0} → ℕ → (Value → More → A) → Found Value → Found A
+withMore lists make x = andThen x (λ v mid. andThen (moreOf lists mid) (λ more end. found (make v more) end))
+
 -- an item, and what stands behind it
 pub record Parts (lists : ℕ) (x : Found Value) (v : Value) (more : More) (left : List ℕ) : Type 0 where
   pub mid : List ℕ
@@ -33,7 +37,7 @@ pub record MadeOf {A : Type 0} (lists : ℕ) (make : Value → More → A) (x : 
   pub parts : Parts lists x first rest left
 
 module _ {A : Type 0} (lists : ℕ) (make : Value → More → A) where
-  pub made-of : (x : Found Value) (a : A) (left : List ℕ) → andThen x (λ v mid. andThen (moreOf lists mid) (λ more end. found (make v more) end)) ≡ found a left → MadeOf lists make x a left
+  pub made-of : (x : Found Value) (a : A) (left : List ℕ) → withMore lists make x ≡ found a left → MadeOf lists make x a left
   made-of (found v mid) a left e = go (moreOf lists mid) refl e
     where
       go : (y : Found More) → moreOf lists mid ≡ y → andThen y (λ more end. found (make v more) end) ≡ found a left → MadeOf lists make (found v mid) a left
@@ -44,11 +48,12 @@ module _ {A : Type 0} (lists : ℕ) (make : Value → More → A) where
       go (fault n end) q e = let z : _≡_ {A = ℕ} 0 1 = cc in absurd (omega arith)
   made-of (fault n mid) a left e = let z : _≡_ {A = ℕ} 0 1 = cc in absurd (omega arith)
 
-  pub together : (x : Found Value) (v : Value) (more : More) (left : List ℕ) → Parts lists x v more left → andThen x (λ v mid. andThen (moreOf lists mid) (λ more end. found (make v more) end)) ≡ found (make v more) left
+  pub together : (x : Found Value) (v : Value) (more : More) (left : List ℕ) → Parts lists x v more left → withMore lists make x ≡ found (make v more) left
   together x v more left p = rw (p .item, p .behind)
 
 -- a list that was found has these parts
-pub list-parts : (lists : ℕ) (l : List ℕ) (v : Value) (more : More) (left : List ℕ) → itemAnd lists list l ≡ found (list v more) left → Parts lists (valueOf lists listEnders l) v more left
+pub list-parts : (lists : ℕ) (l : List ℕ) (v : Value) (more : More) (left : List ℕ) → itemAnd lists list l ≡ found (list v more) left
+    → Parts lists (valueOf lists listEnders l) v more left
 list-parts lists l v more left e = go (made-of lists list (valueOf lists listEnders l) (list v more) left e)
   where
     go : MadeOf lists list (valueOf lists listEnders l) (list v more) left → Parts lists (valueOf lists listEnders l) v more left
@@ -60,7 +65,8 @@ list-parts lists l v more left e = go (made-of lists list (valueOf lists listEnd
         record { mid = p .mid; item = p .item ∙ ap (λ (w : Value). found w (p .mid)) a; behind = p .behind ∙ ap (λ (m : More). found m left) b }
 
 -- where no comma stands behind an item, "]" does
-pub closed : (lists : ℕ) (l : List ℕ) (more : More) (left : List ℕ) → startsWith (bytes ",") l ≡ false → moreOf lists l ≡ found more left → (more ≡ close) × (l ≡ byte "]" ∷ left)
+pub closed : (lists : ℕ) (l : List ℕ) (more : More) (left : List ℕ) → startsWith (bytes ",") l ≡ false → moreOf lists l ≡ found more left → (more ≡ close)
+    × (l ≡ byte "]" ∷ left)
 unfolding startsWith
 closed lists [] more left c e =
     let f : fault 9 [] ≡ found more left = sym (more-of-end lists) ∙ e in

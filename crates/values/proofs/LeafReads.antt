@@ -14,9 +14,9 @@ use Rattle.paper.specs.ReadingValues.{characterOf, wordLength, wordOf, wordLeaf
 use Rattle.paper.proofs.Leaves.{word-none, word-there, leaf-string, leaf-character, leaf-backtick, leaf-word}
 use Rattle.paper.proofs.Tests.{upTo}
 use Rattle.text.proofs.Places.{here}
-use Rattle.values.specs.declared.read.Read.{Read}
-use Rattle.values.specs.Seen.{Reading, stringOf, backtickOf}
-use Rattle.values.proofs.Seeing.{moved}
+use Rattle.values.specs.declared.judged.Judged.{Judged}
+use Rattle.values.specs.Shown.{Judges, stringOf, backtickOf}
+use Rattle.values.proofs.Showing.{moved}
 use Rattle.values.proofs.FirstBytes.{form-empty}
 
 -- ---- words
@@ -50,18 +50,18 @@ pub leaf-ends : (also s : List ℕ) (at : ℕ) → length s ≤ at → leafOf al
 unfolding leafOf
 leaf-ends also s at h = rw (drop-of-length-le s h)
 
-module _ (also s : List ℕ) (at : ℕ) (h : at < length s) (r : Read) where
-  pub string-leaf : getD s at 0 ≡ byte "\"" → Reading leafForm s (at + 1) (stringOf (drop (at + 1) s)) r → Reading leafForm s at (leafOf also (drop at s)) r
+module _ (also s : List ℕ) (at : ℕ) (h : at < length s) (r : Judged) where
+  pub string-leaf : getD s at 0 ≡ byte "\"" → Judges leafForm s (at + 1) (stringOf (drop (at + 1) s)) r → Judges leafForm s at (leafOf also (drop at s)) r
   string-leaf q e = moved e at (leafOf also (drop at s)) (omega arith) (rw (here s at h, q, leaf-string also (drop (at + 1) s)))
 
-  pub character-leaf : getD s at 0 ≡ byte "'" → Reading leafForm s (at + 1) (characterOf (drop (at + 1) s)) r → Reading leafForm s at (leafOf also (drop at s)) r
+  pub character-leaf : getD s at 0 ≡ byte "'" → Judges leafForm s (at + 1) (characterOf (drop (at + 1) s)) r → Judges leafForm s at (leafOf also (drop at s)) r
   character-leaf q e = moved e at (leafOf also (drop at s)) (omega arith) (rw (here s at h, q, leaf-character also (drop (at + 1) s)))
 
-  pub backtick-leaf : getD s at 0 ≡ byte "`" → Reading leafForm s (at + 1) (backtickOf (drop (at + 1) s)) r → Reading leafForm s at (leafOf also (drop at s)) r
+  pub backtick-leaf : getD s at 0 ≡ byte "`" → Judges leafForm s (at + 1) (backtickOf (drop (at + 1) s)) r → Judges leafForm s at (leafOf also (drop at s)) r
   backtick-leaf q e = moved e at (leafOf also (drop at s)) (omega arith) (rw (here s at h, q, leaf-backtick also (drop (at + 1) s)))
 
   pub word-leaf : (getD s at 0 ≡ byte "\"" → ⊥) → (getD s at 0 ≡ byte "'" → ⊥) → (getD s at 0 ≡ byte "`" → ⊥)
-      → Reading leafForm s at (wordLeaf also (drop at s)) r → Reading leafForm s at (leafOf also (drop at s)) r
+      → Judges leafForm s at (wordLeaf also (drop at s)) r → Judges leafForm s at (leafOf also (drop at s)) r
   unfolding firstOf
   word-leaf d q t e =
       let o : firstOf (getD s at 0) ≡ other = rw (ne-eqb (getD s at 0) (byte "\"") d, ne-eqb (getD s at 0) (byte "'") q, ne-eqb (getD s at 0) (byte "`") t) in

@@ -1,6 +1,6 @@
 -- Laws of reading values at a place, over the definitions of the paper.
 pub mod Runs
-pub mod Seeing
+pub mod Showing
 pub mod HexDigits
 pub mod Escaping
 pub mod Quotes

@@ -79,7 +79,8 @@ module _ (v : List ℕ) (good : isInteger v ≡ true) (c : ℕ) (d : isDigit c �
 
   module _ (r : List ℕ) where
     -- an integer up to the mark, and something behind it
-    two-parts : (mark : ℕ → Bool) → Apart mark → (rule : List ℕ → Bool) → isInteger (upTo mark (v ++ (c ∷ r))) && rule (past mark (v ++ (c ∷ r))) ≡ (mark c && rule r)
+    two-parts : (mark : ℕ → Bool) → Apart mark → (rule : List ℕ → Bool)
+        → isInteger (upTo mark (v ++ (c ∷ r))) && rule (past mark (v ++ (c ∷ r))) ≡ (mark c && rule r)
     two-parts mark apart rule =
         split (mark c)
         (λ e. let k = mark-parts mark apart v (integer-made v good .0) c r e in rw (k .0, k .1, good, e))
@@ -97,9 +98,11 @@ module _ (v : List ℕ) (good : isInteger v ≡ true) (c : ℕ) (d : isDigit c �
     unfolding isScientific
     exponent-is e = let k = mark-parts isExponent exponent-apart v (integer-made v good .0) c r e in rw (k .0, k .1, good)
 
-  scientific-is : (r : List ℕ) → isExponent c ≡ false → isScientific (v ++ (c ∷ r)) ≡ ((eqb c (byte ".") && areDigits (upTo isExponent r)) && isInteger (past isExponent r))
+  scientific-is : (r : List ℕ) → isExponent c ≡ false → isScientific (v ++ (c ∷ r))
+      ≡ ((eqb c (byte ".") && areDigits (upTo isExponent r)) && isInteger (past isExponent r))
   unfolding isScientific
-  scientific-is r e = let k = other-parts isExponent exponent-apart v (integer-made v good .0) c r e in rw (k .0, k .1, more-than (upTo isExponent r), decimal-is (upTo isExponent r))
+  scientific-is r e = let k =
+      other-parts isExponent exponent-apart v (integer-made v good .0) c r e in rw (k .0, k .1, more-than (upTo isExponent r), decimal-is (upTo isExponent r))
 
 -- ---- the form of a word that begins with an integer
 
@@ -124,7 +127,14 @@ module _ (v : List ℕ) (good : isInteger v ≡ true) (c : ℕ) (d : isDigit c �
   unfolding numberForm elem
   form-other p x s =
       let no : isExponent c ≡ false = rw (ne-eqb c (byte "e") (λ q. x (inr q)), ne-eqb c (byte "E") (λ q. x (inl q))) in
-      rw (more-than v good c d r, decimal-is v good c d r, scientific-is v good c d r no, fraction-is v good c d r, ne-eqb c (byte ".") p, ne-eqb c (byte "/") s)
+      rw (
+        more-than v good c d r,
+        decimal-is v good c d r,
+        scientific-is v good c d r no,
+        fraction-is v good c d r,
+        ne-eqb c (byte ".") p,
+        ne-eqb c (byte "/") s,
+      )
 
 -- ---- a word that begins with no integer
 
@@ -151,13 +161,20 @@ no-decimal w z =
     let point = is (byte ".") in
     let u = upTo isExponent w in
     none-before integers w (upTo point u) (onward point u ++ onward isExponent w)
-    (sym (rw (← append-assoc (upTo point u) (onward point u) (onward isExponent w), front-behind (λ b. not (point b)) u) (front-behind (λ b. not (isExponent b)) w)))
+    (sym (rw (← append-assoc (upTo point u) (onward point u) (onward isExponent w), front-behind (λ b. not (point b)) u)
+    (front-behind (λ b. not (isExponent b)) w)))
     (not-either (onward point u) (onward isExponent w) (no-digit-onward point point-apart u) (no-digit-onward isExponent exponent-apart w)) z
 
 pub number-none : (w : List ℕ) → integerLength w ≡ 0 → 0 ≡ numberForm w
 unfolding numberForm isDecimal isScientific isFraction
 number-none w z =
-    rw (whole-none integers w z, none-up-to (is (byte ".")) point-apart w z, none-up-to isExponent exponent-apart w z, no-decimal w z, none-up-to (is (byte "/")) slash-apart w z)
+    rw (
+      whole-none integers w z,
+      none-up-to (is (byte ".")) point-apart w z,
+      none-up-to isExponent exponent-apart w z,
+      no-decimal w z,
+      none-up-to (is (byte "/")) slash-apart w z,
+    )
 
 -- ---- at the end of the integer in front
 
@@ -187,7 +204,8 @@ module _ (w : List ℕ) (n : ℕ) (size : n ≡ integerLength w) (some : n ≡ 0
     number-other p x s = form-other (take n w) (begun .good) (getD w n 0) next (drop (n + 1) w) p x s ∙ ap numberForm (sym (parts-at w n h))
 
 -- the form by a rule for the part that is left
-pub part-form : (rule : List ℕ → Bool) (w : List ℕ) (i k f : ℕ) (o : Bool) → f ≡ pick o k 0 → o ≡ rule (take (length w - i) (drop i w)) → f ≡ pick (rule (drop i w)) k 0
+pub part-form : (rule : List ℕ → Bool) (w : List ℕ) (i k f : ℕ) (o : Bool) → f ≡ pick o k 0 → o ≡ rule (take (length w - i) (drop i w))
+    → f ≡ pick (rule (drop i w)) k 0
 part-form rule w i k f o e q = e ∙ ap (λ (x : Bool). pick x k 0) (q ∙ ap rule (part-rest w i))
 
 -- ---- behind a point
@@ -242,5 +260,6 @@ module _ (w : List ℕ) (n : ℕ) (size : n ≡ lengthIn isDigit w) (some : n �
     point-other x =
         let no : isExponent (getD w n 0) ≡ false = rw (ne-eqb (getD w n 0) (byte "e") (λ q. x (inr q)), ne-eqb (getD w n 0) (byte "E") (λ q. x (inl q))) in
         let k = other-parts isExponent exponent-apart (take n w) made (getD w n 0) (drop (n + 1) w) no in
-        let u : areDigits (upTo isExponent w) ≡ false = ap (λ (y : List ℕ). areDigits (upTo isExponent y)) (parts-at w n h) ∙ rw (k .0) (digits-broken (take n w) _ _ next-other) in
+        let u : areDigits (upTo isExponent w) ≡ false = ap (λ (y : List ℕ). areDigits (upTo isExponent y)) (parts-at w n h)
+        ∙ rw (k .0) (digits-broken (take n w) _ _ next-other) in
         rw (not-digits, u)

@@ -23,10 +23,10 @@ use Rattle.text.specs.declared.utf8.Step.{Step}
 use Rattle.text.specs.Steps.{stepAt}
 use Rattle.text.proofs.Places.{here}
 use Rattle.text.proofs.Steps.{Stepped, ended, failed}
-use Rattle.values.specs.declared.read.Read.{Read}
-use Rattle.values.specs.Seen.{seenOf, Reading, noForm, quotedOf, stringOf, backtickOf}
+use Rattle.values.specs.declared.judged.Judged.{Judged}
+use Rattle.values.specs.Shown.{shownOf, Judges, noForm, quotedOf, stringOf, backtickOf}
 use Rattle.text.proofs.Answers.{FoundTo}
-use Rattle.values.proofs.Seeing.{stands, passes, moved}
+use Rattle.values.proofs.Showing.{stands, passes, moved}
 
 -- ---- what a byte is between two quotes
 
@@ -43,7 +43,8 @@ module _ (quote b : ℕ) where
 
 -- the pieces do not show in the answer, where each run of them has the same form
 more-seen : (make : List Piece → Leaf) (f : ℕ) → ((ps : List Piece) → leafForm (make ps) ≡ f) → (s : List ℕ) (p : Piece) (x : Found (List Piece))
-    → seenOf leafForm s (andThen x (λ ps left. found (make ps) left)) ≡ seenOf leafForm s (andThen (andThen x (λ ps left. found (p ∷ ps) left)) (λ ps left. found (make ps) left))
+    → shownOf leafForm s (andThen x (λ ps left. found (make ps) left))
+    ≡ shownOf leafForm s (andThen (andThen x (λ ps left. found (p ∷ ps) left)) (λ ps left. found (make ps) left))
 more-seen make f formed s p (found ps left) = rw (formed ps, formed (p ∷ ps))
 more-seen make f formed s p (fault n left) = refl
 
@@ -55,16 +56,19 @@ module _ (turn : ℕ → List ℕ → Turn Piece) (shorter : (room : ℕ) (s : L
   run-stop n t left e = rw (many-turn (λ p. 0) turn shorter (suc (length t)) 0 t (omega arith), e)
 
   run-more : (f : ℕ) → ((ps : List Piece) → leafForm (make ps) ≡ f) → (s t mid : List ℕ) (p : Piece) → turn 0 t ≡ more p mid
-      → seenOf leafForm s (quotedOf turn make mid) ≡ seenOf leafForm s (quotedOf turn make t)
-  run-more f formed s t mid p e = rw (many-turn (λ p. 0) turn shorter (suc (length t)) 0 t (omega arith), e) (more-seen make f formed s p (manyOf (λ p. 0) turn 0 mid))
+      → shownOf leafForm s (quotedOf turn make mid) ≡ shownOf leafForm s (quotedOf turn make t)
+  run-more f formed s t mid p e = rw (many-turn (λ p. 0) turn shorter (suc (length t)) 0 t (omega arith), e)
+      (more-seen make f formed s p (manyOf (λ p. 0) turn 0 mid))
 
 -- ---- an escape that was read
 
-escape-at : (quote : ℕ) (s : List ℕ) (i : ℕ) → i < length s → getD s i 0 ≡ byte "\\" → Reads (drop i s) (Stood quote (drop i s)) (escape quote (drop i s) (drop (i + 1) s))
+escape-at : (quote : ℕ) (s : List ℕ) (i : ℕ) → i < length s → getD s i 0
+    ≡ byte "\\" → Reads (drop i s) (Stood quote (drop i s)) (escape quote (drop i s) (drop (i + 1) s))
 escape-at quote s i h b = rw (here s i h, b) (escape-reads quote (drop (i + 1) s))
 
-module _ (quote : ℕ) (s : List ℕ) (i : ℕ) (h : i < length s) (b : getD s i 0 ≡ byte "\\") (q : Read) (e : Reading noForm s i (escape quote (drop i s) (drop (i + 1) s)) q) where
-  escape-stands : (f end : ℕ) → q ≡ Read.Found f end → FoundTo (Stood quote (drop i s)) s i (escape quote (drop i s) (drop (i + 1) s)) end
+module _ (quote : ℕ) (s : List ℕ) (i : ℕ) (h : i < length s) (b : getD s i 0
+    ≡ byte "\\") (q : Judged) (e : Judges noForm s i (escape quote (drop i s) (drop (i + 1) s)) q) where
+  escape-stands : (f end : ℕ) → q ≡ Judged.Found f end → FoundTo (Stood quote (drop i s)) s i (escape quote (drop i s) (drop (i + 1) s)) end
   escape-stands f end p = stands e (Stood quote (drop i s)) (escape-at quote s i h b) f end p
 
 -- ---- strings
@@ -89,21 +93,24 @@ module _ (s : List ℕ) (i : ℕ) (h : i < length s) where
       run-stop pieceTurn turn-shorter string 6 _ _ (piece-at (turn-breaks 0 _ _ (line-end e)))
       ∙ ap (fault 6) (sym (here s i h))
 
-  pub string-itself : (getD s i 0 ≡ byte "\"" → ⊥) → (getD s i 0 ≡ byte "\\" → ⊥) → ((getD s i 0 ≡ lf) ⊎ (getD s i 0 ≡ cr) → ⊥) → {r : Read}
-      → Reading leafForm s (i + 1) (stringOf (drop (i + 1) s)) r → Reading leafForm s i (stringOf (drop i s)) r
+  pub string-itself : (getD s i 0 ≡ byte "\"" → ⊥) → (getD s i 0 ≡ byte "\\" → ⊥) → ((getD s i 0 ≡ lf) ⊎ (getD s i 0 ≡ cr) → ⊥) → {r : Judged}
+      → Judges leafForm s (i + 1) (stringOf (drop (i + 1) s)) r → Judges leafForm s i (stringOf (drop i s)) r
   string-itself q k l e =
       moved e i (stringOf (drop i s)) (omega arith)
-      (run-more pieceTurn turn-shorter string 1 (λ ps. refl) s _ _ _ (piece-at (turn-itself 0 _ _ (inside-itself (byte "\"") (getD s i 0) q k (λ n. l (inl n)) (λ n. l (inr n))))))
+      (run-more pieceTurn turn-shorter string 1 (λ ps. refl) s _ _ _ (piece-at
+      (turn-itself 0 _ _ (inside-itself (byte "\"") (getD s i 0) q k (λ n. l (inl n)) (λ n. l (inr n))))))
 
-  module _ (b : getD s i 0 ≡ byte "\\") (q : Read) (e : Reading noForm s i (escape (byte "\"") (drop i s) (drop (i + 1) s)) q) where
+  module _ (b : getD s i 0 ≡ byte "\\") (q : Judged) (e : Judges noForm s i (escape (byte "\"") (drop i s) (drop (i + 1) s)) q) where
     string-escape : pieceTurn 0 (drop i s) ≡ turnOf (escape (byte "\"") (drop i s) (drop (i + 1) s))
     unfolding insideOf
     string-escape = piece-at (turn-escapes 0 (getD s i 0) (drop (i + 1) s) (rw b)) ∙ rw (here s i h)
 
-    pub string-refused : (why : Refusal) (place : ℕ) → q ≡ Read.Refused why place → Reading leafForm s i (stringOf (drop i s)) q
-    string-refused why place p = passes e leafForm i (stringOf (drop i s)) why place p (λ left x. run-stop pieceTurn turn-shorter string _ _ _ (string-escape ∙ ap turnOf x))
+    pub string-refused : (why : Refusal) (place : ℕ) → q ≡ Judged.Refused why place → Judges leafForm s i (stringOf (drop i s)) q
+    string-refused why place p = passes e leafForm i (stringOf (drop i s)) why place p
+        (λ left x. run-stop pieceTurn turn-shorter string _ _ _ (string-escape ∙ ap turnOf x))
 
-    pub string-escaped : (f end : ℕ) → q ≡ Read.Found f end → {r : Read} → Reading leafForm s end (stringOf (drop end s)) r → Reading leafForm s i (stringOf (drop i s)) r
+    pub string-escaped : (f end : ℕ) → q ≡ Judged.Found f end → {r : Judged} → Judges leafForm s end (stringOf (drop end s)) r
+        → Judges leafForm s i (stringOf (drop i s)) r
     string-escaped f end p k =
         let x = escape-stands (byte "\"") s i h b q e f end p in
         moved k i (stringOf (drop i s)) (omega (arith, e .ahead f end p))
@@ -133,16 +140,16 @@ module _ (s : List ℕ) (at : ℕ) (h : at < length s) where
       rw (here s at h)
       (⊎-elim (λ l. character-breaks _ _ (rw l)) (⊎-elim (λ l. character-breaks _ _ (rw l)) (λ q. character-closes _ _ (rw q))) e)
 
-  module _ (b : getD s at 0 ≡ byte "\\") (q : Read) (e : Reading noForm s at (escape (byte "'") (drop at s) (drop (at + 1) s)) q) where
+  module _ (b : getD s at 0 ≡ byte "\\") (q : Judged) (e : Judges noForm s at (escape (byte "'") (drop at s) (drop (at + 1) s)) q) where
     character-escape : characterOf (drop at s) ≡ andThen (escape (byte "'") (drop at s) (drop (at + 1) s)) (λ p left. closeCharacter (p ∷ []) left)
     unfolding insideOf
     character-escape = rw (here s at h) (character-escapes (getD s at 0) (drop (at + 1) s) (rw b))
 
-    pub character-refused : (why : Refusal) (place : ℕ) → q ≡ Read.Refused why place → Reading leafForm s at (characterOf (drop at s)) q
+    pub character-refused : (why : Refusal) (place : ℕ) → q ≡ Judged.Refused why place → Judges leafForm s at (characterOf (drop at s)) q
     character-refused why place p = passes e leafForm at (characterOf (drop at s)) why place p (λ left x. character-escape ∙ rw x)
 
-    pub character-escaped : (f end : ℕ) → q ≡ Read.Found f end → {r : Read}
-        → ((ps : List Piece) → Reading leafForm s end (closeCharacter ps (drop end s)) r) → Reading leafForm s at (characterOf (drop at s)) r
+    pub character-escaped : (f end : ℕ) → q ≡ Judged.Found f end → {r : Judged}
+        → ((ps : List Piece) → Judges leafForm s end (closeCharacter ps (drop end s)) r) → Judges leafForm s at (characterOf (drop at s)) r
     character-escaped f end p k =
         let x = escape-stands (byte "'") s at h b q e f end p in
         moved (k (x .it ∷ [])) at (characterOf (drop at s)) (omega (arith, e .ahead f end p)) (rw (character-escape, x .finds))
@@ -154,8 +161,8 @@ module _ (s : List ℕ) (at : ℕ) (h : at < length s) where
     character-step : (v next : ℕ) → Stepped s at v next → characterOf (drop at s) ≡ closeCharacter (map direct (encode v)) (drop next s)
     character-step v next x = rw (here s at h) (character-itself (getD s at 0) (drop (at + 1) s) v (drop next s) stands-itself (rw (here s at h) at (x .reads)))
 
-    pub character-direct : (v next : ℕ) → Stepped s at v next → {r : Read}
-        → ((ps : List Piece) → Reading leafForm s next (closeCharacter ps (drop next s)) r) → Reading leafForm s at (characterOf (drop at s)) r
+    pub character-direct : (v next : ℕ) → Stepped s at v next → {r : Judged}
+        → ((ps : List Piece) → Judges leafForm s next (closeCharacter ps (drop next s)) r) → Judges leafForm s at (characterOf (drop at s)) r
     character-direct v next x c = moved (c (map direct (encode v))) at (characterOf (drop at s)) (omega arith) (rw (character-step v next x))
 
     pub character-unread : (x : Step) → x ≡ stepAt s at → ((v : ℕ) (next : Cursor) → x ≡ Step.Scalar v next → ⊥) → characterOf (drop at s) ≡ fault 6 (drop at s)
@@ -179,17 +186,19 @@ module _ (s : List ℕ) (i : ℕ) (h : i < length s) where
   backtick-closes e = run-over backtickTurn tick-shorter backtick _ _ (tick-at (rw e (tick-closes 0 (drop (i + 1) s))))
 
   module _ (n : getD s i 0 ≡ byte "`" → ⊥) where
-    pub backtick-escaped : startsWith (bytes "\\`") (drop i s) ≡ true → {r : Read} → Reading leafForm s (i + 2) (backtickOf (drop (i + 2) s)) r
-        → Reading leafForm s i (backtickOf (drop i s)) r
+    pub backtick-escaped : startsWith (bytes "\\`") (drop i s) ≡ true → {r : Judged} → Judges leafForm s (i + 2) (backtickOf (drop (i + 2) s)) r
+        → Judges leafForm s i (backtickOf (drop i s)) r
     unfolding backtickTurn
     backtick-escaped f e =
         let k : i + 1 + 1 ≡ i + 2 = omega arith in
         let g : startsWith (bytes "\\`") (getD s i 0 ∷ drop (i + 1) s) ≡ true = rw (here s i h) at f in
-        let x : backtickTurn 0 (drop i s) ≡ more (escaped (byte "`")) (drop (i + 2) s) = tick-at (rw (ne-eqb (getD s i 0) (byte "`") n, backtickTurn, g, drop-drop, k)) in
+        let x : backtickTurn 0 (drop i s) ≡ more (escaped (byte "`")) (drop (i + 2) s) =
+        tick-at (rw (ne-eqb (getD s i 0) (byte "`") n, backtickTurn, g, drop-drop, k)) in
         moved e i (backtickOf (drop i s)) (omega arith) (run-more backtickTurn tick-shorter backtick 1 (λ ps. refl) s (drop i s) _ _ x)
 
-    pub backtick-itself : startsWith (bytes "\\`") (drop i s) ≡ false → {r : Read} → Reading leafForm s (i + 1) (backtickOf (drop (i + 1) s)) r
-        → Reading leafForm s i (backtickOf (drop i s)) r
+    pub backtick-itself : startsWith (bytes "\\`") (drop i s) ≡ false → {r : Judged} → Judges leafForm s (i + 1) (backtickOf (drop (i + 1) s)) r
+        → Judges leafForm s i (backtickOf (drop i s)) r
     backtick-itself f e =
         moved e i (backtickOf (drop i s)) (omega arith)
-        (run-more backtickTurn tick-shorter backtick 1 (λ ps. refl) s _ _ _ (tick-at (tick-itself 0 (drop (i + 1) s) (getD s i 0) (ne-eqb (getD s i 0) (byte "`") n) (rw (here s i h) at f))))
+        (run-more backtickTurn tick-shorter backtick 1 (λ ps. refl) s _ _ _
+        (tick-at (tick-itself 0 (drop (i + 1) s) (getD s i 0) (ne-eqb (getD s i 0) (byte "`") n) (rw (here s i h) at f))))

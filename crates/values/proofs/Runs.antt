@@ -49,7 +49,8 @@ starts-first class [] h = absurd (omega arith)
 starts-first class (b ∷ l) h = refl
 
 same-suc : (m n : ℕ) → eqb (suc m) (suc n) ≡ eqb m n
-same-suc m n = split (eqb m n) (λ e. rw (e, eq-eqb (suc m) (suc n) (ap suc (eqb-true m n e)))) (λ e. rw (e, ne-eqb (suc m) (suc n) (λ q. eqb-false m n e (omega arith))))
+same-suc m n = split (eqb m n) (λ e. rw (e, eq-eqb (suc m) (suc n) (ap suc (eqb-true m n e))))
+    (λ e. rw (e, ne-eqb (suc m) (suc n) (λ q. eqb-false m n e (omega arith))))
 
 -- a list has only bytes of a class where the run of them is as long as the list
 pub all-run : (class : ℕ → Bool) (s : List ℕ) → eqb (lengthIn class s) (length s) ≡ all class s

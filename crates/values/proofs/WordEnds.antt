@@ -2,55 +2,61 @@
 -- Document 01, "The grammar", Values: words.
 use Prim.Native.Nat.{ℕ, _+_, _≤_, _<_}
 use mathlib.Core.Path.{_≡_, refl, _∙_}
-use mathlib.Core.Bool.{Bool, true, false}
+use mathlib.Core.Bool.{Bool, true, false, _||_}
 use mathlib.Core.List.{List, [], _∷_}
-use mathlib.Core.Logic.{_⊎_, inl, inr, ⊎-elim}
 use native.Mathlib.Nat.{add-zero}
 use native.Mathlib.Omega.{arith}
 use lib.ListN.{length, getD, drop, drop-of-length-le}
+use lib.Dec.{eqb}
 use borrow.Author.Tests.{ne-eqb}
-use Rattle.paper.specs.Bytes.{byte, bytes, isBlank, isLineEnd, isWhite, elem, startsWith}
+use Rattle.paper.specs.Bytes.{byte, bytes, isBlank, isLineEnd, isWhite, elem, startsIn, startsWith}
 use Rattle.paper.specs.Values.{isEnder, endsWord}
 use Rattle.paper.specs.ReadingValues.{wordLength}
 use Rattle.paper.proofs.Tests.{split}
 use Rattle.paper.proofs.Words.{word-ends, word-goes-on, end-ends}
 use Rattle.text.proofs.Places.{here}
+use Rattle.values.specs.declared.brackets.Around.{Around}
 use Rattle.values.specs.Kinds.{endersOf}
 use Rattle.values.proofs.Runs.{starts-one}
 
 -- ---- the test
 
--- a byte that ends words only in a list
-not-listed : (listed : Bool) (b : ℕ) → ((b ≡ byte ",") ⊎ (b ≡ byte "]") → ⊥) → elem b (endersOf listed) ≡ false
-unfolding elem
-not-listed true b n = rw (ne-eqb b (byte ",") (λ e. n (inl e)), ne-eqb b (byte "]") (λ e. n (inr e)))
-not-listed false b n = refl
+module _ (around : Around) where
+  -- "/" ends no item
+  slash-goes-on : elem (byte "/") (endersOf around) ≡ false
+  unfolding elem
+  slash-goes-on = go around
+    where
+      go : (a : Around) → elem (byte "/") (endersOf a) ≡ false
+      go Around.Nothing = refl
+      go Around.List = refl
 
-is-listed : (listed : Bool) (b : ℕ) (l : List ℕ) → (b ≡ byte ",") ⊎ (b ≡ byte "]") → listed ≡ endsWord (endersOf listed) (b ∷ l)
-unfolding endsWord isEnder isWhite isBlank isLineEnd elem
-is-listed true b l e = ⊎-elim (λ q. rw q) (λ q. rw q) e
-is-listed false b l e = ⊎-elim (λ q. rw q) (λ q. rw q) e
+  module _ (s : List ℕ) (at : ℕ) (h : at < length s) where
+    -- what stands around a word, and nothing
+    pub none-ends : around ≡ Around.Nothing → false ≡ elem (getD s at 0) (endersOf around)
+    unfolding elem
+    none-ends e = rw e
 
-module _ (listed : Bool) (s : List ℕ) (at : ℕ) (h : at < length s) where
-  pub ends-bracket : getD s at 0 ≡ byte ">" → true ≡ endsWord (endersOf listed) (drop at s)
-  unfolding endsWord isEnder isWhite isBlank isLineEnd
-  ends-bracket e = rw (here s at h, e)
+    pub list-ends : around ≡ Around.List → (startsWith (bytes ",") (drop at s) || startsWith (bytes "]") (drop at s)) ≡ elem (getD s at 0) (endersOf around)
+    unfolding elem startsIn
+    list-ends e =
+        rw (e, here s at h, starts-one (byte ",") (getD s at 0 ∷ drop (at + 1) s), starts-one (byte "]") (getD s at 0 ∷ drop (at + 1) s))
+        (split (eqb (getD s at 0) (byte ",")) (λ q. rw q) (λ q. rw q (split (eqb (getD s at 0) (byte "]")) (λ p. rw p) (λ p. rw p))))
 
-  pub ends-listed : (getD s at 0 ≡ byte ",") ⊎ (getD s at 0 ≡ byte "]") → listed ≡ endsWord (endersOf listed) (drop at s)
-  ends-listed e = rw (here s at h) (is-listed listed (getD s at 0) (drop (at + 1) s) e)
+    pub ends-bracket : getD s at 0 ≡ byte ">" → true ≡ endsWord (endersOf around) (drop at s)
+    unfolding endsWord isEnder isWhite isBlank isLineEnd
+    ends-bracket e = rw (here s at h, e)
 
-  pub ends-slash : (o : Bool) → getD s at 0 ≡ byte "/" → o ≡ startsWith (bytes "/>") (drop at s) → o ≡ endsWord (endersOf listed) (drop at s)
-  unfolding endsWord isEnder isWhite isBlank isLineEnd startsWith
-  ends-slash o e f =
-      let n : elem (byte "/") (endersOf listed) ≡ false = not-listed listed (byte "/") (⊎-elim (λ q. omega arith) (λ q. omega arith)) in
-      rw (here s at h, e, n) (rw (here s at h, e) at f ∙ starts-one (byte ">") (drop (at + 1) s))
+    pub ends-slash : (o : Bool) → getD s at 0 ≡ byte "/" → o ≡ startsWith (bytes "/>") (drop at s) → o ≡ endsWord (endersOf around) (drop at s)
+    unfolding endsWord isEnder isWhite isBlank isLineEnd startsWith
+    ends-slash o e f = rw (here s at h, e, slash-goes-on) (rw (here s at h, e) at f ∙ starts-one (byte ">") (drop (at + 1) s))
 
-  pub ends-white : (o : Bool) → (getD s at 0 ≡ byte ">" → ⊥) → ((getD s at 0 ≡ byte ",") ⊎ (getD s at 0 ≡ byte "]") → ⊥) → (getD s at 0 ≡ byte "/"
-      → ⊥) → o ≡ isWhite (getD s at 0) → o ≡ endsWord (endersOf listed) (drop at s)
-  unfolding endsWord isEnder
-  ends-white o b l k e =
-      rw (here s at h, e, endsWord, isEnder, ne-eqb (getD s at 0) (byte ">") b, not-listed listed (getD s at 0) l, ne-eqb (getD s at 0) (byte "/") k)
-      (split (isWhite (getD s at 0)) (λ q. rw q) (λ q. rw q))
+    pub ends-other : (getD s at 0 ≡ byte ">" → ⊥) → (getD s at 0 ≡ byte "/" → ⊥)
+        → (isWhite (getD s at 0) || elem (getD s at 0) (endersOf around)) ≡ endsWord (endersOf around) (drop at s)
+    unfolding endsWord isEnder
+    ends-other b k =
+        rw (here s at h, endsWord, isEnder, ne-eqb (getD s at 0) (byte ">") b, ne-eqb (getD s at 0) (byte "/") k)
+        (split (isWhite (getD s at 0)) (λ q. rw q) (λ q. rw q (split (elem (getD s at 0) (endersOf around)) (λ p. rw p) (λ p. rw p))))
 
 -- ---- the loop
 

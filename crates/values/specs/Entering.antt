@@ -3,24 +3,25 @@
 use Prim.Native.Nat.{ℕ, suc, _+_, _-_, _≤_, _<_}
 use mathlib.Core.Path.{_≡_}
 use mathlib.Core.List.{List, _∷_, _++_, map}
-use lib.ListN.{length, getD}
+use lib.ListN.{length, getD, drop}
 use Rattle.paper.specs.Found.{Found, found, placeIn}
 use Rattle.paper.specs.Limits.{sheetLimit, listLimit}
 use Rattle.paper.specs.Values.{Value, list, valueForm, More}
+use Rattle.paper.specs.ReadingValues.{valueOf, wholeValue, itemAnd}
 use Rattle.paper.specs.Entries.{Entry, valueWidth, itemsOf, moreItems, itemSize, moreSize, itemEntry, itemEntries, moreEntries}
 use Rattle.entries.specs.Laid.{lay, Fits}
 use Rattle.entries.specs.declared.Slot.{Slot}
-use Rattle.values.specs.declared.read.Read.{Read}
+use Rattle.values.specs.declared.judged.Judged.{Judged}
 use Rattle.values.specs.declared.entering.Entered.{Entered}
 use Rattle.values.specs.declared.entering.Entered.the-variants.{Items, Full}
 
 -- a value that is no list, or an empty one, has no items
-abbrev pub withoutItems : Read → Entered
-withoutItems (Read.Found form end) = Items form end 0 0
-withoutItems (Read.Refused why at) = Full at
+abbrev pub withoutItems : Judged → Entered
+withoutItems (Judged.Found form end) = Items form end 0 0
+withoutItems (Judged.Refused why at) = Full at
 
 -- a place in a sheet of a size that is read, where so many lists may still be opened, and entries go into a slot of the cells
-pub record Stands (s : List ℕ) (at lists : ℕ) (cells : List ℕ) (slot : Slot) : Type 0 where
+pub record Ready (s : List ℕ) (at lists : ℕ) (cells : List ℕ) (slot : Slot) : Type 0 where
   pub place : at ≤ length s
   pub short : length s ≤ sheetLimit
   pub few : lists ≤ listLimit
@@ -36,24 +37,42 @@ firstOver room es = getD (map (λ e. e .start) es) room 0
 
 -- an item that stands at `at` and those behind it, numbered from `next` on
 abbrev pub entriesFrom : ℕ → ℕ → ℕ → Value → More → List Entry
-entriesFrom parent next at v more = itemEntry parent at v ∷ (itemEntries next (next + 1) at v ++ moreEntries parent (next + 1 + itemSize v) (at + valueWidth v) more)
+entriesFrom parent next at v more =
+    itemEntry parent at v ∷ (itemEntries next (next + 1) at v ++ moreEntries parent (next + 1 + itemSize v) (at + valueWidth v) more)
 
 abbrev pub sizeFrom : Value → More → ℕ
 sizeFrom v more = suc (itemSize v) + moreSize more
 
 -- bounds that hold of every answer
 pub record Ahead (s : List ℕ) (at lists room : ℕ) (r : Entered) : Type 0 where
-  pub far : (form end made own : ℕ) → r ≡ Items form end made own → (at < end) × (end ≤ length s + 1 + lists) × (made ≤ room) × (own ≤ made)
+  pub far : (form end made own : ℕ) → r ≡ Items form end made own
+      → (at < end) × (end ≤ length s + 1 + lists) × (made ≤ room) × (own ≤ made)
 
 -- the items of a value that was read as x
 pub record Enters (s : List ℕ) (at : ℕ) (cells : List ℕ) (slot : Slot) (x : Found Value) (r : Entered) (after : List ℕ) : Type 0 where
   pub fits : (v : Value) (left : List ℕ) → x ≡ found v left → itemSize v ≤ leftOf slot
-      → (r ≡ Items (valueForm v) (placeIn s left) (itemSize v) (itemsOf v)) × (after ≡ lay cells (slot .next) (itemEntries (slot .parent) (slot .next) at v))
-  pub full : (v : Value) (left : List ℕ) → x ≡ found v left → leftOf slot < itemSize v → r ≡ Full (firstOver (leftOf slot) (itemEntries (slot .parent) (slot .next) at v))
+      → (r ≡ Items (valueForm v) (placeIn s left) (itemSize v) (itemsOf v))
+      × (after ≡ lay cells (slot .next) (itemEntries (slot .parent) (slot .next) at v))
+  pub full : (v : Value) (left : List ℕ) → x ≡ found v left → leftOf slot < itemSize v
+      → r ≡ Full (firstOver (leftOf slot) (itemEntries (slot .parent) (slot .next) at v))
+
+-- a value that stands at a place, where so many lists may still be opened and these bytes end a word
+abbrev pub EntersValue : ℕ → List ℕ → List ℕ → ℕ → List ℕ → Slot → Entered → List ℕ → Type 0
+EntersValue lists also s at cells slot r after = Ahead s at lists (leftOf slot) r × Enters s at cells slot (valueOf lists also (drop at s)) r after
+
+-- a trait's whole value
+abbrev pub EntersWhole : ℕ → List ℕ → ℕ → List ℕ → Slot → Entered → List ℕ → Type 0
+EntersWhole lists s at cells slot r after = Ahead s at lists (leftOf slot) r × Enters s at cells slot (wholeValue lists (drop at s)) r after
 
 -- the items of a list from the one that stands at `at` on, where `made` entries and `own` items stand before it. The list was read as x
 pub record EntersFrom (s : List ℕ) (at : ℕ) (cells : List ℕ) (slot : Slot) (made own : ℕ) (x : Found Value) (r : Entered) (after : List ℕ) : Type 0 where
   pub fits : (v : Value) (more : More) (left : List ℕ) → x ≡ found (list v more) left → made + sizeFrom v more ≤ leftOf slot
-      → (r ≡ Items 12 (placeIn s left) (made + sizeFrom v more) (own + suc (moreItems more))) × (after ≡ lay cells (slot .next + made) (entriesFrom (slot .parent) (slot .next + made) at v more))
+      → (r ≡ Items 12 (placeIn s left) (made + sizeFrom v more) (own + suc (moreItems more)))
+      × (after ≡ lay cells (slot .next + made) (entriesFrom (slot .parent) (slot .next + made) at v more))
   pub full : (v : Value) (more : More) (left : List ℕ) → x ≡ found (list v more) left → leftOf slot < made + sizeFrom v more
       → r ≡ Full (firstOver (leftOf slot - made) (entriesFrom (slot .parent) (slot .next + made) at v more))
+
+-- the items of a list, the first of which stands at a place
+abbrev pub EntersItems : ℕ → List ℕ → ℕ → List ℕ → Slot → Entered → List ℕ → Type 0
+EntersItems lists s at cells slot r after =
+    Ahead s at (lists + 1) (leftOf slot) r × EntersFrom s at cells slot 0 0 (itemAnd lists list (drop at s)) r after

@@ -1,18 +1,19 @@
 -- Words by their parts: the bytes that end one, the integer in front of a number, and the forms of words that begin alike.
 -- Document 01, "The grammar", Values; what a whole word is, is said by the paper's definitions.
 use Prim.Native.Nat.{ℕ, _+_}
-use mathlib.Core.Bool.{Bool, true, false, _&&_, _||_}
+use mathlib.Core.Bool.{Bool, _&&_, _||_}
 use mathlib.Core.List.{List, []}
 use lib.ListN.{drop}
 use lib.Dec.{leb, eqb}
 use Rattle.paper.specs.Found.{pick}
 use Rattle.paper.specs.Bytes.{byte, bytes, within, isDigit, isHex, isNameByte, all, elem, same, startsIn, startsWith, lengthIn}
 use Rattle.paper.specs.Values.{upTo, past, is, isUuid, areDigits, unsigned, isInteger, isDecimal, isExponent, isScientific, isFraction, isIri, listEnders}
+use Rattle.values.specs.declared.brackets.Around.{Around}
 
--- the bytes that end a word, in a list or outside of any
-abbrev pub endersOf : Bool → List ℕ
-endersOf true = listEnders
-endersOf false = []
+-- the bytes that end a word, by what stands around it
+abbrev pub endersOf : Around → List ℕ
+endersOf Around.Nothing = []
+endersOf Around.List = listEnders
 
 -- ---- numbers
 

@@ -1,24 +1,27 @@
 // Entering the items of a value that was read whole.
 // Document 01, "Entries": list items in depth-first order; refusal 11.
+use crate::brackets::Around;
+use crate::brackets::closes;
+use crate::brackets::goes_on;
+use crate::brackets::opens;
+use crate::judged::Judged;
 use crate::leaves::read_leaf;
 use crate::nesting::Deeper;
 use crate::nesting::Nesting;
-use crate::read::Read;
 use entries::Slot;
 use entries::nameless;
 use entries::put;
 use paper::forms;
 use paper::kinds;
-use text::parts::starts_with;
 use text::runs;
 use text::runs::Class;
 ghost use mathlib.Core.Path.{_≡_};
-ghost use Prim.Native.Nat.{_+_};
-ghost use lib.ListN.{drop};
-ghost use Rattle.paper.specs.Values.{list};
-ghost use Rattle.paper.specs.ReadingValues.{valueOf, itemAnd};
+ghost use Rattle.paper.specs.Limits.{listLimit};
+ghost use Rattle.paper.specs.Values.{valueForm};
+ghost use Rattle.paper.specs.ReadingValues.{wholeValue};
+ghost use Rattle.values.specs.Shown.{JudgesAt};
 ghost use Rattle.values.specs.Kinds.{endersOf};
-ghost use Rattle.values.specs.Entering.{withoutItems, Stands, leftOf, Ahead, Enters, EntersFrom};
+ghost use Rattle.values.specs.Entering.{withoutItems, Ready, EntersValue, EntersWhole, EntersItems};
 
 // A value whose items are entered: its form and end, how many entries its items took at any depth, and how many items are its own.
 // Or the place of the first item that has no entry left.
@@ -34,54 +37,73 @@ pub enum Entered {
     },
 }
 
+// Enters the items of a trait's whole value, which was read as `value`. What is no list was judged by that reading, and has none.
+pub fn enter_whole(s: &[u8], at: usize, value: Judged, cells: &mut [u32], slot: Slot) -> Entered
+    requires { ⌜ Ready (now s) at listLimit (now cells) slot × JudgesAt valueForm (wholeValue listLimit) (now s) at value ⌝ }
+    ensures { λ r. ⌜ EntersWhole listLimit (now (s .entry)) at (now (cells .entry)) slot r (now (cells .exit)) ⌝ }
+{
+    if opens(s, at) {
+        return enter(
+            s,
+            at,
+            Nesting::new(Nesting::LISTS),
+            Around::Nothing,
+            cells,
+            slot,
+        );
+    }
+    without_items(value)
+}
+
 // Enters the items of the value that stands at `at`, which was read without refusal.
-pub fn enter(
+fn enter(
     s: &[u8],
     at: usize,
     nesting: Nesting,
-    in_list: bool,
+    around: Around,
     cells: &mut [u32],
     slot: Slot,
 ) -> Entered
-    requires { ⌜ Stands (now s) at (nesting .left) (now cells) slot ⌝ }
-    ensures { λ r. ⌜ Ahead (now (s .entry)) at (nesting .left) (leftOf slot) r × Enters (now (s .entry)) at (now (cells .entry)) slot (valueOf (nesting .left) (endersOf in_list) (drop at (now (s .entry)))) r (now (cells .exit)) ⌝ }
+    requires { ⌜ Ready (now s) at (nesting .left) (now cells) slot ⌝ }
+    ensures { λ r. ⌜ EntersValue (nesting .left) (endersOf around) (now (s .entry)) at (now (cells .entry)) slot r (now (cells .exit)) ⌝ }
 {
-    if !starts_with(s, at, b"[") {
-        return without_items(read_leaf(s, at, in_list));
+    if !opens(s, at) {
+        return without_items(read_leaf(s, at, around));
     }
     let Deeper::Inside(fewer) = nesting.step() else {
         return Entered::Full { place: at };
     };
-    if starts_with(s, at, b"[]") {
+    let first = at + 1;
+    if closes(s, first) {
         return Entered::Items {
             form: forms::LIST,
-            end: at + 2,
+            end: first + 1,
             made: 0,
             own: 0,
         };
     }
-    enter_items(s, at + 1, fewer, cells, slot)
+    enter_items(s, first, fewer, cells, slot)
 }
 
 // A value that is no list has no items; what was refused is never entered.
-fn without_items(read: Read) -> Entered
+fn without_items(read: Judged) -> Entered
     ensures { λ r. ⌜ r ≡ withoutItems read ⌝ }
 {
     match read {
-        Read::Found { form, end } => Entered::Items {
+        Judged::Found { form, end } => Entered::Items {
             form,
             end,
             made: 0,
             own: 0,
         },
-        Read::Refused { refusal: _, place } => Entered::Full { place },
+        Judged::Refused { place, .. } => Entered::Full { place },
     }
 }
 
 // Enters the items of a list, the first of which stands at `at`, each before the items inside it.
 fn enter_items(s: &[u8], at: usize, nesting: Nesting, cells: &mut [u32], slot: Slot) -> Entered
-    requires { ⌜ Stands (now s) at (nesting .left) (now cells) slot ⌝ }
-    ensures { λ r. ⌜ Ahead (now (s .entry)) at (nesting .left + 1) (leftOf slot) r × EntersFrom (now (s .entry)) at (now (cells .entry)) slot 0 0 (itemAnd (nesting .left) list (drop at (now (s .entry)))) r (now (cells .exit)) ⌝ }
+    requires { ⌜ Ready (now s) at (nesting .left) (now cells) slot ⌝ }
+    ensures { λ r. ⌜ EntersItems (nesting .left) (now (s .entry)) at (now (cells .entry)) slot r (now (cells .exit)) ⌝ }
 {
     let mut i = at;
     let mut made = 0;
@@ -91,7 +113,7 @@ fn enter_items(s: &[u8], at: usize, nesting: Nesting, cells: &mut [u32], slot: S
         if next.is_full() {
             return Entered::Full { place: i };
         }
-        let item = enter(s, i, nesting, true, cells, next.under());
+        let item = enter(s, i, nesting, Around::List, cells, next.under());
         let Entered::Items {
             form,
             end,
@@ -116,7 +138,7 @@ fn enter_items(s: &[u8], at: usize, nesting: Nesting, cells: &mut [u32], slot: S
         );
         made += 1 + inside;
         own += 1;
-        if !starts_with(s, end, b",") {
+        if !goes_on(s, end) {
             return Entered::Items {
                 form: forms::LIST,
                 end: end + 1,

@@ -1,7 +1,7 @@
 // Escapes in strings and characters: where one ends, or its refusal.
 // Document 01, "The grammar", Values: strings and characters; an escape is refused at its backslash.
-use crate::read;
-use crate::read::Read;
+use crate::judged;
+use crate::judged::Judged;
 use paper::forms;
 use text::classes;
 use text::parts::starts_with;
@@ -10,19 +10,19 @@ use text::runs::Class;
 ghost use mathlib.Core.Path.{_≡_};
 ghost use mathlib.Core.Bool.{true};
 ghost use Prim.Native.Nat.{ℕ, _+_, _≤_, _<_};
-ghost use lib.ListN.{length, getD, drop};
+ghost use lib.ListN.{length, getD};
 ghost use Rattle.paper.specs.Bytes.{byte, isHex, all};
 ghost use Rattle.paper.specs.Values.{escaped, hexValue, spellsScalar, pieceRule};
 ghost use Rattle.paper.specs.ReadingValues.{fourDigits, bracedDigits, escape};
-ghost use Rattle.values.specs.Seen.{Reading, noForm};
+ghost use Rattle.values.specs.Shown.{EscapeAt};
 
 // Hex digits that spell a scalar value are at most so many.
 const DIGITS: usize = 6;
 
 // Reads the escape whose backslash stands at `at`, between two of this quote.
-pub fn escape_end(s: &[u8], at: usize, quote: u8) -> Read
+pub fn escape_end(s: &[u8], at: usize, quote: u8) -> Judged
     requires { ⌜ (at < length (now s)) × (getD (now s) at 0 ≡ byte "\\") ⌝ }
-    ensures { λ r. ⌜ Reading noForm (now (s .entry)) at (escape quote (drop at (now (s .entry))) (drop (at + 1) (now (s .entry)))) r ⌝ }
+    ensures { λ r. ⌜ EscapeAt (escape quote) (now (s .entry)) at 1 r ⌝ }
 {
     if starts_with(s, at, b"\\u{") {
         return braced_end(s, at);
@@ -32,12 +32,12 @@ pub fn escape_end(s: &[u8], at: usize, quote: u8) -> Read
     }
     let letter = at + 1;
     if s.len() <= letter {
-        return read::cut(s);
+        return judged::cut(s);
     }
     if !is_escaped(s[letter], quote) {
-        return read::no_value(at);
+        return judged::no_value(at);
     }
-    Read::Found {
+    Judged::Found {
         form: forms::NONE,
         end: letter + 1,
     }
@@ -51,48 +51,48 @@ fn is_escaped(b: u8, quote: u8) -> bool
 }
 
 // Reads the escape whose `\u{` stands at `at`: one to six hex digits and "}".
-fn braced_end(s: &[u8], at: usize) -> Read
+fn braced_end(s: &[u8], at: usize) -> Judged
     requires { ⌜ at + 3 ≤ length (now s) ⌝ }
-    ensures { λ r. ⌜ ((quote : ℕ) → Reading noForm (now (s .entry)) at (bracedDigits quote (drop at (now (s .entry))) (drop (at + 3) (now (s .entry)))) r) ⌝ }
+    ensures { λ r. ⌜ ((quote : ℕ) → EscapeAt (bracedDigits quote) (now (s .entry)) at 3 r) ⌝ }
 {
     let start = at + 3;
     let end = runs::end(s, start, Class::Hex);
     if DIGITS < end - start {
-        return read::no_value(at);
+        return judged::no_value(at);
     }
     if end == s.len() {
-        return read::cut(s);
+        return judged::cut(s);
     }
     if s[end] != b'}' || end == start {
-        return read::no_value(at);
+        return judged::no_value(at);
     }
     if !spells_scalar(&s[start..end]) {
-        return read::no_value(at);
+        return judged::no_value(at);
     }
-    Read::Found {
+    Judged::Found {
         form: forms::NONE,
         end: end + 1,
     }
 }
 
 // Reads the escape whose `\u` stands at `at`: four hex digits.
-fn four_end(s: &[u8], at: usize) -> Read
+fn four_end(s: &[u8], at: usize) -> Judged
     requires { ⌜ at + 2 ≤ length (now s) ⌝ }
-    ensures { λ r. ⌜ ((quote : ℕ) → Reading noForm (now (s .entry)) at (fourDigits quote (drop at (now (s .entry))) (drop (at + 2) (now (s .entry)))) r) ⌝ }
+    ensures { λ r. ⌜ ((quote : ℕ) → EscapeAt (fourDigits quote) (now (s .entry)) at 2 r) ⌝ }
 {
     let start = at + 2;
     let end = start + 4;
     let stop = runs::end(s, start, Class::Hex);
     if stop < end {
         if stop == s.len() {
-            return read::cut(s);
+            return judged::cut(s);
         }
-        return read::no_value(at);
+        return judged::no_value(at);
     }
     if !spells_scalar(&s[start..end]) {
-        return read::no_value(at);
+        return judged::no_value(at);
     }
-    Read::Found {
+    Judged::Found {
         form: forms::NONE,
         end,
     }

@@ -1,44 +1,45 @@
 // Values that are no lists, by their first byte.
 // Document 01, "The grammar", Values.
+use crate::brackets::Around;
+use crate::judged;
+use crate::judged::Judged;
 use crate::quoted;
-use crate::read;
-use crate::read::Read;
 use crate::words;
 use paper::forms;
 ghost use Prim.Native.Nat.{_≤_};
-ghost use lib.ListN.{length, drop};
+ghost use lib.ListN.{length};
 ghost use Rattle.paper.specs.Values.{leafForm};
 ghost use Rattle.paper.specs.ReadingValues.{wordLeaf, leafOf};
-ghost use Rattle.values.specs.Seen.{Reading};
+ghost use Rattle.values.specs.Shown.{JudgesAt};
 ghost use Rattle.values.specs.Kinds.{endersOf};
 
-// Reads the value that stands at `at` and is no list itself, in a list or outside of any.
-pub fn read_leaf(s: &[u8], at: usize, in_list: bool) -> Read
-    ensures { λ r. ⌜ Reading leafForm (now (s .entry)) at (leafOf (endersOf in_list) (drop at (now (s .entry)))) r ⌝ }
+// Reads the value that stands at `at` and is no list itself.
+pub fn read_leaf(s: &[u8], at: usize, around: Around) -> Judged
+    ensures { λ r. ⌜ JudgesAt leafForm (leafOf (endersOf around)) (now (s .entry)) at r ⌝ }
 {
     if s.len() <= at {
-        return read::cut(s);
+        return judged::cut(s);
     }
     match s[at] {
         b'"' => quoted::string_end(s, at + 1),
         b'\'' => quoted::character_end(s, at + 1),
         b'`' => quoted::backtick_end(s, at + 1),
-        _ => read_word(s, at, in_list),
+        _ => read_word(s, at, around),
     }
 }
 
 // Reads the word that stands at `at`; it is judged only where something ends it.
-fn read_word(s: &[u8], at: usize, in_list: bool) -> Read
+fn read_word(s: &[u8], at: usize, around: Around) -> Judged
     requires { ⌜ at ≤ length (now s) ⌝ }
-    ensures { λ r. ⌜ Reading leafForm (now (s .entry)) at (wordLeaf (endersOf in_list) (drop at (now (s .entry)))) r ⌝ }
+    ensures { λ r. ⌜ JudgesAt leafForm (wordLeaf (endersOf around)) (now (s .entry)) at r ⌝ }
 {
-    let end = words::word_end(s, at, in_list);
+    let end = words::word_end(s, at, around);
     if end == s.len() {
-        return read::cut(s);
+        return judged::cut(s);
     }
     let form = words::word_form(&s[at..end]);
     if form == forms::NONE {
-        return read::no_value(at);
+        return judged::no_value(at);
     }
-    Read::Found { form, end }
+    Judged::Found { form, end }
 }

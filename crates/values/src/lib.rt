@@ -1,12 +1,13 @@
 // Values: strings, characters, backticks, words and lists, and entering the items of lists.
 // Document 01, "The grammar", Values; "Entries".
+mod brackets;
 pub mod entering;
 mod escapes;
 mod iris;
-pub mod leaves;
+pub mod judged;
+mod leaves;
 pub mod lists;
 pub mod nesting;
 mod numbers;
-pub mod quoted;
-pub mod read;
-pub mod words;
+mod quoted;
+mod words;

@@ -1,5 +1,7 @@
 // Words: where one ends, and its form.
 // Document 01, "The grammar", Values: true and false, "$" and "~", UUIDs, numbers and IRIs.
+use crate::brackets;
+use crate::brackets::Around;
 use crate::iris::is_iri;
 use crate::numbers::number_form;
 use crate::numbers::only_if;
@@ -16,14 +18,14 @@ ghost use Rattle.paper.specs.Values.{isUuid, wordForm, endsWord};
 ghost use Rattle.paper.specs.ReadingValues.{wordLength};
 ghost use Rattle.values.specs.Kinds.{endersOf, isNamed, letteredForm, numeralForm, isGroup};
 
-// Where the word that stands at `at` ends, in a list or outside of any.
-pub fn word_end(s: &[u8], at: usize, in_list: bool) -> usize
+// Where the word that stands at `at` ends, by what stands around it.
+pub fn word_end(s: &[u8], at: usize, around: Around) -> usize
     requires { ⌜ at ≤ length (now s) ⌝ }
-    ensures { λ r. ⌜ (r ≡ at + wordLength (endersOf in_list) (drop at (now (s .entry)))) × (at ≤ r) × (r ≤ length (now (s .entry))) ⌝ }
+    ensures { λ r. ⌜ (r ≡ at + wordLength (endersOf around) (drop at (now (s .entry)))) × (at ≤ r) × (r ≤ length (now (s .entry))) ⌝ }
 {
     let mut i = at;
     while i < s.len() {
-        if ends_word(s, i, in_list) {
+        if ends_word(s, i, around) {
             return i;
         }
         i += 1;
@@ -32,16 +34,15 @@ pub fn word_end(s: &[u8], at: usize, in_list: bool) -> usize
 }
 
 // Whether a word ends before the byte at `at`.
-fn ends_word(s: &[u8], at: usize, in_list: bool) -> bool
+fn ends_word(s: &[u8], at: usize, around: Around) -> bool
     requires { ⌜ at < length (now s) ⌝ }
-    ensures { λ r. ⌜ r ≡ endsWord (endersOf in_list) (drop at (now (s .entry))) ⌝ }
+    ensures { λ r. ⌜ r ≡ endsWord (endersOf around) (drop at (now (s .entry))) ⌝ }
 {
     let b = s[at];
     match b {
         b'>' => true,
-        b',' | b']' => in_list,
         b'/' => starts_with(s, at, b"/>"),
-        _ => classes::is_white(b),
+        _ => classes::is_white(b) || brackets::ends_item(s, at, around),
     }
 }
 

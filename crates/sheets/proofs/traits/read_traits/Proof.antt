@@ -19,7 +19,8 @@ abbrev μ-loop : tie.MeasureT-loop
 stands : (c : tie.Else1 Inv-loop μ-loop) → c .before .end .result < length (c .before .before .before .before .before .args .s .now)
 stands c = omega (arith, c .before .end .ensures .2, c .if1 .left)
 
-begins : (c : tie.Else3 Inv-loop μ-loop) → Begins (c .before .before .before .before .before .before .before .before .before .before .args .s .now) (c .before .before .before .before .before .before .before .loop .i) (c .before .before .before .before .before .before .end .result)
+begins : (c : tie.Else3 Inv-loop μ-loop) → Begins (c .before .before .before .before .before .before .before .before .before .before .args .s .now)
+    (c .before .before .before .before .before .before .before .loop .i) (c .before .before .before .before .before .before .end .result)
 begins c = record {
   inside = stands (c .before .before .before .before .before);
   some = omega (arith, c .before .before .before .before .before .before .end .ensures .1, c .if3 .left);
@@ -27,13 +28,16 @@ begins c = record {
 }
 
 -- a trait that is read ends further on, and leaves room
-ahead : (c : tie.After-one Inv-loop μ-loop) → let turn = c .before .before .before .before .before .before .before .before .before .before .before .before .before .before in
+ahead : (c : tie.After-one Inv-loop μ-loop)
+    → let turn = c .before .before .before .before .before .before .before .before .before .before .before .before .before .before in
     let start = turn .before .before .before .args in
-    (turn .loop .i < c .one .given .0 .0) × (c .one .given .0 .0 ≤ length (start .s .now)) × (start .slot .next + turn .loop .made + c .one .given .0 .1 .0 ≤ start .slot .room)
+    (turn .loop .i < c .one .given .0 .0) × (c .one .given .0 .0 ≤ length (start .s .now))
+    × (start .slot .next + turn .loop .made + c .one .given .0 .1 .0 ≤ start .slot .room)
 ahead c =
     let at-read-trait = c .before .before .before .before in
     let at-end = at-read-trait .before .before .before .before .before .before .before .before .before in
-    trait-ahead (at-end .before .loop .inv) (at-end .end .ensures) (begins (at-read-trait .before .before .before)) (at-read-trait .before .after .ensures) (at-read-trait .read-trait .ensures) (c .one .given .1)
+    trait-ahead (at-end .before .loop .inv) (at-end .end .ensures) (begins (at-read-trait .before .before .before)) (at-read-trait .before .after .ensures)
+    (at-read-trait .read-trait .ensures) (c .one .given .1)
 
 loop-holds : tie.Need-loop-holds Inv-loop μ-loop
 loop-holds c = traits-begin _ _ _ _ (c .before .before .pre .0 .inside) (c .before .before .pre .1 .inside)
@@ -63,7 +67,8 @@ same-length-2 : tie.Need-same-length-2 Inv-loop μ-loop
 same-length-2 c = c .before .before .before .before .before .before .loop .inv .held
 
 returns-2 : tie.Need-returns-2 Inv-loop μ-loop
-returns-2 c = traits-over (c .before .before .before .before .before .before .loop .inv) (c .before .before .before .before .before .end .ensures) (stands (c .before .before .before .before)) (sym (c .before .is-one-of .ensures) ∙ c .if2 .taken) refl
+returns-2 c = traits-over (c .before .before .before .before .before .before .loop .inv) (c .before .before .before .before .before .end .ensures)
+    (stands (c .before .before .before .before)) (sym (c .before .is-one-of .ensures) ∙ c .if2 .taken) refl
 
 refused-requires : tie.Need-refused-requires Inv-loop μ-loop
 refused-requires c κs = search needs
@@ -74,10 +79,16 @@ same-length-3 c = c .before .before .before .before .before .before .before .bef
 returns-3 : tie.Need-returns-3 Inv-loop μ-loop
 returns-3 c =
     let at-if = c .before .before .before .before .before .before in
-    traits-due (at-if .before .before .loop .inv) (at-if .before .end .ensures) (stands at-if) (sym (c .before .before .before .is-one-of .ensures) ∙ c .before .before .if2 .left) (c .before .if3 .taken) (c .refused .ensures)
+    traits-due (at-if .before .before .loop .inv) (at-if .before .end .ensures) (stands at-if)
+    (sym (c .before .before .before .is-one-of .ensures) ∙ c .before .before .if2 .left) (c .before .if3 .taken) (c .refused .ensures)
 
 after-requires : tie.Need-after-requires Inv-loop μ-loop
-after-requires c κs = omega (arith, c .before .before .before .before .before .before .before .before .loop .inv .few, c .before .before .before .before .before .before .before .before .before .before .before .pre .1 .few)
+after-requires c κs =
+    omega (
+      arith,
+      c .before .before .before .before .before .before .before .before .loop .inv .few,
+      c .before .before .before .before .before .before .before .before .before .before .before .pre .1 .few,
+    )
 
 read-trait-requires : tie.Need-read-trait-requires Inv-loop μ-loop
 read-trait-requires c κs =
@@ -93,16 +104,20 @@ enum-told : tie.Need-enum-told Inv-loop μ-loop
 enum-told c = search needs
 
 same-length-4 : tie.Need-same-length-4 Inv-loop μ-loop
-same-length-4 c = c .before .before .before .before .read-trait .kept .1 .1 .0 ∙ c .before .before .before .before .before .before .before .before .before .before .before .before .before .before .loop .inv .held
+same-length-4 c = c .before .before .before .before .read-trait .kept .1 .1 .0
+    ∙ c .before .before .before .before .before .before .before .before .before .before .before .before .before .before .loop .inv .held
 
 returns-4 : tie.Need-returns-4 Inv-loop μ-loop
 returns-4 c =
     let at-read-trait = c .before .before .before .before in
     let at-end = at-read-trait .before .before .before .before .before .before .before .before .before in
-    traits-refused (at-end .before .loop .inv) (at-end .end .ensures) (begins (at-read-trait .before .before .before)) (at-read-trait .before .after .ensures) (at-read-trait .read-trait .ensures) (c .enum-told .given .1)
+    traits-refused (at-end .before .loop .inv) (at-end .end .ensures) (begins (at-read-trait .before .before .before)) (at-read-trait .before .after .ensures)
+    (at-read-trait .read-trait .ensures) (c .enum-told .given .1)
 
 add-made : tie.Need-add-made Inv-loop μ-loop
-add-made c = omega (arith, ahead (c .before), c .before .before .before .before .before .before .before .before .before .before .before .before .before .before .before .before .before .before .pre .1 .few)
+add-made c =
+    let top = c .before .before .before .before .before .before .before .before .before .before .before .before .before .before .before .before .before .before in
+    omega (arith, ahead (c .before), top .pre .1 .few)
 
 add-own : tie.Need-add-own Inv-loop μ-loop
 add-own c =
@@ -116,7 +131,8 @@ loop-again : tie.Need-loop-again Inv-loop μ-loop
 loop-again c =
     let at-read-trait = c .before .before .before .before .before in
     let at-end = at-read-trait .before .before .before .before .before .before .before .before .before in
-    traits-on (at-end .before .loop .inv) (at-end .end .ensures) (begins (at-read-trait .before .before .before)) (at-read-trait .before .after .ensures) (at-read-trait .read-trait .ensures) (c .before .one .given .1) (at-read-trait .read-trait .kept .1 .1 .0)
+    traits-on (at-end .before .loop .inv) (at-end .end .ensures) (begins (at-read-trait .before .before .before)) (at-read-trait .before .after .ensures)
+    (at-read-trait .read-trait .ensures) (c .before .one .given .1) (at-read-trait .read-trait .kept .1 .1 .0)
 
 pub read-traits-spec : {M : Type 1} → statement M
 read-traits-spec =

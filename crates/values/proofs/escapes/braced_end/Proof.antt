@@ -5,7 +5,7 @@ use mathlib.Core.Path.{refl, sym, _∙_}
 use mathlib.Core.Logic.{⊎-elim}
 use native.Mathlib.Omega.{arith}
 use borrow.Author.Tests.{eqb-true, eqb-false, not-true, not-false}
-use Rattle.values.proofs.Seeing.{finds, no-value, cut-off}
+use Rattle.values.proofs.Showing.{finds, no-value, cut-off}
 use Rattle.values.proofs.Escaping.{few-digits, braced-many, braced-ends, braced-other, braced-none, braced-bad, braced-good}
 use Rattle.values.proofs.escapes.braced_end.Statement.{statement}
 use Rattle.values.proofs.escapes.braced_end.Tie as tie
@@ -26,7 +26,8 @@ returns : tie.Need-returns
 returns c =
     let at-end = c .before .before in
     let start = at-end .before .before in
-    λ quote. no-value _ _ _ _ _ _ (c .no-value .ensures) (omega arith) (braced-many quote _ (start .args .at) _ _ (at-end .end .ensures) (c .before .if1 .taken))
+    λ quote. no-value _ _ _ _ _ _ (c .no-value .ensures) (omega arith)
+    (braced-many quote _ (start .args .at) _ _ (at-end .end .ensures) (c .before .if1 .taken))
 
 cut-requires : tie.Need-cut-requires
 cut-requires c κs = search needs

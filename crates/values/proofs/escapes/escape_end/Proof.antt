@@ -4,7 +4,7 @@ use mathlib.Core.Path.{refl, sym, _∙_}
 use native.Mathlib.Omega.{arith}
 use borrow.Author.Tests.{not-true, not-false}
 use Rattle.paper.specs.Bytes.{bytes}
-use Rattle.values.proofs.Seeing.{finds, no-value, cut-off}
+use Rattle.values.proofs.Showing.{finds, no-value, cut-off}
 use Rattle.text.proofs.Compared.{stands-inside}
 use Rattle.values.proofs.Escaping.{braced-there, four-instead, escape-ends, letter-bad, letter-good}
 use Rattle.values.proofs.escapes.escape_end.Statement.{statement}

@@ -4,7 +4,7 @@ use Prim.Native.Nat.{_+_, _-_}
 use mathlib.Core.Path.{refl, sym, _∙_}
 use native.Mathlib.Omega.{arith}
 use borrow.Author.Tests.{not-true, not-false}
-use Rattle.values.proofs.Seeing.{finds, no-value, cut-off}
+use Rattle.values.proofs.Showing.{finds, no-value, cut-off}
 use Rattle.values.proofs.Escaping.{few-digits, four-ends, four-other, four-bad, four-good}
 use Rattle.values.proofs.escapes.four_end.Statement.{statement}
 use Rattle.values.proofs.escapes.four_end.Tie as tie
@@ -36,7 +36,8 @@ returns-2 c =
     let at-if1 = c .before .before in
     let at-end = at-if1 .before in
     let start = at-end .before .before in
-    λ quote. no-value _ _ _ _ _ _ (c .no-value .ensures) (omega arith) (four-other quote _ (start .args .at) _ _ (at-end .end .ensures) (at-if1 .if1 .taken) (omega arith))
+    λ quote. no-value _ _ _ _ _ _ (c .no-value .ensures) (omega arith)
+    (four-other quote _ (start .args .at) _ _ (at-end .end .ensures) (at-if1 .if1 .taken) (omega arith))
 
 sub-spells-scalar : tie.Need-sub-spells-scalar
 sub-spells-scalar c = search needs

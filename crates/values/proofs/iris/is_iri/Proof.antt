@@ -48,13 +48,15 @@ sub-is-body : tie.Need-sub-is-body
 sub-is-body c =
     let at-end = c .before .before .before in
     let start = at-end .before .before .before .before .before .before in
-    let h = stands-inside (bytes ":") (start .args .w .now) (at-end .end .result) (sym (c .before .starts-with .ensures) ∙ not-false _ (c .if3 .left)) in omega arith
+    let h = stands-inside (bytes ":") (start .args .w .now) (at-end .end .result)
+    (sym (c .before .starts-with .ensures) ∙ not-false _ (c .if3 .left)) in omega arith
 
 part-is-body-start : tie.Need-part-is-body-start
 part-is-body-start c =
     let at-end = c .before .before .before in
     let start = at-end .before .before .before .before .before .before in
-    let h = stands-inside (bytes ":") (start .args .w .now) (at-end .end .result) (sym (c .before .starts-with .ensures) ∙ not-false _ (c .if3 .left)) in omega arith
+    let h = stands-inside (bytes ":") (start .args .w .now) (at-end .end .result)
+    (sym (c .before .starts-with .ensures) ∙ not-false _ (c .if3 .left)) in omega arith
 
 part-is-body-end : tie.Need-part-is-body-end
 part-is-body-end c = search needs

@@ -1,6 +1,6 @@
 -- Each arm is a law of the first byte.
 use borrow.Author.Needs.{needs}
-use Rattle.values.proofs.Seeing.{cut-off}
+use Rattle.values.proofs.Showing.{cut-off}
 use Rattle.values.proofs.LeafReads.{leaf-ends, string-leaf, character-leaf, backtick-leaf, word-leaf}
 use Rattle.values.proofs.leaves.read_leaf.Statement.{statement}
 use Rattle.values.proofs.leaves.read_leaf.Tie as tie

@@ -2,7 +2,7 @@
 use borrow.Author.Needs.{needs}
 use mathlib.Core.Path.{refl}
 use native.Mathlib.Omega.{arith}
-use Rattle.values.proofs.Seeing.{finds, no-value, cut-off}
+use Rattle.values.proofs.Showing.{finds, no-value, cut-off}
 use Rattle.values.proofs.LeafReads.{word-ends, word-bad, word-good, word-ahead}
 use Rattle.values.proofs.leaves.read_word.Statement.{statement}
 use Rattle.values.proofs.leaves.read_word.Tie as tie
@@ -43,7 +43,8 @@ returns-2 c =
 returns-3 : tie.Need-returns-3
 returns-3 c =
     let at-word-end = c .before .before .before .before in
-    finds _ _ _ _ _ _ _ (word-ahead _ _ _ _ (at-word-end .word-end .ensures .0) (omega arith) _ (c .before .word-form .ensures) (c .if2 .left)) (omega arith) refl
+    finds _ _ _ _ _ _ _ (word-ahead _ _ _ _ (at-word-end .word-end .ensures .0) (omega arith) _ (c .before .word-form .ensures) (c .if2 .left))
+    (omega arith) refl
     (word-good _ _ _ _ (at-word-end .word-end .ensures .0) (omega arith) _ (c .before .word-form .ensures) (c .if2 .left))
 
 pub read-word-spec : {M : Type 1} → statement M

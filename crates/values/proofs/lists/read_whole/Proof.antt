@@ -1,10 +1,16 @@
 -- A law for each way out; so many lists may be opened as the limit says.
-use mathlib.Core.Path.{sym, _∙_}
-use borrow.Author.Tests.{ne-eqb}
+use Prim.{tt}
+use Prim.Native.Nat.{ℕ}
+use mathlib.Core.List.{List, [], _∷_}
+use types.Run.{miss}
 use Rattle.values.proofs.ListLaws.{counted, whole-kept, whole-other, whole-wrong}
 use borrow.Author.Needs.{needs}
 use Rattle.values.proofs.lists.read_whole.Statement.{statement}
 use Rattle.values.proofs.lists.read_whole.Tie as tie
+
+-- the places of all other refusals in their declaration
+others : List ℕ
+others = 0 ∷ 1 ∷ 2 ∷ 3 ∷ 4 ∷ 6 ∷ 7 ∷ 8 ∷ 9 ∷ 10 ∷ 11 ∷ 12 ∷ 13 ∷ 14 ∷ 15 ∷ 16 ∷ []
 
 new-requires : tie.Need-new-requires
 new-requires c κs = search needs
@@ -19,22 +25,30 @@ enum-told : tie.Need-enum-told
 enum-told c = search needs
 
 returns : tie.Need-returns
-returns c = whole-kept _ _ 8 _ (counted _ _ _ 8 _ (c .before .before .before .new .ensures) (c .before .before .read-value .ensures)) _ _ (c .enum-told .given .1)
+returns c =
+    let at-read = c .before .before in
+    whole-kept _ _ 8 _ (counted _ _ _ 8 _ (at-read .before .new .ensures) (at-read .read-value .ensures)) _ _ (c .enum-told .given .1)
 
-number-requires : tie.Need-number-requires
-number-requires c κs = search needs
-
-number-requires-2 : tie.Need-number-requires-2
-number-requires-2 c κs = search needs
-
-returns-2 : tie.Need-returns-2
-returns-2 c = whole-other _ _ 8 _ (counted _ _ _ 8 _ (c .before .before .before .before .before .before .before .new .ensures) (c .before .before .before .before .before .before .read-value .ensures)) _ _ (c .before .before .before .before .read .given .1) (ne-eqb _ 6 (λ e. c .if1 .taken (c .before .before .number .ensures ∙ e ∙ sym (c .before .number2 .ensures))))
+enum-told-2 : tie.Need-enum-told-2
+enum-told-2 c = search needs
 
 no-value-requires : tie.Need-no-value-requires
 no-value-requires c κs = search needs
 
+returns-2 : tie.Need-returns-2
+returns-2 c =
+    let at-read = c .before .before .before .before in
+    let at-value = at-read .before .before in
+    whole-wrong _ _ 8 _ (counted _ _ _ 8 _ (at-value .before .new .ensures) (at-value .read-value .ensures)) _ _ (at-read .read .given .1)
+    (at-value .before .before .before .pre) (c .before .enum-told2 .given .1) _ (c .no-value .ensures)
+
 returns-3 : tie.Need-returns-3
-returns-3 c = whole-wrong _ _ 8 _ (counted _ _ _ 8 _ (c .before .before .before .before .before .before .before .before .new .ensures) (c .before .before .before .before .before .before .before .read-value .ensures)) _ _ (c .before .before .before .before .before .read .given .1) (c .before .before .before .before .before .before .before .before .before .before .pre) (sym (c .before .before .before .number .ensures) ∙ c .before .if1 .left ∙ c .before .before .number2 .ensures) _ (c .no-value .ensures)
+unfolding others
+returns-3 c =
+    let at-read = c .before .before in
+    let at-value = at-read .before .before in
+    whole-other _ _ 8 _ (counted _ _ _ 8 _ (at-value .before .new .ensures) (at-value .read-value .ensures)) _ _ (at-read .read .given .1)
+    (λ e. miss others 5 tt (rw e at (c .match2 .keys2)))
 
 pub read-whole-spec : {M : Type 1} → statement M
 read-whole-spec =
@@ -45,8 +59,7 @@ read-whole-spec =
     enum-known-read
     enum-told
     returns
-    number-requires
-    number-requires-2
-    returns-2
+    enum-told-2
     no-value-requires
+    returns-2
     returns-3)

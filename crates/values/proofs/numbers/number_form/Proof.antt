@@ -100,7 +100,8 @@ returns-6 : tie.Need-returns-6
 returns-6 c =
     let at-if1 = c .before .before .before in
     let at-integer-length = at-if1 .before in
-    number-other _ _ (at-integer-length .integer-length .ensures .0) (at-if1 .if1 .left) (omega arith) (c .match .rest .0 .0 .1) (c .match .rest .0 .1) (c .match .rest .1)
+    number-other _ _ (at-integer-length .integer-length .ensures .0) (at-if1 .if1 .left) (omega arith) (c .match .rest .0 .0 .1) (c .match .rest .0 .1)
+    (c .match .rest .1)
 
 pub number-form-spec : {M : Type 1} → statement M
 number-form-spec =

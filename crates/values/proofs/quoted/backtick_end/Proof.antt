@@ -5,15 +5,15 @@ use mathlib.Core.Path.{refl, sym, _∙_}
 use native.Mathlib.Omega.{arith}
 use lib.ListN.{length, drop}
 use Rattle.paper.specs.Values.{leafForm}
-use Rattle.values.specs.declared.read.Read.{Read}
-use Rattle.values.specs.Seen.{Reading, backtickOf}
-use Rattle.values.proofs.Seeing.{finds, cut-off}
+use Rattle.values.specs.declared.judged.Judged.{Judged}
+use Rattle.values.specs.Shown.{Judges, backtickOf}
+use Rattle.values.proofs.Showing.{finds, cut-off}
 use Rattle.values.proofs.Quotes.{backtick-ends, backtick-closes, backtick-escaped, backtick-itself}
 use Rattle.values.proofs.quoted.backtick_end.Statement.{statement}
 use Rattle.values.proofs.quoted.backtick_end.Tie as tie
 
 abbrev Inv-loop : tie.InvT-loop
-Inv-loop s at i₀ t4 i = (at ≤ i) × ((r : Read) → Reading leafForm s i (backtickOf (drop i s)) r → Reading leafForm s at (backtickOf (drop at s)) r)
+Inv-loop s at i₀ t4 i = (at ≤ i) × ((r : Judged) → Judges leafForm s i (backtickOf (drop i s)) r → Judges leafForm s at (backtickOf (drop at s)) r)
 
 abbrev μ-loop : tie.MeasureT-loop
 μ-loop s at i₀ t4 i = length s - i
@@ -49,8 +49,11 @@ loop-again : tie.Need-loop-again Inv-loop μ-loop
 loop-again c =
     let at-if1 = c .before .before .before in
     let at-loop-test = at-if1 .before .before in
-    let at-loop = at-loop-test .before in
-    (omega arith, λ r e. at-loop .loop .inv .1 r (backtick-escaped _ _ (at-loop-test .loop-test .taken) (at-if1 .if1 .left) (sym (c .before .starts-with .ensures) ∙ c .if2 .taken) e))
+    let at-loop = at-loop-test .before in (
+      omega arith,
+      λ r e. at-loop .loop .inv .1 r (backtick-escaped _ _ (at-loop-test .loop-test .taken) (at-if1 .if1 .left)
+          (sym (c .before .starts-with .ensures) ∙ c .if2 .taken) e),
+    )
 
 add-i-2 : tie.Need-add-i-2 Inv-loop μ-loop
 add-i-2 c = search needs
@@ -62,8 +65,11 @@ loop-again-2 : tie.Need-loop-again-2 Inv-loop μ-loop
 loop-again-2 c =
     let at-if1 = c .before .before .before in
     let at-loop-test = at-if1 .before .before in
-    let at-loop = at-loop-test .before in
-    (omega arith, λ r e. at-loop .loop .inv .1 r (backtick-itself _ _ (at-loop-test .loop-test .taken) (at-if1 .if1 .left) (sym (c .before .starts-with .ensures) ∙ c .if2 .left) e))
+    let at-loop = at-loop-test .before in (
+      omega arith,
+      λ r e. at-loop .loop .inv .1 r (backtick-itself _ _ (at-loop-test .loop-test .taken) (at-if1 .if1 .left)
+          (sym (c .before .starts-with .ensures) ∙ c .if2 .left) e),
+    )
 
 cut-requires : tie.Need-cut-requires Inv-loop μ-loop
 cut-requires c κs = search needs

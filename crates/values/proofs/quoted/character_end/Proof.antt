@@ -4,7 +4,7 @@ use mathlib.Core.Path.{sym, _∙_}
 use mathlib.Core.Logic.{⊎-elim}
 use native.Mathlib.Omega.{arith}
 use Rattle.text.proofs.Steps.{stepped}
-use Rattle.values.proofs.Seeing.{no-value, cut-off}
+use Rattle.values.proofs.Showing.{no-value, cut-off}
 use Rattle.values.proofs.Quotes.{character-ends, character-none, character-refused, character-escaped, character-direct, character-unread}
 use Rattle.values.proofs.quoted.character_end.Statement.{statement}
 use Rattle.values.proofs.quoted.character_end.Tie as tie
@@ -74,7 +74,8 @@ returns-5 c =
     let at-escape-end = at-escape .before .before in
     let at-match = at-escape-end .before in
     let at-if1 = at-match .before .before in
-    character-escaped _ _ (at-if1 .if1 .left) (at-match .match .keys2) _ (at-escape-end .escape-end .ensures) _ _ (at-escape .escape .given .1) (c .closing-quote .ensures)
+    character-escaped _ _ (at-if1 .if1 .left) (at-match .match .keys2) _ (at-escape-end .escape-end .ensures) _ _ (at-escape .escape .given .1)
+    (c .closing-quote .ensures)
 
 returns-6 : tie.Need-returns-6
 returns-6 c =

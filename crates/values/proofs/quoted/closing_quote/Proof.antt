@@ -2,7 +2,7 @@
 use borrow.Author.Needs.{needs}
 use mathlib.Core.Path.{refl}
 use native.Mathlib.Omega.{arith}
-use Rattle.values.proofs.Seeing.{finds, no-value, cut-off}
+use Rattle.values.proofs.Showing.{finds, no-value, cut-off}
 use Rattle.values.proofs.Quotes.{quote-ends, quote-other, quote-there}
 use Rattle.values.proofs.quoted.closing_quote.Statement.{statement}
 use Rattle.values.proofs.quoted.closing_quote.Tie as tie

@@ -5,15 +5,15 @@ use mathlib.Core.Path.{refl}
 use native.Mathlib.Omega.{arith}
 use lib.ListN.{length, drop}
 use Rattle.paper.specs.Values.{leafForm}
-use Rattle.values.specs.declared.read.Read.{Read}
-use Rattle.values.specs.Seen.{Reading, stringOf}
-use Rattle.values.proofs.Seeing.{finds, no-value, cut-off}
+use Rattle.values.specs.declared.judged.Judged.{Judged}
+use Rattle.values.specs.Shown.{Judges, stringOf}
+use Rattle.values.proofs.Showing.{finds, no-value, cut-off}
 use Rattle.values.proofs.Quotes.{string-ends, string-closes, string-breaks, string-itself, string-refused, string-escaped}
 use Rattle.values.proofs.quoted.string_end.Statement.{statement}
 use Rattle.values.proofs.quoted.string_end.Tie as tie
 
 abbrev Inv-loop : tie.InvT-loop
-Inv-loop s at i₀ i = (at ≤ i) × ((r : Read) → Reading leafForm s i (stringOf (drop i s)) r → Reading leafForm s at (stringOf (drop at s)) r)
+Inv-loop s at i₀ i = (at ≤ i) × ((r : Judged) → Judges leafForm s i (stringOf (drop i s)) r → Judges leafForm s at (stringOf (drop at s)) r)
 
 abbrev μ-loop : tie.MeasureT-loop
 μ-loop s at i₀ i = length s - i
@@ -50,7 +50,8 @@ returns-2 c =
     let at-match = at-escape-end .before in
     let at-loop-test = at-match .before .before in
     let at-loop = at-loop-test .before in
-    at-loop .loop .inv .1 _ (string-refused _ _ (at-loop-test .loop-test .taken) (at-match .match .keys2) _ (at-escape-end .escape-end .ensures) _ _ (c .enum-told .given .1))
+    at-loop .loop .inv .1 _ (string-refused _ _ (at-loop-test .loop-test .taken) (at-match .match .keys2) _ (at-escape-end .escape-end .ensures) _ _
+    (c .enum-told .given .1))
 
 loop-less : tie.Need-loop-less Inv-loop μ-loop
 loop-less c =
@@ -66,7 +67,8 @@ loop-again c =
     let ahead = at-escape-end .escape-end .ensures .ahead _ _ (c .before .escape .given .1) in (
       omega arith,
       λ r e. at-loop .loop .inv .1 r
-          (string-escaped _ _ (at-loop-test .loop-test .taken) (at-match .match .keys2) _ (at-escape-end .escape-end .ensures) _ _ (c .before .escape .given .1) e),
+          (string-escaped _ _ (at-loop-test .loop-test .taken) (at-match .match .keys2) _ (at-escape-end .escape-end .ensures) _ _
+          (c .before .escape .given .1) e),
     )
 
 no-value-requires : tie.Need-no-value-requires Inv-loop μ-loop
@@ -76,7 +78,8 @@ returns-3 : tie.Need-returns-3 Inv-loop μ-loop
 returns-3 c =
     let at-loop-test = c .before .before .before in
     let at-loop = at-loop-test .before in
-    at-loop .loop .inv .1 _ (no-value _ _ _ _ _ _ (c .no-value .ensures) (omega arith) (string-breaks _ _ (at-loop-test .loop-test .taken) (c .before .match .keys3)))
+    at-loop .loop .inv .1 _ (no-value _ _ _ _ _ _ (c .no-value .ensures) (omega arith)
+    (string-breaks _ _ (at-loop-test .loop-test .taken) (c .before .match .keys3)))
 
 add-i : tie.Need-add-i Inv-loop μ-loop
 add-i c = search needs

@@ -31,7 +31,8 @@ returns-3 c =
     let at-is-within = c .before .before in
     let at-if1 = at-is-within .before .before in
     let start = at-if1 .before .before in
-    token-run _ _ (start .args .w .now) (at-if1 .if1 .left) _ (c .run-end .ensures .0) (sym (at-is-within .is-within .ensures) ∙ not-false _ (c .before .if2 .left))
+    token-run _ _ (start .args .w .now) (at-if1 .if1 .left) _ (c .run-end .ensures .0)
+    (sym (at-is-within .is-within .ensures) ∙ not-false _ (c .before .if2 .left))
 
 pub is-token-spec : {M : Type 1} → statement M
 is-token-spec =

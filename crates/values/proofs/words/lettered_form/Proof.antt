@@ -35,7 +35,8 @@ returns-3 c =
     let at-same2 = at-if2 .before in
     let at-if1 = at-same2 .before .before in
     let at-same = at-if1 .before in
-    lettered-uuid _ (sym (at-same .same .ensures) ∙ at-if1 .if1 .left) (sym (at-same2 .same2 .ensures) ∙ at-if2 .if2 .left) (sym (c .before .is-uuid .ensures) ∙ c .if3 .taken)
+    lettered-uuid _ (sym (at-same .same .ensures) ∙ at-if1 .if1 .left) (sym (at-same2 .same2 .ensures) ∙ at-if2 .if2 .left)
+    (sym (c .before .is-uuid .ensures) ∙ c .if3 .taken)
 
 is-iri-requires : tie.Need-is-iri-requires
 is-iri-requires c κs = search needs

@@ -11,10 +11,10 @@ use Rattle.values.proofs.words.word_end.Statement.{statement}
 use Rattle.values.proofs.words.word_end.Tie as tie
 
 abbrev Inv-loop : tie.InvT-loop
-Inv-loop s at in-list i₀ i = (at ≤ i) × (i ≤ length s) × (i + wordLength (endersOf in-list) (drop i s) ≡ at + wordLength (endersOf in-list) (drop at s))
+Inv-loop s at around i₀ i = (at ≤ i) × (i ≤ length s) × (i + wordLength (endersOf around) (drop i s) ≡ at + wordLength (endersOf around) (drop at s))
 
 abbrev μ-loop : tie.MeasureT-loop
-μ-loop s at in-list i₀ i = length s - i
+μ-loop s at around i₀ i = length s - i
 
 loop-holds : tie.Need-loop-holds Inv-loop μ-loop
 loop-holds c = search needs
@@ -36,8 +36,12 @@ loop-less c = search needs
 loop-again : tie.Need-loop-again Inv-loop μ-loop
 loop-again c =
     let at-loop-test = c .before .before in
-    let at-loop = at-loop-test .before in
-    (omega arith, omega arith, sym (word-turns _ _ _ (at-loop-test .loop-test .taken) (sym (c .before .ends-word .ensures) ∙ c .if1 .left)) ∙ at-loop .loop .inv .2)
+    let at-loop = at-loop-test .before in (
+      omega arith,
+      omega arith,
+      sym (word-turns _ _ _ (at-loop-test .loop-test .taken) (sym (c .before .ends-word .ensures) ∙ c .if1 .left))
+          ∙ at-loop .loop .inv .2,
+    )
 
 returns-2 : tie.Need-returns-2 Inv-loop μ-loop
 returns-2 c = (sym (word-out _ _ _ (c .loop-test .left)) ∙ c .before .loop .inv .2, omega arith, omega arith)

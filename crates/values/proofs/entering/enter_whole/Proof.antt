@@ -1,0 +1,41 @@
+-- A list is entered as the value that it is; what is none has no items.
+use mathlib.Core.Path.{sym, _∙_}
+use borrow.Author.Needs.{needs}
+use Rattle.values.proofs.EnterLaws.{whole-list, whole-bare}
+use Rattle.values.proofs.entering.enter_whole.Statement.{statement}
+use Rattle.values.proofs.entering.enter_whole.Tie as tie
+
+opens-requires : tie.Need-opens-requires
+opens-requires c κs = search needs
+
+new-requires : tie.Need-new-requires
+new-requires c κs = search needs
+
+enter-requires : tie.Need-enter-requires
+enter-requires c κs = search needs
+
+same-length : tie.Need-same-length
+same-length c = search needs
+
+returns : tie.Need-returns
+returns c = whole-list _ _ 8 _ _ _ _ _ (c .before .before .before .before .new .ensures) (c .before .before .enter .ensures)
+
+without-items-requires : tie.Need-without-items-requires
+without-items-requires c κs = search needs
+
+returns-2 : tie.Need-returns-2
+returns-2 c =
+    let top = c .before .before .before .before .before in
+    whole-bare _ _ 8 _ _ _ (sym (c .before .before .opens .ensures) ∙ c .before .if1 .left) (top .pre .1) _ (c .without-items .ensures)
+
+pub enter-whole-spec : {M : Type 1} → statement M
+enter-whole-spec =
+    tie.close
+    (tie.spec
+    opens-requires
+    new-requires
+    enter-requires
+    same-length
+    returns
+    without-items-requires
+    returns-2)
