@@ -75,11 +75,13 @@ lay-before cells n e es =
     rw at (sets-before own (allCells es) cells (n * entryCells))
 
 -- all entries from the first on, and zeros behind them, are the cells of a reading that accepts
-pub lay-filled : (cells : List ℕ) (es : List Entry) → length es * entryCells ≤ length cells → sets (lay cells 0 es) (length es * entryCells) (replicate (length cells - length es * entryCells) 0) ≡ filled (length cells) es
+pub lay-filled : (cells : List ℕ) (es : List Entry) → length es * entryCells ≤ length cells
+    → sets (lay cells 0 es) (length es * entryCells) (replicate (length cells - length es * entryCells) 0) ≡ filled (length cells) es
 unfolding lay filled
 lay-filled cells es h =
     let z : List ℕ = replicate (length cells - length es * entryCells) 0 in
-    let n : length (allCells es ++ z) ≡ length cells = omega (arith, length-append (allCells es) z, cells-length es, zeros-length (length cells - length es * entryCells), h) in
+    let n : length (allCells es ++ z) ≡ length cells =
+    omega (arith, length-append (allCells es) z, cells-length es, zeros-length (length cells - length es * entryCells), h) in
     let at : length es * entryCells ≡ 0 + length (allCells es) = omega (arith, cells-length es) in
     let turned : length es * entryCells ≡ entryCells * length es = omega arith in
     ap (λ (k : ℕ). sets (lay cells 0 es) k z) at

@@ -15,9 +15,11 @@ pub fits-on : {lent cells : List ℕ} {slot next : Slot} → Fits lent slot → 
 fits-on h e r n = record { held = omega (arith, h .held); few = omega (arith, h .few); inside = omega arith }
 
 -- the one so many entries on
-pub fits-after : {lent cells : List ℕ} {slot : Slot} (made : ℕ) {next : Slot} → Fits lent slot → length cells ≡ length lent → slot .next + made ≤ slot .room → next ≡ slotAfter slot made → Fits cells next
+pub fits-after : {lent cells : List ℕ} {slot : Slot} (made : ℕ) {next : Slot} → Fits lent slot → length cells ≡ length lent → slot .next + made ≤ slot .room
+    → next ≡ slotAfter slot made → Fits cells next
 fits-after made h e n lends = rw lends (fits-on h e refl n)
 
 -- the one behind an entry that is left
-pub fits-under : {cells : List ℕ} {slot : Slot} {o : Bool} {under : Slot} → Fits cells slot → o ≡ leb (slot .room) (slot .next) → o ≡ false → under ≡ slotUnder slot → Fits cells under
+pub fits-under : {cells : List ℕ} {slot : Slot} {o : Bool} {under : Slot} → Fits cells slot → o ≡ leb (slot .room) (slot .next) → o ≡ false → under ≡ slotUnder slot
+    → Fits cells under
 fits-under {cells} {slot} h asked f lends = rw lends (fits-on h refl refl (omega (arith, leb-false (slot .room) (slot .next) (sym asked ∙ f))))

@@ -1,2 +1,3 @@
 -- What the functions of this crate answer, over the definitions of the paper.
 pub mod Answers
+pub mod Promises

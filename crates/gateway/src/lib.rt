@@ -7,14 +7,13 @@ use sheets::view_answer;
 ghost use mathlib.Core.Path.{_≡_};
 ghost use lib.ListN.{length};
 ghost use Rattle.paper.specs.Answer.{told};
-ghost use Rattle.paper.specs.Modes.{readTable};
-ghost use Rattle.paper.specs.Reading.{reading};
-ghost use Rattle.gateway.specs.Answers.{Few, threeOf, viewOf};
+ghost use Rattle.gateway.specs.Answers.{Few, threeOf};
+ghost use Rattle.gateway.specs.Promises.{TellsTable, TellsSheet, TellsView};
 
 // Reads a mode table. The answer is number, place and count.
 #[no_mangle]
 pub extern "C" fn cdx_table(table: &[u8], answer: &mut [u32; 3])
-    ensures { λ _. ⌜ now (answer .exit) ≡ threeOf (readTable (now (table .entry))) ⌝ }
+    ensures { λ _. ⌜ TellsTable (now (table .entry)) (now (answer .exit)) ⌝ }
 {
     tell(modes::read(table), answer);
 }
@@ -22,8 +21,7 @@ pub extern "C" fn cdx_table(table: &[u8], answer: &mut [u32; 3])
 // Reads a sheet under a mode table into the cells lent. The answer is number, place and count.
 #[no_mangle]
 pub extern "C" fn cdx_sheet(table: &[u8], sheet: &[u8], cells: &mut [u32], answer: &mut [u32; 3])
-    ensures { λ _. ⌜ (now (cells .exit) ≡ reading (now (table .entry)) (now (sheet .entry)) (length (now (cells .entry))) .cells)
-        × (now (answer .exit) ≡ threeOf (reading (now (table .entry)) (now (sheet .entry)) (length (now (cells .entry))) .answer)) ⌝ }
+    ensures { λ _. ⌜ TellsSheet (now (table .entry)) (now (sheet .entry)) (length (now (cells .entry))) (now (cells .exit)) (now (answer .exit)) ⌝ }
 {
     tell(read(table, sheet, cells), answer);
 }
@@ -31,7 +29,7 @@ pub extern "C" fn cdx_sheet(table: &[u8], sheet: &[u8], cells: &mut [u32], answe
 // The part of the sheet that an entry's span names. The answer is number, start and end of the part; both are 0 where it is refused.
 #[no_mangle]
 pub extern "C" fn cdx_view(sheet: &[u8], cells: &[u32], entry: u64, answer: &mut [u32; 3])
-    ensures { λ _. ⌜ now (answer .exit) ≡ viewOf (now (sheet .entry)) (now (cells .entry)) entry ⌝ }
+    ensures { λ _. ⌜ TellsView (now (sheet .entry)) (now (cells .entry)) entry (now (answer .exit)) ⌝ }
 {
     let number = view_answer(sheet, cells, entry as usize).number();
     if number != 0 {

@@ -9,7 +9,8 @@ ghost use Prim.Native.Nat.{_≤_};
 ghost use lib.ListN.{length, drop};
 ghost use Rattle.paper.specs.Answer.{told, refused};
 ghost use Rattle.paper.specs.Names.{among};
-ghost use Rattle.paper.specs.Modes.{readTable, modeOf};
+ghost use Rattle.paper.specs.Modes.{modeOf};
+ghost use Rattle.modes.specs.Promises.{ReadsTable};
 ghost use Rattle.modes.specs.Table.{Whole, namesBefore, sectionAt, searched, nameAt, one, toldOf, Valid, modesOf};
 
 // A section has at most so many names.
@@ -23,7 +24,7 @@ enum Search {
 
 // Reads a table: an acceptance has its length and the names of both sections.
 pub fn read(table: &[u8]) -> Answer
-    ensures { λ r. ⌜ told r ≡ readTable (now (table .entry)) ⌝ }
+    ensures { λ r. ⌜ ReadsTable (now (table .entry)) r ⌝ }
 {
     let first = read_section(table, 0, 0);
     let Answer::Accepted {

@@ -25,13 +25,15 @@ pub record ReadText (s t left : List ℕ) : Type 0 where
   pub rule : annotationText t ≡ true
 
 -- one byte in front of the text
-text-more : (b : ℕ) (l : List ℕ) (x : Found (List ℕ)) → eqb b (byte "\\") ≡ false → eqb b (byte "]") ≡ false → isLineEnd b ≡ false → Reads l (λ t left. ReadText l t left) x → Reads (b ∷ l) (λ t left. ReadText (b ∷ l) t left) (andThen x (λ t left. found (b ∷ t) left))
+text-more : (b : ℕ) (l : List ℕ) (x : Found (List ℕ)) → eqb b (byte "\\") ≡ false → eqb b (byte "]") ≡ false → isLineEnd b ≡ false
+    → Reads l (λ t left. ReadText l t left) x → Reads (b ∷ l) (λ t left. ReadText (b ∷ l) t left) (andThen x (λ t left. found (b ∷ t) left))
 unfolding annotationText
 text-more b l (found t left) e f g h = (past (h .0), record { covers = ap (λ (m : List ℕ). b ∷ m) (h .1 .covers); rule = rw (e, annotationText, f, g) (h .1 .rule) })
 text-more b l (fault n left) e f g h = record { least = h .least; most = h .most; tail = past (h .tail) }
 
 -- an escape in front of the text
-text-escape : (b : ℕ) (l : List ℕ) (x : Found (List ℕ)) → elem b (bytes "]\\") ≡ true → Reads l (λ t left. ReadText l t left) x → Reads (byte "\\" ∷ b ∷ l) (λ t left. ReadText (byte "\\" ∷ b ∷ l) t left) (andThen x (λ t left. found (byte "\\" ∷ b ∷ t) left))
+text-escape : (b : ℕ) (l : List ℕ) (x : Found (List ℕ)) → elem b (bytes "]\\") ≡ true → Reads l (λ t left. ReadText l t left) x
+    → Reads (byte "\\" ∷ b ∷ l) (λ t left. ReadText (byte "\\" ∷ b ∷ l) t left) (andThen x (λ t left. found (byte "\\" ∷ b ∷ t) left))
 unfolding annotationText
 text-escape b l (found t left) e h = (past (past (h .0)), record { covers = ap (λ (m : List ℕ). byte "\\" ∷ b ∷ m) (h .1 .covers); rule = and e (h .1 .rule) })
 text-escape b l (fault n left) e h = record { least = h .least; most = h .most; tail = past (past (h .tail)) }
@@ -44,12 +46,18 @@ mutual
   text-reads (b ∷ l) =
       split (eqb b (byte "]")) (λ e. rw (e, textOf) (past whole, record { covers = ap (λ (c : ℕ). c ∷ l) (eqb-true b (byte "]") e); rule = refl }))
       (λ e. split (eqb b (byte "\\")) (λ f. rw (e, textOf, f) (rw (eqb-true b (byte "\\") f) (escape-reads l)))
-      (λ f. split (isLineEnd b) (λ g. rw (e, textOf, f, g) (fault-here (b ∷ l) 7 (omega arith) (omega arith))) (λ g. rw (e, textOf, f, g) (text-more b l (textOf l) f e g (text-reads l)))))
+      (λ f. split (isLineEnd b) (λ g. rw (e, textOf, f, g) (fault-here (b ∷ l) 7 (omega arith) (omega arith))) (λ g. rw (
+        e,
+        textOf,
+        f,
+        g,
+      ) (text-more b l (textOf l) f e g (text-reads l)))))
 
   escape-reads : (l : List ℕ) → Reads (byte "\\" ∷ l) (λ t left. ReadText (byte "\\" ∷ l) t left) (escapeOf (byte "\\" ∷ l) l)
   escape-reads [] = fault-end (byte "\\" ∷ [])
   escape-reads (b ∷ l) =
-      split (elem b (bytes "]\\")) (λ e. rw (e, escapeOf) (text-escape b l (textOf l) e (text-reads l))) (λ e. rw (e, escapeOf) (fault-here (byte "\\" ∷ b ∷ l) 7 (omega arith) (omega arith)))
+      split (elem b (bytes "]\\")) (λ e. rw (e, escapeOf) (text-escape b l (textOf l) e (text-reads l)))
+      (λ e. rw (e, escapeOf) (fault-here (byte "\\" ∷ b ∷ l) 7 (omega arith) (omega arith)))
 
 mutual
   unfolding textOf annotationText elem
@@ -90,23 +98,46 @@ annotation-reads room tabs s =
     (λ t mid u r. reads-on s (λ v end. (0 < room) × (v ≡ t) × (end ≡ mid)) _ _ (makes room s t mid) (makes-reads s room s t mid whole u)
     (λ v end u m. reads-on s (λ b left. ReadBlank end b left) _ _ (lineRest end) (reads-in u (λ b left. ReadBlank end b left) (lineRest end) (rest-reads end))
     (λ b left u k.
-    let c : s ≡ v ++ (byte "]" ∷ blankOnto b left) = r .covers ∙ rw (m .1) (ap (λ (l : List ℕ). t ++ (byte "]" ∷ l)) (sym (m .2) ∙ k .covers)) in
-    (u, record { covers = c; rule = and {a = annotationText v} (rw (m .1) (r .rule)) (k .rule); fits = m .0; at = refl; shorter = omega (arith, ap length (r .covers), length-append t (byte "]" ∷ mid), ap length (m .2), k .shorter) }))))
+    let c : s ≡ v ++ (byte "]" ∷ blankOnto b left) = r .covers ∙ rw (m .1) (ap (λ (l : List ℕ). t ++ (byte "]" ∷ l)) (sym (m .2) ∙ k .covers)) in (
+      u,
+      record {
+        covers = c;
+        rule = and {a = annotationText v} (rw (m .1) (r .rule)) (k .rule);
+        fits = m .0;
+        at = refl;
+        shorter = omega (arith, ap length (r .covers), length-append t (byte "]" ∷ mid), ap length (m .2), k .shorter);
+      },
+    ))))
 
 -- a line that begins with tabs and "["
-turn-reads : (room : ℕ) (s : List ℕ) → Turns s (λ a left. ReadAnnotation room s a left) (λ left. (s ≡ left) × (startsWith (bytes "[") (behind isTab s) ≡ false)) (annotationTurn room s)
+turn-reads : (room : ℕ) (s : List ℕ)
+    → Turns s (λ a left. ReadAnnotation room s a left) (λ left. (s ≡ left) × (startsWith (bytes "[") (behind isTab s) ≡ false)) (annotationTurn room s)
 unfolding annotationTurn
 turn-reads room s =
     split (startsWith (bytes "[") (behind isTab s))
-    (λ e. rw (e, annotationTurn) (turns-of s _ _ (annotation room (lengthIn isTab s) (drop 1 (behind isTab s))) (go e (annotation room (lengthIn isTab s) (drop 1 (behind isTab s))) (annotation-reads room (lengthIn isTab s) (drop 1 (behind isTab s))))))
+    (λ e. rw (
+      e,
+      annotationTurn,
+    ) (turns-of s _ _ (annotation room (lengthIn isTab s) (drop 1 (behind isTab s)))
+    (go e (annotation room (lengthIn isTab s) (drop 1 (behind isTab s))) (annotation-reads room (lengthIn isTab s) (drop 1 (behind isTab s))))))
     (λ e. rw (e, annotationTurn) (whole, (refl, refl)))
   where
-    go : startsWith (bytes "[") (behind isTab s) ≡ true → (x : Found Annotation) → Reads (drop 1 (behind isTab s)) (λ a left. ReadBehind room (lengthIn isTab s) (drop 1 (behind isTab s)) a left) x → Reads s (λ a left. ReadAnnotation room s a left) x
+    go : startsWith (bytes "[") (behind isTab s) ≡ true → (x : Found Annotation)
+        → Reads (drop 1 (behind isTab s)) (λ a left. ReadBehind room (lengthIn isTab s) (drop 1 (behind isTab s)) a left) x
+        → Reads s (λ a left. ReadAnnotation room s a left) x
     go e (found a left) h =
         let b : behind isTab s ≡ byte "[" ∷ drop 1 (behind isTab s) = starts-is (bytes "[") (behind isTab s) e in
-        let c : s ≡ annotationOnto a left = tabs-covers s ∙ ap (tabsOnto (lengthIn isTab s)) (b ∙ ap (λ (l : List ℕ). byte "[" ∷ l) (h .1 .covers)) ∙ rw (h .1 .at) in
-        (tail-then (tail-then (tail-drop (lengthIn isTab s) s) (tail-drop 1 (behind isTab s))) (h .0), record { covers = c; rule = h .1 .rule; fits = h .1 .fits; shorter = omega (arith, h .1 .shorter, tail-length (tail-then (tail-drop (lengthIn isTab s) s) (tail-drop 1 (behind isTab s)))) })
-    go e (fault n left) h = record { least = h .least; most = h .most; tail = tail-then (tail-then (tail-drop (lengthIn isTab s) s) (tail-drop 1 (behind isTab s))) (h .tail) }
+        let c : s ≡ annotationOnto a left = tabs-covers s ∙ ap (tabsOnto (lengthIn isTab s)) (b ∙ ap (λ (l : List ℕ). byte "[" ∷ l) (h .1 .covers)) ∙ rw (h .1 .at) in (
+          tail-then (tail-then (tail-drop (lengthIn isTab s) s) (tail-drop 1 (behind isTab s))) (h .0),
+          record {
+            covers = c;
+            rule = h .1 .rule;
+            fits = h .1 .fits;
+            shorter = omega (arith, h .1 .shorter, tail-length (tail-then (tail-drop (lengthIn isTab s) s) (tail-drop 1 (behind isTab s))));
+          },
+        )
+    go e (fault n left) h =
+        record { least = h .least; most = h .most; tail = tail-then (tail-then (tail-drop (lengthIn isTab s) s) (tail-drop 1 (behind isTab s))) (h .tail) }
 
 pub annotation-shorter : (room : ℕ) (s : List ℕ) → Shorter s (annotationTurn room s)
 annotation-shorter room s = turns-shorter s _ _ (λ a left h. h .shorter) (annotationTurn room s) (turn-reads room s)
@@ -129,11 +160,16 @@ annotations-reads room s =
     })
     turn-reads
     (λ room s left e. record { covers = e .0; rule = refl; fits = omega arith })
-    (λ room s a mid notes left t r. record { covers = t .covers ∙ ap (annotationOnto a) (r .covers); rule = and (t .rule) (r .rule); fits = omega (arith, t .fits, r .fits) })
+    (λ room s a mid notes left t r. record {
+      covers = t .covers ∙ ap (annotationOnto a) (r .covers);
+      rule = and (t .rule) (r .rule);
+      fits = omega (arith, t .fits, r .fits);
+    })
     (suc (length s)) room s
 
 -- what follows the annotations begins no other one
-pub annotations-complete : (room : ℕ) (notes : List Annotation) (next : List ℕ) → all annotationRule notes ≡ true → length notes ≤ room → startsWith (bytes "[") (behind isTab next) ≡ false → annotations room (annotationsOnto notes next) ≡ found notes next
+pub annotations-complete : (room : ℕ) (notes : List Annotation) (next : List ℕ) → all annotationRule notes ≡ true → length notes ≤ room
+    → startsWith (bytes "[") (behind isTab next) ≡ false → annotations room (annotationsOnto notes next) ≡ found notes next
 unfolding annotationsOnto annotationTurn annotationRule annotation startsIn
 annotations-complete room [] next r l e = run-over (λ a. 1) annotationTurn annotation-shorter room next next (rw (e, annotationTurn))
 annotations-complete room (a ∷ notes) next r l e =
@@ -142,5 +178,15 @@ annotations-complete room (a ∷ notes) next r l e =
     let inner = a .text ++ (byte "]" ∷ blankOnto (a .rest) (annotationsOnto notes next)) in
     let f : behind isTab (annotationsOnto (a ∷ notes) next) ≡ byte "[" ∷ inner = tabs-behind (a .tabs) (byte "[" ∷ inner) refl in
     run-more (λ a. 1) annotationTurn annotation-shorter room (annotationsOnto (a ∷ notes) next) a (annotationsOnto notes next) notes next
-    (rw (f, starts-of (bytes "[") inner, annotationTurn, f, tabs-length (a .tabs) (byte "[" ∷ inner) refl, text-complete (a .text) (blankOnto (a .rest) (annotationsOnto notes next)) (k .0), makes-complete room inner (a .text) (blankOnto (a .rest) (annotationsOnto notes next)) (omega arith), rest-complete (a .rest) (annotationsOnto notes next) (k .1)))
+    (rw (
+      f,
+      starts-of (bytes "[") inner,
+      annotationTurn,
+      f,
+      tabs-length (a .tabs) (byte "[" ∷ inner) refl,
+      text-complete (a .text) (blankOnto (a .rest) (annotationsOnto notes next)) (k .0),
+      makes-complete room inner (a .text)
+          (blankOnto (a .rest) (annotationsOnto notes next)) (omega arith),
+      rest-complete (a .rest) (annotationsOnto notes next) (k .1),
+    ))
     (annotations-complete (room - 1) notes next (h .1) (omega arith) e)

@@ -18,7 +18,8 @@ abbrev pub Only : {A : Type 0} → ℕ → List ℕ → Found A → Type 0
 Only k s (found a left) = Tail s left
 Only k s (fault n left) = (n ≡ k) × Tail s left
 
-pub only-then : {A B : Type 0} (k : ℕ) (s : List ℕ) (x : Found A) (next : A → List ℕ → Found B) → Only k s x → ((a : A) (left : List ℕ) → Tail s left → Only k s (next a left)) → Only k s (andThen x next)
+pub only-then : {A B : Type 0} (k : ℕ) (s : List ℕ) (x : Found A) (next : A → List ℕ → Found B) → Only k s x
+    → ((a : A) (left : List ℕ) → Tail s left → Only k s (next a left)) → Only k s (andThen x next)
 only-then k s (found a left) next h f = f a left h
 only-then k s (fault n left) next h f = h
 
@@ -36,7 +37,14 @@ names-only (suc n) before (size ∷ s) =
     split (within 1 nameLimit size)
     (λ a. split (leb size (length s))
     (λ b. split (isConceptName (take size s) && not (among before (take size s)))
-    (λ c. rw (a, tableNames, b, c) (only-then 1 (size ∷ s) (tableNames n (before ++ (take size s ∷ [])) (drop size s)) _ (only-in 1 (tableNames n (before ++ (take size s ∷ [])) (drop size s)) (past (tail-drop size s)) (names-only n (before ++ (take size s ∷ [])) (drop size s))) (λ names left t. t)))
+    (λ c. rw (
+      a,
+      tableNames,
+      b,
+      c,
+    ) (only-then 1 (size ∷ s) (tableNames n (before ++ (take size s ∷ [])) (drop size s)) _
+    (only-in 1 (tableNames n (before ++ (take size s ∷ [])) (drop size s)) (past (tail-drop size s)) (names-only n (before ++ (take size s ∷ [])) (drop size s)))
+    (λ names left t. t)))
     (λ c. rw (a, tableNames, b, c) (refl, past whole)))
     (λ b. rw (a, tableNames, b) (refl, tail-end (size ∷ s))))
     (λ a. rw (a, tableNames) (refl, whole))
@@ -44,7 +52,8 @@ names-only (suc n) before (size ∷ s) =
 section-only : (before : List (List ℕ)) (s : List ℕ) → Only 1 s (section before s)
 unfolding section
 section-only before [] = (refl, whole)
-section-only before (n ∷ s) = split (leb n sectionLimit) (λ a. rw (a, section) (only-in 1 (tableNames n before s) (past whole) (names-only n before s))) (λ a. rw (a, section) (refl, whole))
+section-only before (n ∷ s) =
+    split (leb n sectionLimit) (λ a. rw (a, section) (only-in 1 (tableNames n before s) (past whole) (names-only n before s))) (λ a. rw (a, section) (refl, whole))
 
 wholly-only : (m : Modes) (s : List ℕ) → Only 1 s (wholly m s)
 unfolding wholly
@@ -56,7 +65,10 @@ unfolding modeTable
 table-only s =
     only-then 1 s (section [] s) _ (section-only [] s)
     (λ children left t. only-then 1 s (section children left) _ (only-in 1 (section children left) t (section-only children left))
-    (λ content spare u. only-in 1 (wholly (record { children = children; content = content }) spare) u (wholly-only (record { children = children; content = content }) spare)))
+    (λ content spare u. only-in 1 (wholly (record { children = children; content = content }) spare) u (wholly-only (record {
+      children = children;
+      content = content;
+    }) spare)))
 
 -- a whole table leaves nothing
 pub table-whole : (s : List ℕ) (m : Modes) (left : List ℕ) → modeTable s ≡ found m left → left ≡ []
@@ -67,11 +79,14 @@ table-whole s m left e = go (section [] s) e
     last n [] e = cc
     last n (b ∷ l) e = cc
 
-    second : (children : List (List ℕ)) (x : Found (List (List ℕ))) → andThen x (λ content spare. wholly (record { children = children; content = content }) spare) ≡ found m left → left ≡ []
+    second : (children : List (List ℕ)) (x : Found (List (List ℕ)))
+        → andThen x (λ content spare. wholly (record { children = children; content = content }) spare) ≡ found m left → left ≡ []
     second children (found content spare) e = last (record { children = children; content = content }) spare e
     second children (fault n r) e = cc
 
-    go : (x : Found (List (List ℕ))) → andThen x (λ children left. andThen (section children left) (λ content spare. wholly (record { children = children; content = content }) spare)) ≡ found m left → left ≡ []
+    go : (x : Found (List (List ℕ)))
+        → andThen x (λ children left. andThen (section children left) (λ content spare. wholly (record { children = children; content = content }) spare)) ≡ found m left
+        → left ≡ []
     go (found children r) e = second children (section children r) e
     go (fault n r) e = cc
 
@@ -85,7 +100,8 @@ scalars-only (suc fuel) (b ∷ l) =
     byFirst b l
     (λ n r e. rw (scalars-broken fuel b l n r e) (refl, whole))
     (λ v r e m. rw (scalars-stop fuel b l v r e m) (refl, whole))
-    (λ v r e m. rw (scalars-on fuel b l v r e m) (only-then 3 (b ∷ l) (scalars fuel r) _ (only-in 3 (scalars fuel r) (rw (scalar-sound (b ∷ l) v r e .whole) (tail-append (encode v) r)) (scalars-only fuel r)) (λ vs left t. t)))
+    (λ v r e m. rw (scalars-on fuel b l v r e m) (only-then 3 (b ∷ l) (scalars fuel r) _
+    (only-in 3 (scalars fuel r) (rw (scalar-sound (b ∷ l) v r e .whole) (tail-append (encode v) r)) (scalars-only fuel r)) (λ vs left t. t)))
 
 pub bytes-only : (s : List ℕ) → Only 3 s (sheetBytes s)
 unfolding sheetBytes

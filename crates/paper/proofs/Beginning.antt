@@ -33,7 +33,8 @@ pub begins : (table s : List ℕ) (lent : ℕ) → Begins table s lent (begin ta
 unfolding begin reading
 begins table s lent = by-table (modeTable table) refl (table-only table)
   where
-    by-sheet : (m : Modes) → modeTable table ≡ found m [] → (x : Found Sheet) → sheetOf m (roomOf lent) s ≡ x → Answers m (roomOf lent) s x → Begins table s lent (begin table s lent)
+    by-sheet : (m : Modes) → modeTable table ≡ found m [] → (x : Found Sheet) → sheetOf m (roomOf lent) s ≡ x → Answers m (roomOf lent) s x
+        → Begins table s lent (begin table s lent)
     by-sheet m v (found t left) e a = rw (v, begin, e) (record { modes = m; valid = v; read = e ∙ ap (found t) (a .0) })
     by-sheet m v (fault n left) e a = rw (v, begin, e) (record { least = omega (arith, a .least); most = a .most; is = rw (v, reading, e) })
 

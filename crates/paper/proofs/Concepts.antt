@@ -10,19 +10,25 @@ use borrow.Author.Tests.{not-true}
 use Rattle.paper.specs.declared.Mode.{Mode}
 use Rattle.paper.specs.declared.Mode.the-variants.{Children, Content, Absent}
 use Rattle.paper.specs.Found.{Found, found, andThen}
-use Rattle.paper.specs.Bytes.{byte, bytes, isUpper, isLower, isDigit, isLetter, isNameByte, isBlank, isLineEnd, isWhite, all, startsIn, lengthIn, behind, startsWith}
+use Rattle.paper.specs.Bytes.{byte, bytes, isUpper, isLower, isDigit, isLetter, isNameByte, isBlank, isLineEnd, isWhite, all, startsIn, lengthIn, behind}
+use Rattle.paper.specs.Bytes.{startsWith}
 use Rattle.paper.specs.Names.{nameRule, isName}
 use Rattle.paper.specs.Modes.{Modes, modeOf}
 use Rattle.paper.specs.Values.{valueOnto}
-use Rattle.paper.specs.Tree.{LineEnd, LF, CRLF, Blank, Annotation, Trait, Marker, Ending, block, self, Concept, selfClosed, children, content, Body, done, blankLine, element, Annotated, BodyPiece, blankPiece, elementPiece, before}
-use Rattle.paper.specs.Grammar.{lineEndOnto, blankOnto, tabsOnto, annotationsOnto, traitsOnto, markerOnto, endingOnto, closingOnto, linesOnto, conceptOnto, bodyOnto, blankRule, annotationRule, traitRule, markerRule, opensBlock, lineRule, conceptRule, bodyRule, inMode, conceptModes, bodyModes}
+use Rattle.paper.specs.Tree.{LineEnd, LF, CRLF, Blank, Annotation, Trait, Marker, Ending, block, self, Concept, selfClosed, children, content, Body, done}
+use Rattle.paper.specs.Tree.{blankLine, element, Annotated, BodyPiece, blankPiece, elementPiece, before}
+use Rattle.paper.specs.Grammar.{lineEndOnto, blankOnto, tabsOnto, annotationsOnto, traitsOnto, markerOnto, endingOnto, closingOnto, linesOnto, conceptOnto}
+use Rattle.paper.specs.Grammar.{bodyOnto, blankRule, annotationRule, traitRule, markerRule, opensBlock, lineRule, conceptRule, bodyRule, inMode, conceptModes}
+use Rattle.paper.specs.Grammar.{bodyModes}
 use Rattle.paper.specs.Limits.{traitFits, markerFits, conceptFits, bodyFits, conceptDepth, bodyDepth}
 use Rattle.paper.specs.Entries.{traitsSize, conceptSize, bodySize}
-use Rattle.paper.specs.Reading.{Bounds, lineRest, isBlankLine, isTab, tabsOnly, name, due, makes, annotations, Opened, opened, admitted, head, opening, closing, atLineEnd, contentOf, roomIn, insideBy, annotatedBy, pieceBy, isClosing, concept, childrenOf, body, conceptOf, annotatedOf, pieceOf}
+use Rattle.paper.specs.Reading.{Bounds, lineRest, isBlankLine, isTab, tabsOnly, name, due, makes, annotations, Opened, opened, admitted, head, opening, closing}
+use Rattle.paper.specs.Reading.{atLineEnd, contentOf, roomIn, insideBy, annotatedBy, pieceBy, isClosing, concept, childrenOf, body, conceptOf, annotatedOf, pieceOf}
 use Rattle.paper.proofs.Tests.{split, true-false, apart, when-true, when-false}
 use Rattle.paper.proofs.Lists.{both, and, is-not, all-head, behind-of, starts-is}
 use Rattle.paper.proofs.Finds.{Tail, whole, tail-then, tail-drop, Reads, reads-as, reads-on, reads-in, reads-then, reads-map}
-use Rattle.paper.proofs.Lines.{fault-here, ReadBlank, rest-reads, rest-complete, ends-blank, blank-line, tabs-covers, tabs-length, tabs-behind, marked-line, only-reads, only-complete, rule-name, ReadName, name-reads, name-found, due-reads, due-complete, makes-reads, makes-complete}
+use Rattle.paper.proofs.Lines.{fault-here, ReadBlank, rest-reads, rest-complete, ends-blank, blank-line, tabs-covers, tabs-length, tabs-behind, marked-line}
+use Rattle.paper.proofs.Lines.{only-reads, only-complete, rule-name, ReadName, name-reads, name-found, due-reads, due-complete, makes-reads, makes-complete}
 use Rattle.paper.proofs.Widths.{append-wide, tabs-wide, blank-wide, annotations-wide, traits-wide, ending-wide, marker-wide, concept-wide}
 use Rattle.paper.proofs.Annotations.{ReadAnnotations, annotations-reads, annotations-complete}
 use Rattle.paper.proofs.Content.{ReadContent, content-reads, content-complete}
@@ -332,7 +338,8 @@ mutual
       reads-on s (λ b left. ReadBlank s b left) _ _ (lineRest s) (rest-reads s)
       (λ rest start t r. reads-on s (λ b left. ReadBody m by deeper room start b left) _ _ (body m by fuel deeper room start)
       (reads-in t _ (body m by fuel deeper room start) (body-reads m by fuel deeper room start))
-      (λ inner mid t q. reads-on s (λ b left. behind isTab mid ≡ closingOnto (k .name) left) _ _ (closing (k .name) (behind isTab mid)) (reads-in (tail-then t (tail-drop (lengthIn isTab mid) mid)) _ (closing (k .name) (behind isTab mid)) (closing-reads (k .name) (behind isTab mid)))
+      (λ inner mid t q. reads-on s (λ b left. behind isTab mid ≡ closingOnto (k .name) left) _ _ (closing (k .name) (behind isTab mid))
+      (reads-in (tail-then t (tail-drop (lengthIn isTab mid) mid)) _ (closing (k .name) (behind isTab mid)) (closing-reads (k .name) (behind isTab mid)))
       (λ b left t e. (
         t,
         record {
@@ -402,7 +409,10 @@ module _ (k : Marker) (e : Ending) (next : List ℕ) (r : all traitRule (k .trai
 
       go : (ts : List Trait) → all traitRule ts ≡ true → startsIn isNameByte (traitsOnto ts (k .white ++ endingOnto e next)) ≡ false
       go [] r = ends (k .white) b
-      go (t ∷ ts) r = let p = trait-parts t (all-head traitRule t ts r .0) in white-name (t .white) (t .name ++ (byte "=" ∷ valueOnto (t .value) (traitsOnto ts (k .white ++ endingOnto e next)))) (p .0) (p .1)
+      go (t ∷ ts) r =
+          let p =
+          trait-parts t (all-head traitRule t ts r .0) in white-name (t .white)
+          (t .name ++ (byte "=" ∷ valueOnto (t .value) (traitsOnto ts (k .white ++ endingOnto e next)))) (p .0) (p .1)
 
   some-behind : 0 < length Behind
   some-behind = omega (arith, traits-wide (k .traits) (k .white ++ endingOnto e next), append-wide (k .white) (endingOnto e next), ending-wide e next)

@@ -18,13 +18,16 @@ use Rattle.paper.proofs.Tests.{split, true-false}
 use Rattle.paper.proofs.Lists.{both, and, is-not, all-head, front-all, front-behind, front-of, behind-of, starts-is, starts-of}
 use Rattle.paper.proofs.Finds.{Tail, whole, tail-length, tail-then, tail-drop, Reads, reads-on, reads-in, Turns, turns-of}
 use Rattle.paper.proofs.Runs.{many-reads, Shorter, turns-shorter, run-more, run-over}
-use Rattle.paper.proofs.Lines.{fault-end, ReadBlank, rest-reads, rest-complete, blank-line, line-end-reads, line-end-complete, ends-blank, all-tabs, makes-reads, makes-complete}
+use Rattle.paper.proofs.Lines.{fault-end, ReadBlank, rest-reads, rest-complete, blank-line, line-end-reads, line-end-complete, ends-blank, all-tabs, makes-reads}
+use Rattle.paper.proofs.Lines.{makes-complete}
 
 -- ---- the closing line
 
 -- the closing mark in front of what follows
 pub mark-onto : (tabs : ℕ) (w next : List ℕ) → tabsOnto tabs (closingOnto w next) ≡ closingMark tabs w ++ next
-mark-onto tabs w next = sym (append-assoc (replicate tabs tab) (closingOnto w []) next ∙ ap (λ (l : List ℕ). replicate tabs tab ++ (byte "<" ∷ byte "/" ∷ l)) (append-assoc w (byte ">" ∷ []) next))
+mark-onto tabs w next =
+    sym (append-assoc (replicate tabs tab) (closingOnto w []) next ∙ ap (λ (l : List ℕ). replicate tabs tab ++ (byte "<" ∷ byte "/" ∷ l))
+    (append-assoc w (byte ">" ∷ []) next))
 
 pub closes-is : (tabs : ℕ) (w s : List ℕ) → closesLine tabs w s ≡ true → s ≡ tabsOnto tabs (closingOnto w (drop (length (closingMark tabs w)) s))
 unfolding closesLine
@@ -50,7 +53,8 @@ blank-open : (tabs : ℕ) (w : List ℕ) (b : Blank) (next : List ℕ) → blank
 unfolding startsIn isBlank
 blank-open tabs w b next r =
     not-closes tabs w (blankOnto b next)
-    (λ l e. go (b .end) l (sym (behind-of isBlank (b .blanks) (lineEndOnto (b .end) next) r (ends-blank (b .end) next)) ∙ ap (behind isBlank) e ∙ behind-of isBlank (replicate tabs tab) (byte "<" ∷ l) (all-tabs tabs) refl))
+    (λ l e. go (b .end) l (sym (behind-of isBlank (b .blanks) (lineEndOnto (b .end) next) r (ends-blank (b .end) next)) ∙ ap (behind isBlank) e ∙ behind-of isBlank
+    (replicate tabs tab) (byte "<" ∷ l) (all-tabs tabs) refl))
   where
     go : (e : LineEnd) (l : List ℕ) → lineEndOnto e next ≡ byte "<" ∷ l → ⊥
     go LF l q = other-byte lf (byte "<") next l refl q
@@ -58,7 +62,8 @@ blank-open tabs w b next r =
 
 text-open : (tabs : ℕ) (w next : List ℕ) → closesLine tabs w (tabsOnto (suc tabs) next) ≡ false
 text-open tabs w next =
-    not-closes tabs w (tabsOnto (suc tabs) next) (λ l e. other-byte tab (byte "<") next l refl (append-cancel-left (replicate tabs tab) (tab ∷ next) (byte "<" ∷ l) (sym (tabs-more tabs next) ∙ e)))
+    not-closes tabs w (tabsOnto (suc tabs) next) (λ l e. other-byte tab (byte "<") next l refl
+    (append-cancel-left (replicate tabs tab) (tab ∷ next) (byte "<" ∷ l) (sym (tabs-more tabs next) ∙ e)))
 
 -- ---- one line
 
@@ -100,7 +105,11 @@ stops-text CRLF next = refl
 text-complete : (t : List ℕ) (e : LineEnd) (next : List ℕ) → all (λ b. not (isLineEnd b)) t ≡ true → textLine (t ++ lineEndOnto e next) ≡ found (text t e) next
 unfolding textLine
 text-complete t e next r =
-    rw (behind-of (λ b. not (isLineEnd b)) t (lineEndOnto e next) r (stops-text e next), line-end-complete [] e next, front-of (λ b. not (isLineEnd b)) t (lineEndOnto e next) r (stops-text e next))
+    rw (
+      behind-of (λ b. not (isLineEnd b)) t (lineEndOnto e next) r (stops-text e next),
+      line-end-complete [] e next,
+      front-of (λ b. not (isLineEnd b)) t (lineEndOnto e next) r (stops-text e next),
+    )
 
 -- blanks in front of a line end make a blank line
 all-append : (class : ℕ → Bool) (v w : List ℕ) → all class v ≡ true → all class w ≡ true → all class (v ++ w) ≡ true
@@ -121,7 +130,8 @@ pub tabs-start : (n : ℕ) (next : List ℕ) → startsWith (tabsOnto n []) (tab
 tabs-start n next = rw (append-nil (replicate n tab)) (starts-of (replicate n tab) next)
 
 -- what stands behind the blanks of a line that is not blank
-other-reads : (tabs : ℕ) (s : List ℕ) (E : List ℕ → Type 0) → isBlankLine s ≡ false → (r : List ℕ) → Tail s r → Turns s (λ l left. ReadLine tabs s l left) E (otherLine tabs s r)
+other-reads : (tabs : ℕ) (s : List ℕ) (E : List ℕ → Type 0) → isBlankLine s ≡ false → (r : List ℕ) → Tail s r
+    → Turns s (λ l left. ReadLine tabs s l left) E (otherLine tabs s r)
 unfolding otherLine
 other-reads tabs s E e [] u = fault-end s
 other-reads tabs s E e (b ∷ r) u =
@@ -129,15 +139,31 @@ other-reads tabs s E e (b ∷ r) u =
     (λ f. rw (f, otherLine) (turns-of s _ _ (textLine (drop (suc tabs) s)) (go f (textLine (drop (suc tabs) s)) (text-reads (drop (suc tabs) s)))))
     (λ f. rw (f, otherLine) (record { least = omega arith; most = omega arith; tail = u }))
   where
-    go : startsWith (tabsOnto (suc tabs) []) s ≡ true → (x : Found Line) → Reads (drop (suc tabs) s) (λ l left. ReadText (drop (suc tabs) s) l left) x → Reads s (λ l left. ReadLine tabs s l left) x
+    go : startsWith (tabsOnto (suc tabs) []) s ≡ true → (x : Found Line) → Reads (drop (suc tabs) s) (λ l left. ReadText (drop (suc tabs) s) l left) x
+        → Reads s (λ l left. ReadLine tabs s l left) x
     go f (fault n left) h = record { least = h .least; most = h .most; tail = tail-then (tail-drop (suc tabs) s) (h .tail) }
     go f (found l left) h =
         let k = h .1 in
         let c : s ≡ lineOnto tabs (text (k .written) (k .end)) left = starts-tabs (suc tabs) s f ∙ ap (tabsOnto (suc tabs)) (k .covers) in
-        let n : all isBlank (k .written) ≡ false = split (all isBlank (k .written)) (λ a. true-false (sym (blanks-line tabs (k .written) (k .end) left a) ∙ ap isBlankLine (sym c) ∙ e)) (λ a. a) in
-        (tail-then (tail-drop (suc tabs) s) (h .0), rw (k .is-text) (record { covers = c; rule = and (is-not n) (k .no-ends); shorter = omega (arith, ap length (starts-tabs (suc tabs) s f), length-append (replicate (suc tabs) tab) (drop (suc tabs) s), length-replicate (suc tabs) tab, tail-length (h .0)) }))
+        let n : all isBlank (k .written) ≡ false =
+        split (all isBlank (k .written)) (λ a. true-false (sym (blanks-line tabs (k .written) (k .end) left a) ∙ ap isBlankLine (sym c) ∙ e)) (λ a. a) in (
+          tail-then (tail-drop (suc tabs) s) (h .0),
+          rw (k .is-text) (record {
+            covers = c;
+            rule = and (is-not n) (k .no-ends);
+            shorter =
+                omega (
+                  arith,
+                  ap length (starts-tabs (suc tabs) s f),
+                  length-append (replicate (suc tabs) tab) (drop (suc tabs) s),
+                  length-replicate (suc tabs) tab,
+                  tail-length (h .0),
+                );
+          }),
+        )
 
-pub line-reads : (tabs : ℕ) (w : List ℕ) (room : ℕ) (s : List ℕ) → Turns s (λ l left. ReadLine tabs s l left) (λ left. (s ≡ left) × (closesLine tabs w s ≡ true)) (lineTurn tabs w room s)
+pub line-reads : (tabs : ℕ) (w : List ℕ) (room : ℕ) (s : List ℕ)
+    → Turns s (λ l left. ReadLine tabs s l left) (λ left. (s ≡ left) × (closesLine tabs w s ≡ true)) (lineTurn tabs w room s)
 unfolding lineTurn
 line-reads tabs w room s =
     split (closesLine tabs w s) (λ e. rw (e, lineTurn) (whole, (refl, refl)))
@@ -168,7 +194,15 @@ inked (b ∷ t) e r =
     let h = all-head (λ b. not (isLineEnd b)) b t r in
     split (isBlank b)
     (λ f. let k = inked t (rw f at e) (h .1) in
-    record { blanks = b ∷ k .blanks; first = k .first; others = k .others; is-text = ap (λ (l : List ℕ). b ∷ l) (k .is-text); blank-front = and f (k .blank-front); no-blank = k .no-blank; no-end = k .no-end })
+    record {
+      blanks = b ∷ k .blanks;
+      first = k .first;
+      others = k .others;
+      is-text = ap (λ (l : List ℕ). b ∷ l) (k .is-text);
+      blank-front = and f (k .blank-front);
+      no-blank = k .no-blank;
+      no-end = k .no-end;
+    })
     (λ f. record { blanks = []; first = b; others = t; is-text = refl; blank-front = refl; no-blank = f; no-end = not-true (isLineEnd b) (h .0) })
 
 -- a line of text: its first byte that is no blank, and its text behind the tabs
@@ -176,8 +210,13 @@ module _ (tabs : ℕ) (t : List ℕ) (e : LineEnd) (next : List ℕ) (k : Inked 
   ink-behind : behind isBlank (tabsOnto (suc tabs) (t ++ lineEndOnto e next)) ≡ k .first ∷ (k .others ++ lineEndOnto e next)
   unfolding startsIn
   ink-behind =
-      rw (k .is-text, append-assoc (k .blanks) (k .first ∷ k .others) (lineEndOnto e next), ← append-assoc (replicate (suc tabs) tab) (k .blanks) (k .first ∷ (k .others ++ lineEndOnto e next)))
-      (behind-of isBlank (replicate (suc tabs) tab ++ k .blanks) (k .first ∷ (k .others ++ lineEndOnto e next)) (all-append isBlank (replicate (suc tabs) tab) (k .blanks) (all-tabs (suc tabs)) (k .blank-front)) (k .no-blank))
+      rw (
+        k .is-text,
+        append-assoc (k .blanks) (k .first ∷ k .others) (lineEndOnto e next),
+        ← append-assoc (replicate (suc tabs) tab) (k .blanks) (k .first ∷ (k .others ++ lineEndOnto e next)),
+      )
+      (behind-of isBlank (replicate (suc tabs) tab ++ k .blanks) (k .first ∷ (k .others ++ lineEndOnto e next))
+      (all-append isBlank (replicate (suc tabs) tab) (k .blanks) (all-tabs (suc tabs)) (k .blank-front)) (k .no-blank))
 
   ink-line : isBlankLine (tabsOnto (suc tabs) (t ++ lineEndOnto e next)) ≡ false
   unfolding startsIn
@@ -186,7 +225,8 @@ module _ (tabs : ℕ) (t : List ℕ) (e : LineEnd) (next : List ℕ) (k : Inked 
 drop-tabs : (n : ℕ) (next : List ℕ) → drop n (tabsOnto n next) ≡ next
 drop-tabs n next = ap (λ (m : ℕ). drop m (tabsOnto n next)) (sym (length-replicate n tab)) ∙ drop-append-seam (replicate n tab) next
 
-other-complete : (tabs b : ℕ) (r t : List ℕ) (e : LineEnd) (next : List ℕ) → all (λ b. not (isLineEnd b)) t ≡ true → otherLine tabs (tabsOnto (suc tabs) (t ++ lineEndOnto e next)) (b ∷ r) ≡ more (text t e) next
+other-complete : (tabs b : ℕ) (r t : List ℕ) (e : LineEnd) (next : List ℕ) → all (λ b. not (isLineEnd b)) t ≡ true
+    → otherLine tabs (tabsOnto (suc tabs) (t ++ lineEndOnto e next)) (b ∷ r) ≡ more (text t e) next
 unfolding otherLine
 other-complete tabs b r t e next h =
     rw (tabs-start (suc tabs) (t ++ lineEndOnto e next), otherLine, drop-tabs (suc tabs) (t ++ lineEndOnto e next), text-complete t e next h)
@@ -197,7 +237,8 @@ line-complete tabs w room (blank b) next r = rw (blank-open tabs w b next r, lin
 line-complete tabs w room (text t e) next r =
     let h = both (not (all isBlank t)) (all (λ b. not (isLineEnd b)) t) r in
     let k = inked t (not-true (all isBlank t) (h .0)) (h .1) in
-    rw (text-open tabs w (t ++ lineEndOnto e next), lineTurn, ink-line tabs t e next k, ink-behind tabs t e next k) (other-complete tabs (k .first) (k .others ++ lineEndOnto e next) t e next (h .1))
+    rw (text-open tabs w (t ++ lineEndOnto e next), lineTurn, ink-line tabs t e next k, ink-behind tabs t e next k)
+    (other-complete tabs (k .first) (k .others ++ lineEndOnto e next) t e next (h .1))
 
 -- ---- all lines
 
@@ -220,7 +261,8 @@ lines-reads tabs w s =
     (λ room s l mid lines left t r. record { covers = t .covers ∙ ap (lineOnto tabs l) (r .covers); rule = and (t .rule) (r .rule); closed = r .closed })
     (suc (length s)) 0 s
 
-pub lines-complete : (tabs : ℕ) (w : List ℕ) (lines : List Line) (next : List ℕ) → all lineRule lines ≡ true → closesLine tabs w next ≡ true → manyOf (λ l. 0) (lineTurn tabs w) 0 (linesOnto tabs lines next) ≡ found lines next
+pub lines-complete : (tabs : ℕ) (w : List ℕ) (lines : List Line) (next : List ℕ) → all lineRule lines ≡ true → closesLine tabs w next ≡ true
+    → manyOf (λ l. 0) (lineTurn tabs w) 0 (linesOnto tabs lines next) ≡ found lines next
 unfolding linesOnto lineTurn
 lines-complete tabs w [] next r e = run-over (λ l. 0) (lineTurn tabs w) (line-shorter tabs w) 0 next next (rw (e, lineTurn))
 lines-complete tabs w (l ∷ lines) next r e =
@@ -244,7 +286,8 @@ unfolding contentOf
 content-reads tabs room k s =
     reads-on s (λ b left. ReadBlank s b left) _ _ (lineRest s) (rest-reads s)
     (λ b mid u r. reads-on s (λ v end. (0 < room) × (v ≡ b) × (end ≡ mid)) _ _ (makes room mid b mid) (makes-reads s room mid b mid u u)
-    (λ v start u m. reads-on s (λ lines left. ReadLines tabs (k .name) start lines left) _ _ (manyOf (λ l. 0) (lineTurn tabs (k .name)) 0 start) (reads-in u _ (manyOf (λ l. 0) (lineTurn tabs (k .name)) 0 start) (lines-reads tabs (k .name) start))
+    (λ v start u m. reads-on s (λ lines left. ReadLines tabs (k .name) start lines left) _ _ (manyOf (λ l. 0) (lineTurn tabs (k .name)) 0 start)
+    (reads-in u _ (manyOf (λ l. 0) (lineTurn tabs (k .name)) 0 start) (lines-reads tabs (k .name) start))
     (λ lines left u q. (
       tail-then u (tail-drop (length (closingMark tabs (k .name))) left),
       record {
@@ -258,9 +301,16 @@ content-reads tabs room k s =
       },
     ))))
 
-pub content-complete : (tabs room : ℕ) (k : Marker) (rest : Blank) (lines : List Line) (next : List ℕ) → blankRule rest ≡ true → all lineRule lines ≡ true → 0 < room → atLineEnd (behind isBlank next) ≡ true → contentOf tabs room k (blankOnto rest (linesOnto tabs lines (tabsOnto tabs (closingOnto (k .name) next)))) ≡ found (content k rest lines) next
+pub content-complete : (tabs room : ℕ) (k : Marker) (rest : Blank) (lines : List Line) (next : List ℕ) → blankRule rest ≡ true → all lineRule lines ≡ true → 0 < room
+    → atLineEnd (behind isBlank next) ≡ true
+    → contentOf tabs room k (blankOnto rest (linesOnto tabs lines (tabsOnto tabs (closingOnto (k .name) next)))) ≡ found (content k rest lines) next
 unfolding contentOf
 content-complete tabs room k rest lines next r q f e =
     let end = tabsOnto tabs (closingOnto (k .name) next) in
-    rw (rest-complete rest (linesOnto tabs lines end) r, makes-complete room (linesOnto tabs lines end) rest (linesOnto tabs lines end) f, lines-complete tabs (k .name) lines end q (closes-of tabs (k .name) next e))
-    (ap (found (content k rest lines)) (ap (drop (length (closingMark tabs (k .name)))) (mark-onto tabs (k .name) next) ∙ drop-append-seam (closingMark tabs (k .name)) next))
+    rw (
+      rest-complete rest (linesOnto tabs lines end) r,
+      makes-complete room (linesOnto tabs lines end) rest (linesOnto tabs lines end) f,
+      lines-complete tabs (k .name) lines end q (closes-of tabs (k .name) next e),
+    )
+    (ap (found (content k rest lines)) (ap (drop (length (closingMark tabs (k .name)))) (mark-onto tabs (k .name) next) ∙ drop-append-seam (closingMark tabs (k .name))
+    next))

@@ -134,7 +134,13 @@ sheet-accepts m room s t a =
     rw (le-ltb sheetLimit (length s) (leb-true (length s) sheetLimit (q .0)), sheetOf, d .bytes)
     (ap (sheetTree m bounds conceptLimit room) (sym (d .covers))
     ∙ sheet-complete m bounds conceptLimit room t
-    (record { rule = d .rule; modes = d .modes; within = q .1; depth = leb-true (conceptDepth (t .root)) conceptLimit (p .1); fits = omega (arith, a .fit, entries-size t) }))
+    (record {
+      rule = d .rule;
+      modes = d .modes;
+      within = q .1;
+      depth = leb-true (conceptDepth (t .root)) conceptLimit (p .1);
+      fits = omega (arith, a .fit, entries-size t);
+    }))
 
 -- ---- accepted exactly
 

@@ -53,7 +53,8 @@ abbrev pub Finds : {A : Type 0} → (A → List ℕ → Type 0) → Found A → 
 Finds P (found a left) = P a left
 Finds P (fault n left) = Unit {0}
 
-pub finds-then : {A B : Type 0} (P : A → List ℕ → Type 0) (Q : B → List ℕ → Type 0) (next : A → List ℕ → Found B) (x : Found A) → Finds P x → ((a : A) (left : List ℕ) → P a left → Finds Q (next a left)) → Finds Q (andThen x next)
+pub finds-then : {A B : Type 0} (P : A → List ℕ → Type 0) (Q : B → List ℕ → Type 0) (next : A → List ℕ → Found B) (x : Found A) → Finds P x
+    → ((a : A) (left : List ℕ) → P a left → Finds Q (next a left)) → Finds Q (andThen x next)
 finds-then P Q next (found a left) h f = f a left h
 finds-then P Q next (fault n left) h f = tt
 
@@ -84,15 +85,18 @@ reads-as s P Q (found a left) h f = (h .0, f a left (h .1))
 reads-as s P Q (fault n left) h f = h
 
 -- one reading after another, where a fault of the second may be at a place that the first passed
-pub reads-on : {A B : Type 0} (s : List ℕ) (P : A → List ℕ → Type 0) (Q : B → List ℕ → Type 0) (next : A → List ℕ → Found B) (x : Found A) → Reads s P x → ((a : A) (left : List ℕ) → Tail s left → P a left → Reads s Q (next a left)) → Reads s Q (andThen x next)
+pub reads-on : {A B : Type 0} (s : List ℕ) (P : A → List ℕ → Type 0) (Q : B → List ℕ → Type 0) (next : A → List ℕ → Found B) (x : Found A) → Reads s P x
+    → ((a : A) (left : List ℕ) → Tail s left → P a left → Reads s Q (next a left)) → Reads s Q (andThen x next)
 reads-on s P Q next (found a left) h f = f a left (h .0) (h .1)
 reads-on s P Q next (fault n left) h f = h
 
-pub reads-then : {A B : Type 0} (s : List ℕ) (P : A → List ℕ → Type 0) (Q : B → List ℕ → Type 0) (next : A → List ℕ → Found B) (x : Found A) → Reads s P x → ((a : A) (left : List ℕ) → P a left → Reads left Q (next a left)) → Reads s Q (andThen x next)
+pub reads-then : {A B : Type 0} (s : List ℕ) (P : A → List ℕ → Type 0) (Q : B → List ℕ → Type 0) (next : A → List ℕ → Found B) (x : Found A) → Reads s P x
+    → ((a : A) (left : List ℕ) → P a left → Reads left Q (next a left)) → Reads s Q (andThen x next)
 reads-then s P Q next x h f = reads-on s P Q next x h (λ a left t p. reads-in t Q (next a left) (f a left p))
 
 -- one reading after another: how they are grouped, and alike ones
-pub then-then : {A B C : Type 0} (x : Found A) (f : A → List ℕ → Found B) (g : B → List ℕ → Found C) → andThen (andThen x f) g ≡ andThen x (λ a left. andThen (f a left) g)
+pub then-then : {A B C : Type 0} (x : Found A) (f : A → List ℕ → Found B) (g : B → List ℕ → Found C)
+    → andThen (andThen x f) g ≡ andThen x (λ a left. andThen (f a left) g)
 then-then (found a left) f g = refl
 then-then (fault n left) f g = refl
 
@@ -101,17 +105,20 @@ then-alike (found a left) f g e = e a left
 then-alike (fault n left) f g e = refl
 
 -- two readings that go on alike after whatever the first one finds
-pub then-same : {A B : Type 0} (s : List ℕ) (P : A → List ℕ → Type 0) (x : Found A) (f g : A → List ℕ → Found B) → Reads s P x → ((a : A) (left : List ℕ) → Tail s left → P a left → f a left ≡ g a left) → andThen x f ≡ andThen x g
+pub then-same : {A B : Type 0} (s : List ℕ) (P : A → List ℕ → Type 0) (x : Found A) (f g : A → List ℕ → Found B) → Reads s P x
+    → ((a : A) (left : List ℕ) → Tail s left → P a left → f a left ≡ g a left) → andThen x f ≡ andThen x g
 then-same s P (found a left) f g h e = e a left (h .0) (h .1)
 then-same s P (fault n left) f g h e = refl
 
 -- something made of what is found
-pub reads-map : {A B : Type 0} (s : List ℕ) (P : A → List ℕ → Type 0) (Q : B → List ℕ → Type 0) (f : A → B) (x : Found A) → Reads s P x → ((a : A) (left : List ℕ) → P a left → Q (f a) left) → Reads s Q (andThen x (λ a left. found (f a) left))
+pub reads-map : {A B : Type 0} (s : List ℕ) (P : A → List ℕ → Type 0) (Q : B → List ℕ → Type 0) (f : A → B) (x : Found A) → Reads s P x
+    → ((a : A) (left : List ℕ) → P a left → Q (f a) left) → Reads s Q (andThen x (λ a left. found (f a) left))
 reads-map s P Q f (found a left) h k = (h .0, k a left (h .1))
 reads-map s P Q f (fault n left) h k = h
 
 -- two readings after one another, put together
-pub reads-two : {A B C : Type 0} (s : List ℕ) (P : A → List ℕ → Type 0) (R : List ℕ → B → List ℕ → Type 0) (Q : C → List ℕ → Type 0) (make : A → B → C) (x : Found A) (next : List ℕ → Found B)
+pub reads-two : {A B C : Type 0} (s : List ℕ) (P : A → List ℕ → Type 0) (R : List ℕ → B → List ℕ → Type 0) (Q : C → List ℕ → Type 0) (make : A → B → C) (x : Found A)
+    (next : List ℕ → Found B)
     → Reads s P x → ((mid : List ℕ) → Reads mid (R mid) (next mid)) → ((a : A) (mid : List ℕ) (b : B) (left : List ℕ) → P a mid → R mid b left → Q (make a b) left)
     → Reads s Q (andThen x (λ a mid. andThen (next mid) (λ b left. found (make a b) left)))
 reads-two s P R Q make x next h k f = reads-then s P Q _ x h (λ a mid p. reads-map mid (R mid) Q (make a) (next mid) (k mid) (λ b left r. f a mid b left p r))

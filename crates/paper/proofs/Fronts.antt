@@ -7,8 +7,10 @@ use lib.ListN.{length, drop, replicate}
 use lib.Seq.{drop-drop, drop-append-seam}
 use Rattle.paper.specs.Bytes.{byte, lf, tab}
 use Rattle.paper.specs.Values.{valueOnto, spelling}
-use Rattle.paper.specs.Tree.{LineEnd, LF, CRLF, Blank, Trait, Marker, Annotation, Line, blank, text, Concept, selfClosed, children, content, Body, done, blankLine, element, Ending, block, self}
-use Rattle.paper.specs.Grammar.{lineEndOnto, blankOnto, blanksOnto, tabsOnto, annotationOnto, annotationsOnto, traitOnto, traitsOnto, markerOnto, endingOnto, closingOnto, linesOnto, conceptOnto, bodyOnto}
+use Rattle.paper.specs.Tree.{LineEnd, LF, CRLF, Blank, Trait, Marker, Annotation, Line, blank, text, Concept, selfClosed, children, content, Body, done, blankLine}
+use Rattle.paper.specs.Tree.{element, Ending, block, self}
+use Rattle.paper.specs.Grammar.{lineEndOnto, blankOnto, blanksOnto, tabsOnto, annotationOnto, annotationsOnto, traitOnto, traitsOnto, markerOnto, endingOnto}
+use Rattle.paper.specs.Grammar.{closingOnto, linesOnto, conceptOnto, bodyOnto}
 use Rattle.paper.proofs.ReadValues.{value-append}
 
 -- bytes that stand in front of whatever follows
@@ -17,7 +19,8 @@ pub record Front (f : List ℕ → List ℕ) : Type 0 where
   pub is : (next : List ℕ) → f next ≡ bytes ++ next
 
 pub then : (f g : List ℕ → List ℕ) → Front f → Front g → Front (λ next. f (g next))
-then f g a b = record { bytes = a .bytes ++ b .bytes; is = λ next. a .is (g next) ∙ ap (λ (l : List ℕ). a .bytes ++ l) (b .is next) ∙ sym (append-assoc (a .bytes) (b .bytes) next) }
+then f g a b =
+    record { bytes = a .bytes ++ b .bytes; is = λ next. a .is (g next) ∙ ap (λ (l : List ℕ). a .bytes ++ l) (b .is next) ∙ sym (append-assoc (a .bytes) (b .bytes) next) }
 
 pub run-front : (w : List ℕ) → Front (λ next. w ++ next)
 run-front w = record { bytes = w; is = λ next. refl }
@@ -63,13 +66,16 @@ traits-front [] = none-front
 traits-front (t ∷ ts) = then (traitOnto t) _ (trait-front t) (traits-front ts)
 
 pub marker-front : (k : Marker) → Front (markerOnto k)
-marker-front k = then (λ n. byte "<" ∷ n) _ (byte-front (byte "<")) (then (λ n. k .name ++ n) _ (run-front (k .name)) (then (traitsOnto (k .traits)) _ (traits-front (k .traits)) (run-front (k .white))))
+marker-front k =
+    then (λ n. byte "<" ∷ n) _ (byte-front (byte "<")) (then (λ n. k .name ++ n) _ (run-front (k .name))
+    (then (traitsOnto (k .traits)) _ (traits-front (k .traits)) (run-front (k .white))))
 
 pub lines-front : (tabs : ℕ) (ls : List Line) → Front (linesOnto tabs ls)
 unfolding linesOnto
 lines-front tabs [] = none-front
 lines-front tabs (blank b ∷ ls) = then _ _ (blank-front b) (lines-front tabs ls)
-lines-front tabs (text t e ∷ ls) = then (tabsOnto (suc tabs)) _ (run-front (replicate (suc tabs) tab)) (then (λ n. t ++ n) _ (run-front t) (then (lineEndOnto e) _ (end-front e) (lines-front tabs ls)))
+lines-front tabs (text t e ∷ ls) =
+    then (tabsOnto (suc tabs)) _ (run-front (replicate (suc tabs) tab)) (then (λ n. t ++ n) _ (run-front t) (then (lineEndOnto e) _ (end-front e) (lines-front tabs ls)))
 
 -- a closing marker without its ">"
 open-closing : (w : List ℕ) → Front (λ next. byte "<" ∷ byte "/" ∷ (w ++ next))
@@ -81,7 +87,11 @@ pub record Ends (f : List ℕ → List ℕ) : Type 0 where
   pub is : (next : List ℕ) → f next ≡ bytes ++ (byte ">" ∷ next)
 
 pub ends-of : (f g : List ℕ → List ℕ) → Front f → Ends g → Ends (λ next. f (g next))
-ends-of f g a b = record { bytes = a .bytes ++ b .bytes; is = λ next. a .is (g next) ∙ ap (λ (l : List ℕ). a .bytes ++ l) (b .is next) ∙ sym (append-assoc (a .bytes) (b .bytes) (byte ">" ∷ next)) }
+ends-of f g a b =
+    record {
+      bytes = a .bytes ++ b .bytes;
+      is = λ next. a .is (g next) ∙ ap (λ (l : List ℕ). a .bytes ++ l) (b .is next) ∙ sym (append-assoc (a .bytes) (b .bytes) (byte ">" ∷ next));
+    }
 
 closing-ends : (w : List ℕ) → Ends (closingOnto w)
 closing-ends w = let o = open-closing w in record { bytes = o .bytes; is = λ next. o .is (byte ">" ∷ next) }
@@ -95,15 +105,20 @@ mutual
   pub concept-ends : (c : Concept) (tabs : ℕ) → Ends (conceptOnto tabs c)
   concept-ends (selfClosed k) tabs = ends-of (markerOnto k) (endingOnto self) (marker-front k) (record { bytes = byte "/" ∷ []; is = λ next. refl })
   concept-ends (children k rest inner back) tabs =
-      ends-of (markerOnto k) _ (marker-front k) (ends-of (endingOnto block) _ (byte-front (byte ">")) (ends-of (blankOnto rest) _ (blank-front rest) (ends-of (bodyOnto inner) _ (body-front inner) (ends-of (tabsOnto back) (closingOnto (k .name)) (run-front (replicate back tab)) (closing-ends (k .name))))))
+      ends-of (markerOnto k) _ (marker-front k) (ends-of (endingOnto block) _ (byte-front (byte ">"))
+      (ends-of (blankOnto rest) _ (blank-front rest) (ends-of (bodyOnto inner) _ (body-front inner)
+      (ends-of (tabsOnto back) (closingOnto (k .name)) (run-front (replicate back tab)) (closing-ends (k .name))))))
   concept-ends (content k rest lines) tabs =
-      ends-of (markerOnto k) _ (marker-front k) (ends-of (endingOnto block) _ (byte-front (byte ">")) (ends-of (blankOnto rest) _ (blank-front rest) (ends-of (linesOnto tabs lines) _ (lines-front tabs lines) (ends-of (tabsOnto tabs) (closingOnto (k .name)) (run-front (replicate tabs tab)) (closing-ends (k .name))))))
+      ends-of (markerOnto k) _ (marker-front k) (ends-of (endingOnto block) _ (byte-front (byte ">"))
+      (ends-of (blankOnto rest) _ (blank-front rest) (ends-of (linesOnto tabs lines) _ (lines-front tabs lines)
+      (ends-of (tabsOnto tabs) (closingOnto (k .name)) (run-front (replicate tabs tab)) (closing-ends (k .name))))))
 
   pub body-front : (b : Body) → Front (bodyOnto b)
   body-front done = none-front
   body-front (blankLine b inner) = then (blankOnto b) _ (blank-front b) (body-front inner)
   body-front (element notes tabs c rest inner) =
-      then (annotationsOnto notes) _ (notes-front notes) (then (tabsOnto tabs) _ (run-front (replicate tabs tab)) (then (conceptOnto tabs c) _ (whole-front _ (concept-ends c tabs)) (then (blankOnto rest) _ (blank-front rest) (body-front inner))))
+      then (annotationsOnto notes) _ (notes-front notes) (then (tabsOnto tabs) _ (run-front (replicate tabs tab))
+      (then (conceptOnto tabs c) _ (whole-front _ (concept-ends c tabs)) (then (blankOnto rest) _ (blank-front rest) (body-front inner))))
 
 -- ---- places
 

@@ -13,7 +13,8 @@ use Rattle.paper.specs.Modes.{Modes}
 use Rattle.paper.specs.Tree.{Marker, block, self, Concept, selfClosed, children, Body, done, Annotated, BodyPiece, blankPiece, elementPiece, before}
 use Rattle.paper.specs.Grammar.{inMode}
 use Rattle.paper.specs.Entries.{bodySize}
-use Rattle.paper.specs.Reading.{Bounds, lineRest, isBlankLine, isTab, tabsOnly, annotations, Opened, opening, closing, contentOf, roomIn, insideBy, annotatedBy, pieceBy, isClosing, concept, childrenOf, body, conceptOf, blockOf, bodyOf, pieceOf}
+use Rattle.paper.specs.Reading.{Bounds, lineRest, isBlankLine, isTab, tabsOnly, annotations, Opened, opening, closing, contentOf, roomIn, insideBy, annotatedBy}
+use Rattle.paper.specs.Reading.{pieceBy, isClosing, concept, childrenOf, body, conceptOf, blockOf, bodyOf, pieceOf}
 use Rattle.paper.proofs.Finds.{tail-length, tail-then, tail-drop, then-same}
 use Rattle.paper.proofs.Lines.{ReadBlank, rest-reads, rule-name}
 use Rattle.paper.proofs.Annotations.{ReadAnnotations, annotations-reads}
@@ -73,7 +74,8 @@ mutual
   children-fuel m by (suc f) zero deeper room k s h l = absurd (omega arith)
   children-fuel m by (suc f) (suc g) deeper room k s h l =
       then-same s (λ b left. ReadBlank s b left) (lineRest s) _ _ (rest-reads s)
-      (λ rest start t r. ap (λ (x : Found Body). andThen x (λ inner left. andThen (closing (k .name) (behind isTab left)) (λ b end. found (children k rest inner (lengthIn isTab left)) end)))
+      (λ rest start t r. ap (λ (x : Found Body). andThen x
+      (λ inner left. andThen (closing (k .name) (behind isTab left)) (λ b end. found (children k rest inner (lengthIn isTab left)) end)))
       (body-fuel m by f g deeper room start (omega (arith, r .shorter)) (omega (arith, r .shorter))))
 
   pub body-fuel : (m : Modes) (by : Bounds) (f g deeper room : ℕ) (s : List ℕ) → length s + 1 < f → length s + 1 < g
@@ -112,7 +114,8 @@ block-of m by deeper room k s =
     let e : length s + 3 ≡ suc (length s + 2) = omega arith in
     rw e
     (then-same s (λ b left. ReadBlank s b left) (lineRest s) _ _ (rest-reads s)
-    (λ rest start t r. ap (λ (x : Found Body). andThen x (λ inner left. andThen (closing (k .name) (behind isTab left)) (λ b end. found (children k rest inner (lengthIn isTab left)) end)))
+    (λ rest start t r. ap (λ (x : Found Body). andThen x
+    (λ inner left. andThen (closing (k .name) (behind isTab left)) (λ b end. found (children k rest inner (lengthIn isTab left)) end)))
     (body-fuel m by (length s + 2) (length start + 2) deeper room start (omega (arith, r .shorter)) (omega arith))))
 
 pub body-of : (m : Modes) (by : Bounds) (deeper room : ℕ) (s : List ℕ) → bodyOf m by deeper room s ≡ elim (isClosing s) [

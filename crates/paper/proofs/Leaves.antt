@@ -10,13 +10,16 @@ use lib.Dec.{leb, eqb}
 use borrow.Author.Tests.{leb-true, le-leb, eqb-true, eq-eqb, ne-eqb}
 use Rattle.paper.specs.Found.{Found, found, fault, andThen, manyOf}
 use Rattle.paper.specs.Bytes.{byte, bytes, all, elem, startsIn, scalar, encode}
-use Rattle.paper.specs.Values.{Piece, direct, escaped, four, braces, pieceOnto, piecesOnto, pieceRule, oneScalar, is, wordForm, isEnder, endsWord, endsInSlash, Leaf, string, character, backtick, word, leafOnto, leafRule, leafInSlash}
-use Rattle.paper.specs.ReadingValues.{escape, closes, escapes, breaks, itself, insideOf, pieceTurn, closeCharacter, characterOf, backtickTurn, wordLength, wordOf, wordLeaf, other, firstOf, leafOf}
+use Rattle.paper.specs.Values.{Piece, direct, escaped, four, braces, pieceOnto, piecesOnto, pieceRule, oneScalar, is, wordForm, isEnder, endsWord, endsInSlash}
+use Rattle.paper.specs.Values.{Leaf, string, character, backtick, word, leafOnto, leafRule, leafInSlash}
+use Rattle.paper.specs.ReadingValues.{escape, closes, escapes, breaks, itself, insideOf, pieceTurn, closeCharacter, characterOf, backtickTurn, wordLength, wordOf}
+use Rattle.paper.specs.ReadingValues.{wordLeaf, other, firstOf, leafOf}
 use Rattle.paper.proofs.Tests.{split, true-false, apart, upTo}
 use Rattle.paper.proofs.Finds.{whole, past, tail-of, tail-drop, tail-end, faults, Reads, reads-in, reads-then, reads-map}
 use Rattle.paper.proofs.Lists.{both, and, byFront, all-nil, all-cons, all-head, without, without-less, starts-weaken, starts-append, empty-is}
 use Rattle.paper.proofs.Scalars.{scalar-sound, scalar-encode}
-use Rattle.paper.proofs.Pieces.{pieces-append, Stood, escape-reads, letter-back, four-back, braces-back, inside-itself, byInside, Quoted, pieces-read, pieces-back, Ticked, ticks-read, ticks-back, direct-onto, scalar-rule, scalar-one, one-scalar, one-escape}
+use Rattle.paper.proofs.Pieces.{pieces-append, Stood, escape-reads, letter-back, four-back, braces-back, inside-itself, byInside, Quoted, pieces-read, pieces-back}
+use Rattle.paper.proofs.Pieces.{Ticked, ticks-read, ticks-back, direct-onto, scalar-rule, scalar-one, one-scalar, one-escape}
 use Rattle.paper.proofs.Words.{word-cut, word-only}
 use Rattle.paper.proofs.WordKinds.{beginsNoLeaf, beginsNoWord, word-begins}
 
@@ -80,7 +83,8 @@ module _ (b : ℕ) (l : List ℕ) where
   unfolding characterOf
   character-escapes e = rw (e, characterOf)
 
-  pub character-itself : (v : ℕ) (left : List ℕ) → insideOf (byte "'") b ≡ itself → scalar (b ∷ l) ≡ found v left → characterOf (b ∷ l) ≡ closeCharacter (map direct (encode v)) left
+  pub character-itself : (v : ℕ) (left : List ℕ) → insideOf (byte "'") b ≡ itself → scalar (b ∷ l) ≡ found v left
+      → characterOf (b ∷ l) ≡ closeCharacter (map direct (encode v)) left
   unfolding characterOf
   character-itself v left e f = rw (e, characterOf, f)
 
@@ -89,15 +93,20 @@ module _ (b : ℕ) (l : List ℕ) where
   character-broken n left e f = rw (e, characterOf, f)
 
 module _ (also l : List ℕ) where
-  close-reads : (ps : List Piece) (mid : List ℕ) → l ≡ piecesOnto ps mid → all (pieceRule (byte "'")) ps ≡ true → oneScalar ps ≡ true → Reads mid (ReadLeaf also (byte "'" ∷ l)) (closeCharacter ps mid)
+  close-reads : (ps : List Piece) (mid : List ℕ) → l ≡ piecesOnto ps mid → all (pieceRule (byte "'")) ps ≡ true → oneScalar ps ≡ true
+      → Reads mid (ReadLeaf also (byte "'" ∷ l)) (closeCharacter ps mid)
   unfolding closeCharacter leafOnto leafRule
   close-reads ps [] c r o = faults 9 (omega arith) whole
   close-reads ps (b ∷ mid) c r o =
       split (eqb b (byte "'"))
-      (λ e. rw (eqb-true b (byte "'") e, Reads) (past whole, record { covers = ap (λ (x : List ℕ). byte "'" ∷ x) (c ∙ rw (eqb-true b (byte "'") e)); rule = and r o; slash = λ z. true-false (sym z) }))
+      (λ e. rw (eqb-true b (byte "'") e, Reads) (
+        past whole,
+        record { covers = ap (λ (x : List ℕ). byte "'" ∷ x) (c ∙ rw (eqb-true b (byte "'") e)); rule = and r o; slash = λ z. true-false (sym z) },
+      ))
       (λ e. rw (close-not ps b mid e, Reads) (faults 6 (omega arith) whole))
 
-direct-reads : (also : List ℕ) (b : ℕ) (l : List ℕ) → pieceRule (byte "'") (direct b) ≡ true → insideOf (byte "'") b ≡ itself → Reads (b ∷ l) (ReadLeaf also (byte "'" ∷ b ∷ l)) (characterOf (b ∷ l))
+direct-reads : (also : List ℕ) (b : ℕ) (l : List ℕ) → pieceRule (byte "'") (direct b) ≡ true → insideOf (byte "'") b ≡ itself
+    → Reads (b ∷ l) (ReadLeaf also (byte "'" ∷ b ∷ l)) (characterOf (b ∷ l))
 direct-reads also b l r e = go (scalar (b ∷ l)) refl
   where
     go : (x : Found ℕ) → scalar (b ∷ l) ≡ x → Reads (b ∷ l) (ReadLeaf also (byte "'" ∷ b ∷ l)) (characterOf (b ∷ l))
@@ -105,7 +114,8 @@ direct-reads also b l r e = go (scalar (b ∷ l)) refl
         let h = scalar-sound (b ∷ l) v left f in
         rw (character-itself b l v left e f)
         (reads-in (tail-of (encode v) (h .whole)) _ (closeCharacter (map direct (encode v)) left)
-        (close-reads also (b ∷ l) (map direct (encode v)) left (h .whole ∙ sym (direct-onto (encode v) left)) (scalar-rule (byte "'") (omega arith) b v l left r (h .whole)) (scalar-one v (h .right))))
+        (close-reads also (b ∷ l) (map direct (encode v)) left (h .whole ∙ sym (direct-onto (encode v) left))
+        (scalar-rule (byte "'") (omega arith) b v l left r (h .whole)) (scalar-one v (h .right))))
     go (fault n left) f = rw (character-broken b l n left e f, Reads) (faults 6 (omega arith) whole)
 
 -- what is read of a character stood there, and keeps the rule
@@ -116,23 +126,28 @@ character-reads also (b ∷ l) =
     byInside (byte "'") b
     (λ q e. rw (character-closes b l e, Reads) (faults 6 (omega arith) whole))
     (λ q e. rw (character-escapes b l e, q)
-    (reads-then (byte "\\" ∷ l) (Stood (byte "'") (byte "\\" ∷ l)) (ReadLeaf also (byte "'" ∷ byte "\\" ∷ l)) _ (escape (byte "'") (byte "\\" ∷ l) l) (escape-reads (byte "'") l)
-    (λ p left h. close-reads also (byte "\\" ∷ l) (p ∷ []) left (h .covers) (all-cons _ p [] (h .rule) (all-nil _)) (one-escape (byte "'") p l left (h .covers) (h .rule)))))
+    (reads-then (byte "\\" ∷ l) (Stood (byte "'") (byte "\\" ∷ l)) (ReadLeaf also (byte "'" ∷ byte "\\" ∷ l)) _ (escape (byte "'") (byte "\\" ∷ l) l)
+    (escape-reads (byte "'") l)
+    (λ p left h. close-reads also (byte "\\" ∷ l) (p ∷ []) left (h .covers) (all-cons _ p [] (h .rule) (all-nil _))
+    (one-escape (byte "'") p l left (h .covers) (h .rule)))))
     (λ e. rw (character-breaks b l e, Reads) (faults 6 (omega arith) whole))
     (λ r e. direct-reads also b l r e)
 
-escape-back : (p : Piece) (ps : List Piece) (l next : List ℕ) → eqb (length ps) 0 ≡ true → escape (byte "'") (byte "\\" ∷ l) l ≡ found p (piecesOnto ps (byte "'" ∷ next)) → characterOf (byte "\\" ∷ l) ≡ found (character (p ∷ ps)) next
+escape-back : (p : Piece) (ps : List Piece) (l next : List ℕ) → eqb (length ps) 0 ≡ true → escape (byte "'") (byte "\\" ∷ l) l ≡ found p (piecesOnto ps (byte "'" ∷ next))
+    → characterOf (byte "\\" ∷ l) ≡ found (character (p ∷ ps)) next
 unfolding insideOf piecesOnto
 escape-back p ps l next n e = character-escapes (byte "\\") l refl ∙ rw (e, empty-is ps n) (close-there (p ∷ []) next)
 
 -- a spelt character is read back
-pub character-back : (ps : List Piece) (next : List ℕ) → all (pieceRule (byte "'")) ps ≡ true → oneScalar ps ≡ true → characterOf (piecesOnto ps (byte "'" ∷ next)) ≡ found (character ps) next
+pub character-back : (ps : List Piece) (next : List ℕ) → all (pieceRule (byte "'")) ps ≡ true → oneScalar ps ≡ true
+    → characterOf (piecesOnto ps (byte "'" ∷ next)) ≡ found (character ps) next
 unfolding oneScalar piecesOnto pieceOnto pieceRule insideOf elem
 character-back [] next r o = true-false (sym o)
 character-back (direct b ∷ ps) next r o =
     let d = all-head _ (direct b) ps r .0 in
     one-scalar (byte "'") b ps d o
-    (λ v s q. character-itself b _ v (byte "'" ∷ next) (inside-itself (byte "'") b d) (ap (λ (x : List Piece). scalar (piecesOnto x (byte "'" ∷ next))) q ∙ rw (direct-onto (encode v) (byte "'" ∷ next)) (scalar-encode v _ s))
+    (λ v s q. character-itself b _ v (byte "'" ∷ next) (inside-itself (byte "'") b d)
+    (ap (λ (x : List Piece). scalar (piecesOnto x (byte "'" ∷ next))) q ∙ rw (direct-onto (encode v) (byte "'" ∷ next)) (scalar-encode v _ s))
     ∙ rw (← q) (close-there (direct b ∷ ps) next))
 character-back (escaped b ∷ ps) next r o = escape-back (escaped b) ps _ next o (letter-back (byte "'") _ b _ refl (all-head _ (escaped b) ps r .0))
 character-back (four digits ∷ ps) next r o = escape-back (four digits) ps _ next o (four-back (byte "'") _ digits _ (all-head _ (four digits) ps r .0))
@@ -187,7 +202,8 @@ word-rule also form w e =
     record { kind = eqb-true (wordForm w) form (k .0); some = leb-true 1 form (k .1); plain = h .1 }
 
 -- a spelt word is read back
-pub word-back : (also : List ℕ) (form : ℕ) (w next : List ℕ) → leafRule also (word form w) ≡ true → Follows also (endsInSlash w) next → wordLeaf also (w ++ next) ≡ found (word form w) next
+pub word-back : (also : List ℕ) (form : ℕ) (w next : List ℕ) → leafRule also (word form w) ≡ true → Follows also (endsInSlash w) next
+    → wordLeaf also (w ++ next) ≡ found (word form w) next
 word-back also form w next r f =
     let h = word-rule also form w r in
     rw (word-only also w next (record { plain = h .plain; ends = f .ends; slash = f .slash }), take-append-seam w next, drop-append-seam w next)
@@ -252,7 +268,8 @@ leaf-begins also (word form w) next r = starts-append _ w next (starts-weaken _ 
 
 word-other : (b : ℕ) → without beginsNoWord b ≡ true → firstOf b ≡ other
 unfolding firstOf elem
-word-other b e = rw (apart (without beginsNoWord) b (byte "\"") e refl, apart (without beginsNoWord) b (byte "'") e refl, apart (without beginsNoWord) b (byte "`") e refl)
+word-other b e =
+    rw (apart (without beginsNoWord) b (byte "\"") e refl, apart (without beginsNoWord) b (byte "'") e refl, apart (without beginsNoWord) b (byte "`") e refl)
 
 leaf-other : (also w next : List ℕ) → startsIn (without beginsNoWord) w ≡ true → leafOf also (w ++ next) ≡ wordLeaf also (w ++ next)
 unfolding startsIn

@@ -53,7 +53,8 @@ rest-reads s = go (lineRest s) (line-end-reads (front isBlank s) (behind isBlank
     end-shorter LF left = omega arith
     end-shorter CRLF left = omega arith
 
-    go : (x : Found Blank) → Reads (behind isBlank s) (λ b left. (b .blanks ≡ front isBlank s) × (behind isBlank s ≡ lineEndOnto (b .end) left)) x → Reads s (λ b left. ReadBlank s b left) x
+    go : (x : Found Blank) → Reads (behind isBlank s) (λ b left. (b .blanks ≡ front isBlank s) × (behind isBlank s ≡ lineEndOnto (b .end) left)) x
+        → Reads s (λ b left. ReadBlank s b left) x
     go (fault n left) h = record { least = h .least; most = h .most; tail = tail-then (tail-drop (lengthIn isBlank s) s) (h .tail) }
     go (found b left) h =
         let c : s ≡ blankOnto b left = sym (front-behind isBlank s) ∙ rw (h .1 .0, ← h .1 .1) in (
@@ -78,7 +79,10 @@ line-end-complete blanks CRLF next = refl
 
 pub rest-complete : (b : Blank) (next : List ℕ) → blankRule b ≡ true → lineRest (blankOnto b next) ≡ found b next
 rest-complete b next r =
-    rw (front-of isBlank (b .blanks) (lineEndOnto (b .end) next) r (ends-blank (b .end) next), behind-of isBlank (b .blanks) (lineEndOnto (b .end) next) r (ends-blank (b .end) next))
+    rw (
+      front-of isBlank (b .blanks) (lineEndOnto (b .end) next) r (ends-blank (b .end) next),
+      behind-of isBlank (b .blanks) (lineEndOnto (b .end) next) r (ends-blank (b .end) next),
+    )
     (line-end-complete (b .blanks) (b .end) next)
 
 -- ---- blank lines
@@ -105,7 +109,9 @@ blank-says = record {
 
 blank-turns : (room : ℕ) (s : List ℕ) → Turns s (λ b left. ReadBlank s b left) (λ left. (s ≡ left) × (isBlankLine s ≡ false)) (blankTurn room s)
 unfolding blankTurn
-blank-turns room s = split (isBlankLine s) (λ e. rw (e, blankTurn) (turns-of s (λ b left. ReadBlank s b left) (λ left. (s ≡ left) × (true ≡ false)) (lineRest s) (rest-reads s))) (λ e. rw (e, blankTurn) (whole, (refl, refl)))
+blank-turns room s =
+    split (isBlankLine s) (λ e. rw (e, blankTurn) (turns-of s (λ b left. ReadBlank s b left) (λ left. (s ≡ left) × (true ≡ false)) (lineRest s) (rest-reads s)))
+    (λ e. rw (e, blankTurn) (whole, (refl, refl)))
 
 pub blanks-reads : (s : List ℕ) → Reads s (λ bs left. ReadBlanks s bs left) (blankLines s)
 unfolding blank-says blanksOnto all
@@ -116,7 +122,8 @@ blanks-reads s =
     (suc (length s)) 0 s
 
 pub blank-shorter : (room : ℕ) (s : List ℕ) → Shorter s (blankTurn room s)
-blank-shorter room s = turns-shorter s (λ b left. ReadBlank s b left) (λ left. (s ≡ left) × (isBlankLine s ≡ false)) (λ b left h. h .shorter) (blankTurn room s) (blank-turns room s)
+blank-shorter room s =
+    turns-shorter s (λ b left. ReadBlank s b left) (λ left. (s ≡ left) × (isBlankLine s ≡ false)) (λ b left h. h .shorter) (blankTurn room s) (blank-turns room s)
 
 pub blanks-complete : (bs : List Blank) (next : List ℕ) → all blankRule bs ≡ true → isBlankLine next ≡ false → blankLines (blanksOnto bs next) ≡ found bs next
 unfolding blanksOnto blankTurn
@@ -130,7 +137,10 @@ blanks-complete (b ∷ bs) next r e =
 -- ---- tabs in front
 
 pub tabs-covers : (s : List ℕ) → s ≡ tabsOnto (lengthIn isTab s) (behind isTab s)
-tabs-covers s = sym (front-behind isTab s) ∙ ap (λ (l : List ℕ). l ++ behind isTab s) (same-byte tab (front isTab s) (front-all isTab s) ∙ ap (λ (n : ℕ). replicate n tab) (length-take-le (lengthIn isTab s) s (length-in isTab s)))
+tabs-covers s =
+    sym (front-behind isTab s)
+    ∙ ap (λ (l : List ℕ). l ++ behind isTab s) (same-byte tab (front isTab s) (front-all isTab s) ∙ ap (λ (n : ℕ). replicate n tab)
+    (length-take-le (lengthIn isTab s) s (length-in isTab s)))
 
 pub tabs-length : (n : ℕ) (next : List ℕ) → startsIn isTab next ≡ false → lengthIn isTab (tabsOnto n next) ≡ n
 tabs-length n next e = front-length isTab (replicate n tab) next (all-same tab n) e ∙ length-replicate n tab
@@ -211,18 +221,23 @@ name-reads rule s = go (pastRun s) refl
     go [] e = fault-end s
     go (b ∷ l) e =
         split (leb 1 (length (run s)))
-        (λ f. split (rule (run s)) (λ g. rw (f, nameOf, g) (rw (← e) (tail-drop (lengthIn isNameByte s) s), record { covers = sym (front-behind isNameByte s) ∙ ap (λ (r : List ℕ). run s ++ r) e; kept = g; some = leb-true 1 (length (run s)) f }))
+        (λ f. split (rule (run s)) (λ g. rw (f, nameOf, g) (
+          rw (← e) (tail-drop (lengthIn isNameByte s) s),
+          record { covers = sym (front-behind isNameByte s) ∙ ap (λ (r : List ℕ). run s ++ r) e; kept = g; some = leb-true 1 (length (run s)) f },
+        ))
         (λ g. rw (f, nameOf, g) (fault-here s 4 (omega arith) (omega arith))))
         (λ f. rw (f, nameOf) (fault-here s 7 (omega arith) (omega arith)))
 
-pub name-complete : (rule : List ℕ → Bool) (w : List ℕ) (b : ℕ) (next : List ℕ) → all isNameByte w ≡ true → 0 < length w → rule w ≡ true → isNameByte b ≡ false → name rule (w ++ (b ∷ next)) ≡ found w (b ∷ next)
+pub name-complete : (rule : List ℕ → Bool) (w : List ℕ) (b : ℕ) (next : List ℕ) → all isNameByte w ≡ true → 0 < length w → rule w ≡ true → isNameByte b ≡ false
+    → name rule (w ++ (b ∷ next)) ≡ found w (b ∷ next)
 unfolding nameOf startsIn
 name-complete rule w b next a l r e =
     let f = front-of isNameByte w (b ∷ next) a e in
     rw (behind-of isNameByte w (b ∷ next) a e, nameOf, f, le-leb 1 (length w) l, f, r, f)
 
 -- the same, where what follows is only known not to go on with the name
-pub name-found : (rule : List ℕ → Bool) (w next : List ℕ) → all isNameByte w ≡ true → 0 < length w → rule w ≡ true → 0 < length next → startsIn isNameByte next ≡ false → name rule (w ++ next) ≡ found w next
+pub name-found : (rule : List ℕ → Bool) (w next : List ℕ) → all isNameByte w ≡ true → 0 < length w → rule w ≡ true → 0 < length next → startsIn isNameByte next ≡ false
+    → name rule (w ++ next) ≡ found w next
 unfolding startsIn
 name-found rule w next a l r k e = go next k e
   where
@@ -235,13 +250,15 @@ name-found rule w next a l r k e = go next k e
 pub due-reads : (c : ℕ) (s : List ℕ) → Reads s (λ b left. s ≡ c ∷ left) (due c s)
 unfolding due
 due-reads c [] = fault-end []
-due-reads c (b ∷ l) = split (eqb b c) (λ e. rw (e, due) (past whole, ap (λ (d : ℕ). d ∷ l) (eqb-true b c e))) (λ e. rw (e, due) (fault-here (b ∷ l) 7 (omega arith) (omega arith)))
+due-reads c (b ∷ l) =
+    split (eqb b c) (λ e. rw (e, due) (past whole, ap (λ (d : ℕ). d ∷ l) (eqb-true b c e))) (λ e. rw (e, due) (fault-here (b ∷ l) 7 (omega arith) (omega arith)))
 
 pub due-complete : (c : ℕ) (next : List ℕ) → due c (c ∷ next) ≡ found c next
 unfolding due
 due-complete c next = rw (eq-eqb c c refl, due)
 
-pub makes-reads : {A : Type 0} (s : List ℕ) (room : ℕ) (at : List ℕ) (a : A) (left : List ℕ) → Tail s at → Tail s left → Reads s (λ b end. (0 < room) × (b ≡ a) × (end ≡ left)) (makes room at a left)
+pub makes-reads : {A : Type 0} (s : List ℕ) (room : ℕ) (at : List ℕ) (a : A) (left : List ℕ) → Tail s at → Tail s left
+    → Reads s (λ b end. (0 < room) × (b ≡ a) × (end ≡ left)) (makes room at a left)
 unfolding makes
 makes-reads s zero at a left t u = record { least = omega arith; most = omega arith; tail = t }
 makes-reads s (suc room) at a left t u = (u, (omega arith, refl, refl))

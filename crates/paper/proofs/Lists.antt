@@ -174,7 +174,8 @@ pub starts-is : (p s : List ℕ) → startsWith p s ≡ true → s ≡ p ++ drop
 unfolding startsWith
 starts-is [] s e = refl
 starts-is (b ∷ p) [] e = true-false (sym e)
-starts-is (b ∷ p) (c ∷ s) e = split (eqb c b) (λ h. rw (eqb-true c b h) (ap (λ (l : List ℕ). b ∷ l) (starts-is p s (rw (h, startsWith) at e)))) (λ h. true-false (sym (rw (h, startsWith) at e)))
+starts-is (b ∷ p) (c ∷ s) e =
+    split (eqb c b) (λ h. rw (eqb-true c b h) (ap (λ (l : List ℕ). b ∷ l) (starts-is p s (rw (h, startsWith) at e)))) (λ h. true-false (sym (rw (h, startsWith) at e)))
 
 pub starts-of : (p next : List ℕ) → startsWith p (p ++ next) ≡ true
 unfolding startsWith
@@ -194,7 +195,8 @@ unfolding same
 same-is [] [] e = refl
 same-is [] (b ∷ w) e = true-false (sym e)
 same-is (a ∷ v) [] e = true-false (sym e)
-same-is (a ∷ v) (b ∷ w) e = split (eqb a b) (λ h. rw (eqb-true a b h) (ap (λ (l : List ℕ). b ∷ l) (same-is v w (rw (h, same) at e)))) (λ h. true-false (sym (rw (h, same) at e)))
+same-is (a ∷ v) (b ∷ w) e =
+    split (eqb a b) (λ h. rw (eqb-true a b h) (ap (λ (l : List ℕ). b ∷ l) (same-is v w (rw (h, same) at e)))) (λ h. true-false (sym (rw (h, same) at e)))
 
 pub same-of : (w : List ℕ) → same w w ≡ true
 unfolding same

@@ -8,7 +8,8 @@ use lib.ListN.{length, drop, getD, length-append}
 use lib.Dec.{leb, eqb, eqb·suc-zero}
 use borrow.Author.Tests.{eqb-true, leb-true, le-leb, ne-eqb}
 use Rattle.paper.specs.Found.{found, fault, more, over, turnOf, manyOf}
-use Rattle.paper.specs.Bytes.{byte, bytes, isUpper, isLower, isDigit, isLetter, isNameByte, isBlank, isLineEnd, isWhite, all, elem, startsIn, lengthIn, front, behind, same}
+use Rattle.paper.specs.Bytes.{byte, bytes, isUpper, isLower, isDigit, isLetter, isNameByte, isBlank, isLineEnd, isWhite, all, elem, startsIn, lengthIn, front}
+use Rattle.paper.specs.Bytes.{behind, same}
 use Rattle.paper.specs.Names.{nameRule, isName}
 use Rattle.paper.specs.Values.{is, isEnder, endsWord, Value, valueOnto, valueRule, valueInSlash, listDepth}
 use Rattle.paper.specs.Tree.{Trait, Marker, Ending, block, self}
@@ -38,17 +39,23 @@ pub record ReadTrait (by : Bounds) (room : ℕ) (white s : List ℕ) (t : Trait)
   pub fits : traitSize t ≤ room
   pub shorter : length left < length s
 
-enters-reads : (s : List ℕ) (room : ℕ) (named valued : List ℕ) (t : Trait) (left : List ℕ) → Tail s named → Tail s valued → Tail s left → Reads s (λ u end. (u ≡ t) × (end ≡ left) × (traitSize t ≤ room)) (enters room named valued t left)
+enters-reads : (s : List ℕ) (room : ℕ) (named valued : List ℕ) (t : Trait) (left : List ℕ) → Tail s named → Tail s valued → Tail s left
+    → Reads s (λ u end. (u ≡ t) × (end ≡ left) × (traitSize t ≤ room)) (enters room named valued t left)
 unfolding enters
 enters-reads s room named valued t left n v u =
     split (leb (traitSize t) room) (λ e. rw (e, enters) (u, (refl, refl, leb-true (traitSize t) room e)))
     (λ e. rw (e, enters) (go room))
   where
-    go : (room : ℕ) → Reads s (λ u end. (u ≡ t) × (end ≡ left) × (traitSize t ≤ room)) (elim room [ zero ↦ fault 11 named | suc items ↦ fault 11 (drop (getD (map (λ e. e .start) (itemEntries 0 0 0 (t .value))) items 0) valued) ])
+    go : (room : ℕ)
+        → Reads s (λ u end. (u ≡ t) × (end ≡ left) × (traitSize t ≤ room))
+        (elim room [ zero ↦ fault 11 named | suc items ↦ fault 11 (drop (getD (map (λ e. e .start) (itemEntries 0 0 0 (t .value))) items 0) valued) ])
     go zero = record { least = omega arith; most = omega arith; tail = n }
-    go (suc items) = record { least = omega arith; most = omega arith; tail = tail-then v (tail-drop (getD (map (λ e. e .start) (itemEntries 0 0 0 (t .value))) items 0) valued) }
+    go (suc items) =
+        record { least = omega arith; most = omega arith; tail = tail-then v (tail-drop (getD (map (λ e. e .start) (itemEntries 0 0 0 (t .value))) items 0) valued) }
 
-trait-made : (by : Bounds) (room : ℕ) (white s w mid valued : List ℕ) (v : Value) (left : List ℕ) → ReadName (isName isLower (by .names)) s w mid → mid ≡ byte "=" ∷ valued → ReadValue (by .lists) [] valued v left → traitSize (record { white = white; name = w; value = v }) ≤ room → ReadTrait by room white s (record { white = white; name = w; value = v }) left
+trait-made : (by : Bounds) (room : ℕ) (white s w mid valued : List ℕ) (v : Value) (left : List ℕ) → ReadName (isName isLower (by .names)) s w mid
+    → mid ≡ byte "=" ∷ valued → ReadValue (by .lists) [] valued v left → traitSize (record { white = white; name = w; value = v }) ≤ room
+    → ReadTrait by room white s (record { white = white; name = w; value = v }) left
 trait-made by room white s w mid valued v left n d r f =
     record {
       is-white = refl;
@@ -66,8 +73,13 @@ unfolding trait
 trait-reads by room white s =
     reads-on s (λ w left. ReadName (isName isLower (by .names)) s w left) _ _ (name (isName isLower (by .names)) s) (name-reads (isName isLower (by .names)) s)
     (λ w mid u n. reads-on s (λ b left. mid ≡ byte "=" ∷ left) _ _ (due (byte "=") mid) (reads-in u _ (due (byte "=") mid) (due-reads (byte "=") mid))
-    (λ b valued u d. reads-on s (λ v left. ReadValue (by .lists) [] valued v left) _ _ (wholeValue (by .lists) valued) (reads-in u _ (wholeValue (by .lists) valued) (whole-reads (by .lists) valued))
-    (λ v left x r. reads-as s _ _ (enters room s valued (record { white = white; name = w; value = v }) left) (enters-reads s room s valued (record { white = white; name = w; value = v }) left whole u x)
+    (λ b valued u d. reads-on s (λ v left. ReadValue (by .lists) [] valued v left) _ _ (wholeValue (by .lists) valued)
+    (reads-in u _ (wholeValue (by .lists) valued) (whole-reads (by .lists) valued))
+    (λ v left x r. reads-as s _ _ (enters room s valued (record { white = white; name = w; value = v }) left) (enters-reads s room s valued (record {
+      white = white;
+      name = w;
+      value = v;
+    }) left whole u x)
     (λ t end e. rw (e .0, e .1) (trait-made by room white s w mid valued v left n d r (e .2))))))
 
 -- ---- the traits of a marker
@@ -84,7 +96,8 @@ pub record ReadTurn (by : Bounds) (room : ℕ) (s : List ℕ) (t : Trait) (left 
 abbrev pub endsMarker : List ℕ → Bool
 endsMarker s = startsIn (λ b. elem b (bytes ">/")) (behind isWhite s)
 
-turn-made : (by : Bounds) (room : ℕ) (s : List ℕ) → 0 < length (front isWhite s) → (t : Trait) (left : List ℕ) → ReadTrait by room (front isWhite s) (behind isWhite s) t left → ReadTurn by room s t left
+turn-made : (by : Bounds) (room : ℕ) (s : List ℕ) → 0 < length (front isWhite s) → (t : Trait) (left : List ℕ)
+    → ReadTrait by room (front isWhite s) (behind isWhite s) t left → ReadTurn by room s t left
 unfolding traitRule traitFits isName
 turn-made by room s w t left r =
     let n = both (nameRule isLower (t .name)) (leb (length (t .name)) (by .names)) (r .named) in
@@ -103,13 +116,21 @@ turn-reads : (by : Bounds) (room : ℕ) (s : List ℕ) → Turns s (λ t left. R
 unfolding traitTurn traitDue startsIn
 turn-reads by room s = go (behind isWhite s) refl
   where
-    go : (r : List ℕ) → behind isWhite s ≡ r → Turns s (λ t left. ReadTurn by room s t left) (λ left. (s ≡ left) × (endsMarker s ≡ true)) (traitDue by room s (front isWhite s) r)
+    go : (r : List ℕ) → behind isWhite s ≡ r
+        → Turns s (λ t left. ReadTurn by room s t left) (λ left. (s ≡ left) × (endsMarker s ≡ true)) (traitDue by room s (front isWhite s) r)
     go [] e = fault-end s
     go (b ∷ l) e =
         let u : Tail s (b ∷ l) = rw e at (tail-drop (lengthIn isWhite s) s) in
         split (elem b (bytes ">/")) (λ f. rw (f, traitDue) (whole, (refl, ap (startsIn (λ b. elem b (bytes ">/"))) e ∙ f)))
         (λ f. split (leb 1 (length (front isWhite s)))
-        (λ g. rw (f, traitDue, g) (turns-of s _ _ (trait by room (front isWhite s) (b ∷ l)) (reads-in u _ (trait by room (front isWhite s) (b ∷ l)) (reads-as (b ∷ l) _ _ (trait by room (front isWhite s) (b ∷ l)) (trait-reads by room (front isWhite s) (b ∷ l)) (λ t left h. turn-made by room s (leb-true 1 (length (front isWhite s)) g) t left (rw e h))))))
+        (λ g. rw (
+          f,
+          traitDue,
+          g,
+        ) (turns-of s _ _ (trait by room (front isWhite s) (b ∷ l))
+        (reads-in u _ (trait by room (front isWhite s) (b ∷ l))
+        (reads-as (b ∷ l) _ _ (trait by room (front isWhite s) (b ∷ l)) (trait-reads by room (front isWhite s) (b ∷ l))
+        (λ t left h. turn-made by room s (leb-true 1 (length (front isWhite s)) g) t left (rw e h))))))
         (λ g. rw (f, traitDue, g) (record { least = omega arith; most = omega arith; tail = u })))
 
 pub trait-shorter : (by : Bounds) (room : ℕ) (s : List ℕ) → Shorter s (traitTurn by room s)
@@ -123,12 +144,21 @@ pub record ReadTraits (by : Bounds) (room : ℕ) (s : List ℕ) (ts : List Trait
   pub fits : traitsSize ts ≤ room
   pub closed : endsMarker left ≡ true
 
-traits-more : (by : Bounds) (room : ℕ) (s : List ℕ) (t : Trait) (mid : List ℕ) (ts : List Trait) (left : List ℕ) → ReadTurn by room s t mid → ReadTraits by (room - traitSize t) mid ts left → ReadTraits by room s (t ∷ ts) left
+traits-more : (by : Bounds) (room : ℕ) (s : List ℕ) (t : Trait) (mid : List ℕ) (ts : List Trait) (left : List ℕ) → ReadTurn by room s t mid
+    → ReadTraits by (room - traitSize t) mid ts left → ReadTraits by room s (t ∷ ts) left
 unfolding traitsOnto all slashLast traitsSize
 traits-more by room s t mid ts left h r =
-    record { covers = h .covers ∙ ap (traitOnto t) (r .covers); rule = and (h .rule) (r .rule); within = and (h .within) (r .within); slash = go ts (r .covers) (r .slash); fits = omega (arith, h .fits, r .fits); closed = r .closed }
+    record {
+      covers = h .covers ∙ ap (traitOnto t) (r .covers);
+      rule = and (h .rule) (r .rule);
+      within = and (h .within) (r .within);
+      slash = go ts (r .covers) (r .slash);
+      fits = omega (arith, h .fits, r .fits);
+      closed = r .closed;
+    }
   where
-    go : (ts : List Trait) → mid ≡ traitsOnto ts left → (slashLast ts ≡ true → startsIn (is (byte ">")) left ≡ false) → slashLast (t ∷ ts) ≡ true → startsIn (is (byte ">")) left ≡ false
+    go : (ts : List Trait) → mid ≡ traitsOnto ts left → (slashLast ts ≡ true → startsIn (is (byte ">")) left ≡ false) → slashLast (t ∷ ts) ≡ true
+        → startsIn (is (byte ">")) left ≡ false
     go [] c f e = rw (← c) (h .slash e)
     go (u ∷ ts) c f e = f e
 
@@ -178,7 +208,8 @@ opens-made : (k : Marker) (left : List ℕ) → (slashLast (k .traits) ≡ true 
 unfolding opensBlock startsIn
 opens-made k left f = go (k .white) f
   where
-    go : (white : List ℕ) → (slashLast (k .traits) ≡ true → startsIn (is (byte ">")) (white ++ (byte ">" ∷ left)) ≡ false) → not (eqb (length white) 0 && slashLast (k .traits)) ≡ true
+    go : (white : List ℕ) → (slashLast (k .traits) ≡ true → startsIn (is (byte ">")) (white ++ (byte ">" ∷ left)) ≡ false)
+        → not (eqb (length white) 0 && slashLast (k .traits)) ≡ true
     go [] f = split (slashLast (k .traits)) (λ e. true-false (f e)) (λ e. rw e)
     go (b ∷ white) f = rw (eqb·suc-zero (length white))
 
@@ -186,7 +217,8 @@ pub opened-reads : (by : Bounds) (room : ℕ) (w s : List ℕ) → Reads s (λ o
 unfolding opened
 opened-reads by room w s =
     reads-on s (λ ts left. ReadTraits by room s ts left) _ _ (manyOf traitSize (traitTurn by) room s) (traits-reads by room s)
-    (λ ts mid u r. reads-on s (λ e left. behind isWhite mid ≡ endingOnto e left) _ _ (ending (behind isWhite mid)) (reads-in (tail-then u (tail-drop (lengthIn isWhite mid) mid)) _ (ending (behind isWhite mid)) (ending-reads (behind isWhite mid)))
+    (λ ts mid u r. reads-on s (λ e left. behind isWhite mid ≡ endingOnto e left) _ _ (ending (behind isWhite mid))
+    (reads-in (tail-then u (tail-drop (lengthIn isWhite mid) mid)) _ (ending (behind isWhite mid)) (ending-reads (behind isWhite mid)))
     (λ e left u k.
     let c : mid ≡ front isWhite mid ++ endingOnto e left = sym (front-behind isWhite mid) ∙ ap (λ (l : List ℕ). front isWhite mid ++ l) k in (
       u,
@@ -214,7 +246,8 @@ pub record Closes (ts : List Trait) (next : List ℕ) : Type 0 where
   pub slash : slashLast ts ≡ true → startsIn (is (byte ">")) next ≡ false
   pub closed : endsMarker next ≡ true
 
-pub trait-parts : (t : Trait) → traitRule t ≡ true → (0 < length (t .white)) × (all isWhite (t .white) ≡ true) × (nameRule isLower (t .name) ≡ true) × (valueRule [] (t .value) ≡ true)
+pub trait-parts : (t : Trait) → traitRule t ≡ true
+    → (0 < length (t .white)) × (all isWhite (t .white) ≡ true) × (nameRule isLower (t .name) ≡ true) × (valueRule [] (t .value) ≡ true)
 unfolding traitRule
 trait-parts t r =
     let a = both _ (valueRule [] (t .value)) r in
@@ -270,31 +303,47 @@ pub enters-complete : (room : ℕ) (named valued : List ℕ) (t : Trait) (left :
 unfolding enters
 enters-complete room named valued t left f = rw (le-leb (traitSize t) room f, enters)
 
-trait-complete : (by : Bounds) (room : ℕ) (t : Trait) (next : List ℕ) → traitRule t ≡ true → traitFits (by .names) (by .lists) t ≡ true → traitSize t ≤ room → Follows [] (valueInSlash (t .value)) next → trait by room (t .white) (t .name ++ (byte "=" ∷ valueOnto (t .value) next)) ≡ found t next
+trait-complete : (by : Bounds) (room : ℕ) (t : Trait) (next : List ℕ) → traitRule t ≡ true → traitFits (by .names) (by .lists) t ≡ true → traitSize t ≤ room
+    → Follows [] (valueInSlash (t .value)) next → trait by room (t .white) (t .name ++ (byte "=" ∷ valueOnto (t .value) next)) ≡ found t next
 unfolding trait traitFits isName isNameByte isLetter isUpper isLower isDigit
 trait-complete by room t next r w f k =
     let p = trait-parts t r in
     let n = rule-name isLower (t .name) (p .2) in
     let q = both (leb (length (t .name)) (by .names)) (leb (listDepth (t .value)) (by .lists)) w in
-    rw (name-complete (isName isLower (by .names)) (t .name) (byte "=") (valueOnto (t .value) next) (n .0) (n .1) (and (p .2) (q .0)) refl, due-complete (byte "=") (valueOnto (t .value) next), whole-complete (by .lists) (t .value) next (p .3) (leb-true (listDepth (t .value)) (by .lists) (q .1)) k)
+    rw (
+      name-complete (isName isLower (by .names)) (t .name) (byte "=") (valueOnto (t .value) next) (n .0) (n .1) (and (p .2) (q .0)) refl,
+      due-complete (byte "=") (valueOnto (t .value) next),
+      whole-complete (by .lists) (t .value) next (p .3) (leb-true (listDepth (t .value)) (by .lists) (q .1)) k,
+    )
     (enters-complete room (t .name ++ (byte "=" ∷ valueOnto (t .value) next)) (valueOnto (t .value) next) t next f)
 
 -- a name behind white space begins a trait
-name-due : (by : Bounds) (room : ℕ) (white w rest : List ℕ) → 0 < length white → all isWhite white ≡ true → 0 < length w → all isNameByte w ≡ true → traitTurn by room (white ++ (w ++ rest)) ≡ turnOf (trait by room white (w ++ rest))
+name-due : (by : Bounds) (room : ℕ) (white w rest : List ℕ) → 0 < length white → all isWhite white ≡ true → 0 < length w → all isNameByte w ≡ true
+    → traitTurn by room (white ++ (w ++ rest)) ≡ turnOf (trait by room white (w ++ rest))
 unfolding traitTurn traitDue startsIn elem isNameByte isLetter isUpper isLower isDigit
 name-due by room white [] rest l r k n = absurd (omega arith)
 name-due by room white (b ∷ w) rest l r k n =
     let h = all-head isNameByte b w n .0 in
     let a = front-of isWhite white (b ∷ (w ++ rest)) r (name-white b h) in
-    rw (behind-of isWhite white (b ∷ (w ++ rest)) r (name-white b h), traitDue, apart isNameByte b (byte ">") h refl, apart isNameByte b (byte "/") h refl, a, le-leb 1 (length white) l, a)
+    rw (
+      behind-of isWhite white (b ∷ (w ++ rest)) r (name-white b h),
+      traitDue,
+      apart isNameByte b (byte ">") h refl,
+      apart isNameByte b (byte "/") h refl,
+      a,
+      le-leb 1 (length white) l,
+      a,
+    )
 
-turn-complete : (by : Bounds) (room : ℕ) (t : Trait) (next : List ℕ) → traitRule t ≡ true → traitFits (by .names) (by .lists) t ≡ true → traitSize t ≤ room → Follows [] (valueInSlash (t .value)) next → traitTurn by room (traitOnto t next) ≡ more t next
+turn-complete : (by : Bounds) (room : ℕ) (t : Trait) (next : List ℕ) → traitRule t ≡ true → traitFits (by .names) (by .lists) t ≡ true → traitSize t ≤ room
+    → Follows [] (valueInSlash (t .value)) next → traitTurn by room (traitOnto t next) ≡ more t next
 turn-complete by room t next r w f k =
     let p = trait-parts t r in
     let n = rule-name isLower (t .name) (p .2) in
     name-due by room (t .white) (t .name) (byte "=" ∷ valueOnto (t .value) next) (p .0) (p .1) (n .1) (n .0) ∙ ap turnOf (trait-complete by room t next r w f k)
 
-pub traits-complete : (by : Bounds) (room : ℕ) (ts : List Trait) (next : List ℕ) → all traitRule ts ≡ true → all (traitFits (by .names) (by .lists)) ts ≡ true → traitsSize ts ≤ room → Closes ts next → manyOf traitSize (traitTurn by) room (traitsOnto ts next) ≡ found ts next
+pub traits-complete : (by : Bounds) (room : ℕ) (ts : List Trait) (next : List ℕ) → all traitRule ts ≡ true → all (traitFits (by .names) (by .lists)) ts ≡ true
+    → traitsSize ts ≤ room → Closes ts next → manyOf traitSize (traitTurn by) room (traitsOnto ts next) ≡ found ts next
 unfolding traitsOnto traitsSize
 traits-complete by room [] next r w f c = run-over traitSize (traitTurn by) (trait-shorter by) room next next (turn-over by room next (c .closed))
 traits-complete by room (t ∷ ts) next r w f c =
@@ -312,7 +361,8 @@ unfolding startsIn isWhite isBlank isLineEnd
 ends-white block next = refl
 ends-white self next = refl
 
-closes-end : (k : Marker) (e : Ending) (next : List ℕ) → all isWhite (k .white) ≡ true → (e ≡ block → opensBlock k ≡ true) → Closes (k .traits) (k .white ++ endingOnto e next)
+closes-end : (k : Marker) (e : Ending) (next : List ℕ) → all isWhite (k .white) ≡ true → (e ≡ block → opensBlock k ≡ true)
+    → Closes (k .traits) (k .white ++ endingOnto e next)
 unfolding endsWord isEnder startsIn elem opensBlock isWhite isBlank isLineEnd
 closes-end k e next r o = go (k .white) e r o
   where
@@ -320,25 +370,39 @@ closes-end k e next r o = go (k .white) e r o
     ends-marker white block r = ap (startsIn (λ b. elem b (bytes ">/"))) (behind-of isWhite white (endingOnto block next) r (ends-white block next))
     ends-marker white self r = ap (startsIn (λ b. elem b (bytes ">/"))) (behind-of isWhite white (endingOnto self next) r (ends-white self next))
 
-    go : (white : List ℕ) (e : Ending) → all isWhite white ≡ true → (e ≡ block → not (eqb (length white) 0 && slashLast (k .traits)) ≡ true) → Closes (k .traits) (white ++ endingOnto e next)
+    go : (white : List ℕ) (e : Ending) → all isWhite white ≡ true → (e ≡ block → not (eqb (length white) 0 && slashLast (k .traits)) ≡ true)
+        → Closes (k .traits) (white ++ endingOnto e next)
     go [] block r o = record { ends = refl; some = omega arith; slash = λ f. true-false (sym (o refl) ∙ rw f); closed = ends-marker [] block r }
     go [] self r o = record { ends = refl; some = omega arith; slash = λ f. refl; closed = ends-marker [] self r }
     go (b ∷ white) e r o =
         let l : 0 < length (b ∷ white) = omega arith in
-        record { ends = white-ends (b ∷ white) (endingOnto e next) l r; some = omega arith; slash = λ f. white-open (b ∷ white) (endingOnto e next) l r; closed = ends-marker (b ∷ white) e r }
+        record {
+          ends = white-ends (b ∷ white) (endingOnto e next) l r;
+          some = omega arith;
+          slash = λ f. white-open (b ∷ white) (endingOnto e next) l r;
+          closed = ends-marker (b ∷ white) e r;
+        }
 
-pub opened-complete : (by : Bounds) (room : ℕ) (k : Marker) (e : Ending) (next : List ℕ) → all traitRule (k .traits) ≡ true → all (traitFits (by .names) (by .lists)) (k .traits) ≡ true → all isWhite (k .white) ≡ true → (e ≡ block → opensBlock k ≡ true) → traitsSize (k .traits) ≤ room → opened by room (k .name) (traitsOnto (k .traits) (k .white ++ endingOnto e next)) ≡ found (record { marker = k; ends = e }) next
+pub opened-complete : (by : Bounds) (room : ℕ) (k : Marker) (e : Ending) (next : List ℕ) → all traitRule (k .traits) ≡ true
+    → all (traitFits (by .names) (by .lists)) (k .traits) ≡ true → all isWhite (k .white) ≡ true → (e ≡ block → opensBlock k ≡ true) → traitsSize (k .traits) ≤ room
+    → opened by room (k .name) (traitsOnto (k .traits) (k .white ++ endingOnto e next)) ≡ found (record { marker = k; ends = e }) next
 unfolding opened
 opened-complete by room k e next r w b o f =
     let s = ends-white e next in
-    rw (traits-complete by room (k .traits) (k .white ++ endingOnto e next) r w f (closes-end k e next b o), behind-of isWhite (k .white) (endingOnto e next) b s, ending-complete e next, front-of isWhite (k .white) (endingOnto e next) b s)
+    rw (
+      traits-complete by room (k .traits) (k .white ++ endingOnto e next) r w f (closes-end k e next b o),
+      behind-of isWhite (k .white) (endingOnto e next) b s,
+      ending-complete e next,
+      front-of isWhite (k .white) (endingOnto e next) b s,
+    )
 
 pub closing-reads : (w s : List ℕ) → Reads s (λ b left. s ≡ closingOnto w left) (closing w s)
 unfolding closing
 closing-reads w s =
     reads-on s (λ b left. s ≡ byte "<" ∷ left) _ _ (due (byte "<") s) (due-reads (byte "<") s)
     (λ b mid u d. reads-on s (λ c left. mid ≡ byte "/" ∷ left) _ _ (due (byte "/") mid) (reads-in u _ (due (byte "/") mid) (due-reads (byte "/") mid))
-    (λ c named u e. reads-on s (λ v left. ReadName (λ v. true) named v left) _ _ (name (λ v. true) named) (reads-in u _ (name (λ v. true) named) (name-reads (λ v. true) named))
+    (λ c named u e. reads-on s (λ v left. ReadName (λ v. true) named v left) _ _ (name (λ v. true) named)
+    (reads-in u _ (name (λ v. true) named) (name-reads (λ v. true) named))
     (λ v left x n. split (same w v)
     (λ f. rw f (reads-as s _ _ (due (byte ">") left) (reads-in x _ (due (byte ">") left) (due-reads (byte ">") left))
     (λ b end g. d ∙ ap (λ (l : List ℕ). byte "<" ∷ l) (e ∙ ap (λ (l : List ℕ). byte "/" ∷ l) (n .covers ∙ rw (← same-is w v f) (ap (λ (l : List ℕ). w ++ l) g))))))
@@ -347,7 +411,11 @@ closing-reads w s =
 pub closing-complete : (w next : List ℕ) → all isNameByte w ≡ true → 0 < length w → closing w (closingOnto w next) ≡ found (byte ">") next
 unfolding closing isNameByte isLetter isUpper isLower isDigit
 closing-complete w next r l =
-    rw (due-complete (byte "<") (byte "/" ∷ (w ++ (byte ">" ∷ next))), due-complete (byte "/") (w ++ (byte ">" ∷ next)), name-complete (λ v. true) w (byte ">") next r l refl refl) (go (same w w) (same-of w))
+    rw (
+      due-complete (byte "<") (byte "/" ∷ (w ++ (byte ">" ∷ next))),
+      due-complete (byte "/") (w ++ (byte ">" ∷ next)),
+      name-complete (λ v. true) w (byte ">") next r l refl refl,
+    ) (go (same w w) (same-of w))
   where
     go : (b : Bool) → b ≡ true → elim b [ true ↦ due (byte ">") (byte ">" ∷ next) | false ↦ fault 8 (w ++ (byte ">" ∷ next)) ] ≡ found (byte ">") next
     go true e = due-complete (byte ">") next

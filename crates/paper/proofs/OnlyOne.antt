@@ -69,7 +69,21 @@ only-one m s t u d e =
     let deeper = max (conceptDepth (t .root)) (conceptDepth (u .root)) in
     let room = max (sheetSize t) (sheetSize u) in
     let by : Bounds = record { names = n; lists = n } in
-    let a = sheet-complete m by deeper room t (record { rule = d .rule; modes = d .modes; within = concept-fits n (t .root) (omega arith); depth = omega arith; fits = omega arith }) in
-    let b = sheet-complete m by deeper room u (record { rule = e .rule; modes = e .modes; within = concept-fits n (u .root) (omega arith); depth = omega arith; fits = omega arith }) in
+    let a =
+    sheet-complete m by deeper room t (record {
+      rule = d .rule;
+      modes = d .modes;
+      within = concept-fits n (t .root) (omega arith);
+      depth = omega arith;
+      fits = omega arith;
+    }) in
+    let b =
+    sheet-complete m by deeper room u (record {
+      rule = e .rule;
+      modes = e .modes;
+      within = concept-fits n (u .root) (omega arith);
+      depth = omega arith;
+      fits = omega arith;
+    }) in
     let same : found t [] ≡ found u [] = sym a ∙ ap (sheetTree m by deeper room) (d .covers ∙ sym (e .covers)) ∙ b in
     cc

@@ -16,7 +16,8 @@ use Rattle.paper.proofs.Tests.{split, true-false, apart, upTo}
 use Rattle.paper.proofs.Finds.{whole, past, tail-of, tail-end, faults, Reads, Turns, turns-of}
 use Rattle.paper.proofs.Scalars.{scalar-sound, scalar-encode, encode-high}
 use Rattle.paper.proofs.Runs.{many-reads, Shorter, turns-shorter, run-more, run-over}
-use Rattle.paper.proofs.Lists.{both, and, is-not, byFront, all-nil, all-cons, starts-is, front-behind, front-length, front-of, behind-of, front-least, all-head, starts-not, all-weaken, all-map, empty-is}
+use Rattle.paper.proofs.Lists.{both, and, is-not, byFront, all-nil, all-cons, starts-is, front-behind, front-length, front-of, behind-of, front-least, all-head}
+use Rattle.paper.proofs.Lists.{starts-not, all-weaken, all-map, empty-is}
 
 -- ---- the spelling in front of what follows
 
@@ -30,7 +31,8 @@ piece-append (braces digits) next = rw (append-assoc digits (byte "}" ∷ []) ne
 pub pieces-append : (ps : List Piece) (next : List ℕ) → piecesOnto ps next ≡ piecesOnto ps [] ++ next
 unfolding piecesOnto
 pieces-append [] next = refl
-pieces-append (p ∷ ps) next = rw (pieces-append ps next, piece-append p (piecesOnto ps [] ++ next), piece-append p (piecesOnto ps [])) (sym (append-assoc (pieceOnto p []) (piecesOnto ps []) next))
+pieces-append (p ∷ ps) next =
+    rw (pieces-append ps next, piece-append p (piecesOnto ps [] ++ next), piece-append p (piecesOnto ps [])) (sym (append-assoc (pieceOnto p []) (piecesOnto ps []) next))
 
 -- a piece has one byte at least
 pub piece-longer : (p : Piece) (next : List ℕ) → length next < length (pieceOnto p next)
@@ -165,7 +167,8 @@ no-hex next = refl
 
 module _ (quote : ℕ) (back : List ℕ) where
   -- a letter, four digits, digits in braces
-  pub letter-back : (b : ℕ) (next : List ℕ) → pieceRule quote (escaped (byte "u")) ≡ false → pieceRule quote (escaped b) ≡ true → escape quote back (b ∷ next) ≡ found (escaped b) next
+  pub letter-back : (b : ℕ) (next : List ℕ) → pieceRule quote (escaped (byte "u")) ≡ false → pieceRule quote (escaped b) ≡ true
+      → escape quote back (b ∷ next) ≡ found (escaped b) next
   letter-back b next u e = escape-letter quote back b next (apart (λ c. pieceRule quote (escaped c)) b (byte "u") e u) ∙ judged-keeps quote back (escaped b) next e
 
   pub four-back : (digits next : List ℕ) → pieceRule quote (four digits) ≡ true → escape quote back (byte "u" ∷ (digits ++ next)) ≡ found (four digits) next
@@ -182,7 +185,8 @@ module _ (quote : ℕ) (back : List ℕ) where
       )
       (judged-keeps quote back (four digits) next e)
 
-  pub braces-back : (digits next : List ℕ) → pieceRule quote (braces digits) ≡ true → escape quote back (byte "u" ∷ byte "{" ∷ (digits ++ (byte "}" ∷ next))) ≡ found (braces digits) next
+  pub braces-back : (digits next : List ℕ) → pieceRule quote (braces digits) ≡ true
+      → escape quote back (byte "u" ∷ byte "{" ∷ (digits ++ (byte "}" ∷ next))) ≡ found (braces digits) next
   unfolding pieceRule
   braces-back digits next e =
       let h = both (leb 1 (length digits) && leb (length digits) 6) (spellsScalar digits) e in
@@ -191,7 +195,8 @@ module _ (quote : ℕ) (back : List ℕ) where
       let stop = no-hex next in
       rw (
         escape-braces quote back (digits ++ (byte "}" ∷ next)),
-        braced-closed quote back (digits ++ (byte "}" ∷ next)) next (omega (arith, leb-true (length digits) 6 (k .1), front-length isHex digits (byte "}" ∷ next) x stop)) (behind-of isHex digits (byte "}" ∷ next) x stop),
+        braced-closed quote back (digits ++ (byte "}" ∷ next)) next (omega (arith, leb-true (length digits) 6 (k .1), front-length isHex digits (byte "}" ∷ next) x stop))
+            (behind-of isHex digits (byte "}" ∷ next) x stop),
         front-of isHex digits (byte "}" ∷ next) x stop,
       )
       (judged-keeps quote back (braces digits) next e)
@@ -275,10 +280,12 @@ unfolding pieceOnto pieceRule insideOf elem
 turn-back room (direct b) next e = turn-itself room b next (inside-itself (byte "\"") b e)
 turn-back room (escaped b) next e = turn-escapes room (byte "\\") (b ∷ next) refl ∙ ap turnOf (letter-back (byte "\"") _ b next refl e)
 turn-back room (four digits) next e = turn-escapes room (byte "\\") (byte "u" ∷ (digits ++ next)) refl ∙ ap turnOf (four-back (byte "\"") _ digits next e)
-turn-back room (braces digits) next e = turn-escapes room (byte "\\") (byte "u" ∷ byte "{" ∷ (digits ++ (byte "}" ∷ next))) refl ∙ ap turnOf (braces-back (byte "\"") _ digits next e)
+turn-back room (braces digits) next e =
+    turn-escapes room (byte "\\") (byte "u" ∷ byte "{" ∷ (digits ++ (byte "}" ∷ next))) refl ∙ ap turnOf (braces-back (byte "\"") _ digits next e)
 
 -- spelt pieces and their closing quote are read back
-pub pieces-back : (ps : List Piece) (left : List ℕ) → all (pieceRule (byte "\"")) ps ≡ true → manyOf (λ p. 0) pieceTurn 0 (piecesOnto ps (byte "\"" ∷ left)) ≡ found ps left
+pub pieces-back : (ps : List Piece) (left : List ℕ) → all (pieceRule (byte "\"")) ps ≡ true
+    → manyOf (λ p. 0) pieceTurn 0 (piecesOnto ps (byte "\"" ∷ left)) ≡ found ps left
 unfolding piecesOnto insideOf
 pieces-back [] left e = run-over (λ p. 0) pieceTurn turn-shorter 0 _ left (turn-closes 0 (byte "\"") left refl)
 pieces-back (p ∷ ps) left e =
@@ -324,7 +331,8 @@ pub record Ticked (s : List ℕ) (ps : List Piece) (left : List ℕ) : Type 0 wh
 -- one piece did, and may stand before all that may stand behind it
 record Tick (s : List ℕ) (p : Piece) (left : List ℕ) : Type 0 where
   covers : s ≡ pieceOnto p left
-  rule : (ps : List Piece) → ((after : Bool) → (after ≡ true → startsIn (is (byte "`")) left ≡ false) → backtickRule after ps ≡ true) → (after : Bool) → backtickRule after (p ∷ ps) ≡ true
+  rule : (ps : List Piece) → ((after : Bool) → (after ≡ true → startsIn (is (byte "`")) left ≡ false) → backtickRule after ps ≡ true) → (after : Bool)
+      → backtickRule after (p ∷ ps) ≡ true
 
 ticked-end : (s left : List ℕ) → s ≡ byte "`" ∷ left → Ticked s [] left
 unfolding piecesOnto backtickRule startsIn
@@ -365,7 +373,8 @@ not-tick (four digits ∷ ps) left e = refl
 not-tick (braces digits ∷ ps) left e = refl
 
 -- spelt pieces and their closing backtick are read back
-pub ticks-back : (after : Bool) (ps : List Piece) (left : List ℕ) → backtickRule after ps ≡ true → manyOf (λ p. 0) backtickTurn 0 (piecesOnto ps (byte "`" ∷ left)) ≡ found ps left
+pub ticks-back : (after : Bool) (ps : List Piece) (left : List ℕ) → backtickRule after ps ≡ true
+    → manyOf (λ p. 0) backtickTurn 0 (piecesOnto ps (byte "`" ∷ left)) ≡ found ps left
 unfolding backtickRule piecesOnto pieceOnto
 ticks-back after [] left e = run-over (λ p. 0) backtickTurn tick-shorter 0 _ left (tick-closes 0 left)
 ticks-back after (direct b ∷ ps) left e =
@@ -400,19 +409,22 @@ only-direct (braces digits ∷ ps) e = true-false (sym e)
 module _ (quote : ℕ) where
   high-direct : quote < 0x80 → (b : ℕ) → leb 0x80 b ≡ true → pieceRule quote (direct b) ≡ true
   unfolding pieceRule isLineEnd
-  high-direct q b e = rw (apart (leb 0x80) b quote e (lt-leb 0x80 quote q), apart (leb 0x80) b (byte "\\") e refl, apart (leb 0x80) b 0x0A e refl, apart (leb 0x80) b 0x0D e refl)
+  high-direct q b e =
+      rw (apart (leb 0x80) b quote e (lt-leb 0x80 quote q), apart (leb 0x80) b (byte "\\") e refl, apart (leb 0x80) b 0x0A e refl, apart (leb 0x80) b 0x0D e refl)
 
   no-backslash : (b : ℕ) → pieceRule quote (direct b) ≡ true → not (eqb b (byte "\\")) ≡ true
   unfolding pieceRule
   no-backslash b e = split (eqb b quote) (λ f. true-false (sym e ∙ rw f)) (λ f. split (eqb b (byte "\\")) (λ g. true-false (sym e ∙ rw (f, g))) (λ g. rw g))
 
   -- its pieces keep the rule if the first one does
-  pub scalar-rule : quote < 0x80 → (b v : ℕ) (l left : List ℕ) → pieceRule quote (direct b) ≡ true → b ∷ l ≡ encode v ++ left → all (pieceRule quote) (map direct (encode v)) ≡ true
+  pub scalar-rule : quote < 0x80 → (b v : ℕ) (l left : List ℕ) → pieceRule quote (direct b) ≡ true → b ∷ l ≡ encode v ++ left
+      → all (pieceRule quote) (map direct (encode v)) ≡ true
   scalar-rule q b v l left r e =
       byFront (encode v) (λ f. rw f (all-nil _))
       (λ c w f. let g : b ∷ l ≡ c ∷ (w ++ left) = e ∙ ap (λ (x : List ℕ). x ++ left) f in
       let h : b ≡ c = cc in
-      rw f (all-cons _ (direct c) (map direct w) (rw h at r) (rw all-map (all-weaken (leb 0x80) (λ a. pieceRule quote (direct a)) (high-direct q) w (rw f at (encode-high v))))))
+      rw f (all-cons _ (direct c) (map direct w) (rw h at r)
+      (rw all-map (all-weaken (leb 0x80) (λ a. pieceRule quote (direct a)) (high-direct q) w (rw f at (encode-high v))))))
 
 scalar-some : {X : Type 0} (v : ℕ) → scalar [] ≡ found v [] → X
 unfolding scalar
@@ -436,7 +448,8 @@ spelt-directly quote b v ps r e =
     ∙ ap (map direct) e
 
 -- pieces that are one scalar value, the first one direct, are its direct spelling
-pub one-scalar : {X : Type 0} (quote b : ℕ) (ps : List Piece) → pieceRule quote (direct b) ≡ true → oneScalar (direct b ∷ ps) ≡ true → ((v : ℕ) → isScalar v ≡ true → direct b ∷ ps ≡ map direct (encode v) → X) → X
+pub one-scalar : {X : Type 0} (quote b : ℕ) (ps : List Piece) → pieceRule quote (direct b) ≡ true → oneScalar (direct b ∷ ps) ≡ true
+    → ((v : ℕ) → isScalar v ≡ true → direct b ∷ ps ≡ map direct (encode v) → X) → X
 unfolding oneScalar
 one-scalar {X} quote b ps r e so = go (scalar (piecesOnto (direct b ∷ ps) [])) refl
   where

@@ -9,12 +9,14 @@ use lib.Dec.{eqb}
 use borrow.Author.Tests.{eqb-true}
 use Rattle.paper.specs.Found.{Found, found, fault, andThen, pick}
 use Rattle.paper.specs.Bytes.{byte, bytes, isWhite, isBlank, isLineEnd, all, elem, startsIn, startsWith, front, behind, lengthIn, space, tab, lf, cr}
-use Rattle.paper.specs.Values.{is, isEnder, endsWord, listEnders, Leaf, leafOnto, leafRule, Value, leaf, emptyList, list, More, close, comma, valueOnto, moreOnto, spelling, valueRule, moreRule, valueInSlash, listDepth, moreDepth}
+use Rattle.paper.specs.Values.{is, isEnder, endsWord, listEnders, Leaf, leafOnto, leafRule, Value, leaf, emptyList, list, More, close, comma, valueOnto, moreOnto}
+use Rattle.paper.specs.Values.{spelling, valueRule, moreRule, valueInSlash, listDepth, moreDepth}
 use Rattle.paper.specs.ReadingValues.{valueOf, moreOf, itemAnd, leafOf, value, items, wholeValue}
 use Rattle.paper.specs.Canonical.{valueSense}
 use Rattle.paper.proofs.Tests.{split, true-false, apart, or-left, or-right}
 use Rattle.paper.proofs.Finds.{whole, past, tail-drop, tail-length, faults, Reads, reads-in, reads-map, reads-two, two-same}
-use Rattle.paper.proofs.Lists.{both, and, without, without-less, starts-weaken, starts-some, starts-off, starts-is, starts-not, front-of, behind-of, front-all, front-behind}
+use Rattle.paper.proofs.Lists.{both, and, without, without-less, starts-weaken, starts-some, starts-off, starts-is, starts-not, front-of, behind-of, front-all}
+use Rattle.paper.proofs.Lists.{front-behind}
 use Rattle.paper.proofs.WordKinds.{beginsNone, beginsNoLeaf}
 use Rattle.paper.proofs.Leaves.{leaf-append, ReadLeaf, Follows, leaf-reads, leaf-begins, leaf-back}
 
@@ -26,11 +28,19 @@ mutual
   pub value-append : (v : Value) (next : List ℕ) → valueOnto v next ≡ spelling v ++ next
   value-append (leaf v) next = leaf-append v next
   value-append emptyList next = refl
-  value-append (list v more) next = rw (more-append more next, value-append v (moreOnto more [] ++ next), value-append v (moreOnto more []), append-assoc (valueOnto v []) (moreOnto more []) next)
+  value-append (list v more) next =
+      rw (more-append more next, value-append v (moreOnto more [] ++ next), value-append v (moreOnto more []), append-assoc (valueOnto v []) (moreOnto more []) next)
 
   pub more-append : (more : More) (next : List ℕ) → moreOnto more next ≡ moreOnto more [] ++ next
   more-append close next = refl
-  more-append (comma white v more) next = rw (more-append more next, value-append v (moreOnto more [] ++ next), value-append v (moreOnto more []), append-assoc white (valueOnto v [] ++ moreOnto more []) next, append-assoc (valueOnto v []) (moreOnto more []) next)
+  more-append (comma white v more) next =
+      rw (
+        more-append more next,
+        value-append v (moreOnto more [] ++ next),
+        value-append v (moreOnto more []),
+        append-assoc white (valueOnto v [] ++ moreOnto more []) next,
+        append-assoc (valueOnto v []) (moreOnto more []) next,
+      )
 
 pub value-length : (v : Value) (next : List ℕ) → length (valueOnto v next) ≡ length (spelling v) + length next
 value-length v next = ap length (value-append v next) ∙ length-append (spelling v) next
@@ -75,7 +85,13 @@ no-closer also v next c r e = starts-not (without beginsNone) c (valueOnto v nex
 
 not-white : (b : ℕ) → without beginsNone b ≡ true → isWhite b ≡ false
 unfolding isWhite isBlank isLineEnd elem
-not-white b e = rw (apart (without beginsNone) b space e refl, apart (without beginsNone) b tab e refl, apart (without beginsNone) b lf e refl, apart (without beginsNone) b cr e refl)
+not-white b e =
+    rw (
+      apart (without beginsNone) b space e refl,
+      apart (without beginsNone) b tab e refl,
+      apart (without beginsNone) b lf e refl,
+      apart (without beginsNone) b cr e refl,
+    )
 
 -- white space before a value ends where the value begins
 module _ (also : List ℕ) (v : Value) (white next : List ℕ) (r : valueRule also v ≡ true) (a : all isWhite white ≡ true) where
@@ -149,7 +165,8 @@ empty-read : (lists : ℕ) (also left : List ℕ) → ReadValue (suc lists) also
 unfolding valueOnto valueRule listDepth
 empty-read lists also left = record { covers = refl; rule = refl; depth = omega arith; slash = λ z. true-false (sym z); shorter = omega arith }
 
-list-read : (lists : ℕ) (also l : List ℕ) (v : Value) (mid : List ℕ) (more : More) (left : List ℕ) → ReadValue lists listEnders l v mid → ReadMore lists mid more left → ReadValue (suc lists) also (byte "[" ∷ l) (list v more) left
+list-read : (lists : ℕ) (also l : List ℕ) (v : Value) (mid : List ℕ) (more : More) (left : List ℕ) → ReadValue lists listEnders l v mid → ReadMore lists mid more left
+    → ReadValue (suc lists) also (byte "[" ∷ l) (list v more) left
 unfolding valueOnto valueRule listDepth
 list-read lists also l v mid more left h k =
     record {
@@ -164,7 +181,8 @@ close-read : (lists : ℕ) (left : List ℕ) → ReadMore lists (byte "]" ∷ le
 unfolding moreOnto moreRule moreDepth
 close-read lists left = record { covers = refl; rule = refl; depth = omega arith; shorter = omega arith }
 
-comma-read : (lists : ℕ) (l : List ℕ) (v : Value) (mid : List ℕ) (more : More) (left : List ℕ) → ReadValue lists listEnders (behind isWhite l) v mid → ReadMore lists mid more left → ReadMore lists (byte "," ∷ l) (comma (front isWhite l) v more) left
+comma-read : (lists : ℕ) (l : List ℕ) (v : Value) (mid : List ℕ) (more : More) (left : List ℕ) → ReadValue lists listEnders (behind isWhite l) v mid
+    → ReadMore lists mid more left → ReadMore lists (byte "," ∷ l) (comma (front isWhite l) v more) left
 unfolding moreOnto moreRule moreDepth
 comma-read lists l v mid more left h k =
     record {
@@ -174,9 +192,13 @@ comma-read lists l v mid more left h k =
       shorter = omega (arith, h .shorter, k .shorter, tail-length (tail-drop (lengthIn isWhite l) l));
     }
 
-module _ (fuel : ℕ) (ones : (lists : ℕ) (s : List ℕ) → Reads s (ReadValue lists listEnders s) (value fuel lists listEnders s)) (mores : (lists : ℕ) (s : List ℕ) → Reads s (ReadMore lists s) (items fuel lists s)) where
-  item-reads : {A : Type 0} (lists : ℕ) (make : Value → More → A) (s : List ℕ) (Q : A → List ℕ → Type 0) → ((v : Value) (mid : List ℕ) (more : More) (left : List ℕ) → ReadValue lists listEnders s v mid → ReadMore lists mid more left → Q (make v more) left) → Reads s Q (itemThen fuel lists make s)
-  item-reads lists make s Q so = reads-two s (ReadValue lists listEnders s) (ReadMore lists) Q make (value fuel lists listEnders s) (items fuel lists) (ones lists s) (mores lists) so
+module _ (fuel : ℕ) (ones : (lists : ℕ) (s : List ℕ) → Reads s (ReadValue lists listEnders s) (value fuel lists listEnders s))
+    (mores : (lists : ℕ) (s : List ℕ) → Reads s (ReadMore lists s) (items fuel lists s)) where
+  item-reads : {A : Type 0} (lists : ℕ) (make : Value → More → A) (s : List ℕ) (Q : A → List ℕ → Type 0)
+      → ((v : Value) (mid : List ℕ) (more : More) (left : List ℕ) → ReadValue lists listEnders s v mid → ReadMore lists mid more left → Q (make v more) left)
+      → Reads s Q (itemThen fuel lists make s)
+  item-reads lists make s Q so =
+      reads-two s (ReadValue lists listEnders s) (ReadMore lists) Q make (value fuel lists listEnders s) (items fuel lists) (ones lists s) (mores lists) so
 
   bracket-reads : (lists : ℕ) (also l : List ℕ) → Reads (byte "[" ∷ l) (ReadValue lists also (byte "[" ∷ l)) (value (suc fuel) lists also (byte "[" ∷ l))
   bracket-reads zero also l = rw (value-deep fuel also l, Reads) (faults 10 (omega arith) whole)
@@ -191,7 +213,8 @@ module _ (fuel : ℕ) (ones : (lists : ℕ) (s : List ℕ) → Reads s (ReadValu
       (λ e. rw (eqb-true b (byte "]") e, items-close fuel lists l, Reads) (past whole, close-read lists l))
       (λ e. split (eqb b (byte ","))
       (λ f. rw (eqb-true b (byte ",") f, items-comma fuel lists l)
-      (reads-in (past (tail-drop (lengthIn isWhite l) l)) _ (itemThen fuel lists (comma (front isWhite l)) (behind isWhite l)) (item-reads lists (comma (front isWhite l)) (behind isWhite l) _ (comma-read lists l))))
+      (reads-in (past (tail-drop (lengthIn isWhite l) l)) _ (itemThen fuel lists (comma (front isWhite l)) (behind isWhite l))
+      (item-reads lists (comma (front isWhite l)) (behind isWhite l) _ (comma-read lists l))))
       (λ f. rw (items-other fuel lists l b e f, Reads) (faults 6 (omega arith) whole)))
 
 mutual
@@ -211,9 +234,12 @@ mutual
 
 -- ---- fuel above the length does not matter
 
-module _ (f g : ℕ) (ones : (lists : ℕ) (s : List ℕ) → length s < f → length s < g → value f lists listEnders s ≡ value g lists listEnders s) (mores : (lists : ℕ) (s : List ℕ) → length s < f → length s < g → items f lists s ≡ items g lists s) where
+module _ (f g : ℕ) (ones : (lists : ℕ) (s : List ℕ) → length s < f → length s < g → value f lists listEnders s ≡ value g lists listEnders s)
+    (mores : (lists : ℕ) (s : List ℕ) → length s < f → length s < g → items f lists s ≡ items g lists s) where
   item-fuel : {A : Type 0} (lists : ℕ) (make : Value → More → A) (s : List ℕ) → length s < f → length s < g → itemThen f lists make s ≡ itemThen g lists make s
-  item-fuel lists make s h k = two-same s (ReadValue lists listEnders s) make _ _ (items f lists) (items g lists) (ones lists s h k) (value-reads g lists listEnders s) (λ v left r. mores lists left (omega (arith, r .shorter)) (omega (arith, r .shorter)))
+  item-fuel lists make s h k =
+      two-same s (ReadValue lists listEnders s) make _ _ (items f lists) (items g lists) (ones lists s h k) (value-reads g lists listEnders s)
+      (λ v left r. mores lists left (omega (arith, r .shorter)) (omega (arith, r .shorter)))
 
   bracket-fuel : (lists : ℕ) (also l : List ℕ) → length l < f → length l < g → value (suc f) lists also (byte "[" ∷ l) ≡ value (suc g) lists also (byte "[" ∷ l)
   bracket-fuel zero also l h k = value-deep f also l ∙ sym (value-deep g also l)
@@ -228,7 +254,8 @@ module _ (f g : ℕ) (ones : (lists : ℕ) (s : List ℕ) → length s < f → l
       split (eqb b (byte "]"))
       (λ e. rw (eqb-true b (byte "]") e) (items-close f lists l ∙ sym (items-close g lists l)))
       (λ e. split (eqb b (byte ","))
-      (λ c. rw (eqb-true b (byte ",") c) (items-comma f lists l ∙ item-fuel lists (comma (front isWhite l)) (behind isWhite l) (omega arith) (omega arith) ∙ sym (items-comma g lists l)))
+      (λ c. rw (eqb-true b (byte ",") c) (items-comma f lists l ∙ item-fuel lists (comma (front isWhite l)) (behind isWhite l) (omega arith) (omega arith) ∙ sym
+      (items-comma g lists l)))
       (λ c. items-other f lists l b e c ∙ sym (items-other g lists l b e c)))
 
 mutual
@@ -247,13 +274,15 @@ mutual
   items-fuel zero g lists s h k = absurd (omega arith)
   items-fuel (suc f) zero lists s h k = absurd (omega arith)
   items-fuel (suc f) (suc g) lists [] h k = refl
-  items-fuel (suc f) (suc g) lists (b ∷ l) h k = behind-fuel f g (λ m l a c. value-fuel f g m listEnders l a c) (λ m l a c. items-fuel f g m l a c) lists b l (omega arith) (omega arith)
+  items-fuel (suc f) (suc g) lists (b ∷ l) h k =
+      behind-fuel f g (λ m l a c. value-fuel f g m listEnders l a c) (λ m l a c. items-fuel f g m l a c) lists b l (omega arith) (omega arith)
 
 -- ---- the steps without fuel
 
 item-free : {A : Type 0} (fuel lists : ℕ) (make : Value → More → A) (s : List ℕ) → length s < fuel → itemThen fuel lists make s ≡ itemAnd lists make s
 item-free fuel lists make s h =
-    two-same s (ReadValue lists listEnders s) make _ _ (items fuel lists) (moreOf lists) (value-fuel fuel (suc (length s)) lists listEnders s h (omega arith)) (value-reads (suc (length s)) lists listEnders s)
+    two-same s (ReadValue lists listEnders s) make _ _ (items fuel lists) (moreOf lists) (value-fuel fuel (suc (length s)) lists listEnders s h (omega arith))
+    (value-reads (suc (length s)) lists listEnders s)
     (λ v left r. items-fuel fuel (suc (length left)) lists left (omega (arith, r .shorter)) (omega arith))
 
 -- too many lists in one another
@@ -281,7 +310,10 @@ module _ (lists : ℕ) where
   more-of-close l = items-close (suc (length l)) lists l
 
   pub more-of-comma : (l : List ℕ) → moreOf lists (byte "," ∷ l) ≡ itemAnd lists (comma (front isWhite l)) (behind isWhite l)
-  more-of-comma l = let n = tail-length (tail-drop (lengthIn isWhite l) l) in items-comma (suc (length l)) lists l ∙ item-free (suc (length l)) lists (comma (front isWhite l)) (behind isWhite l) (omega arith)
+  more-of-comma l =
+      let n =
+      tail-length (tail-drop (lengthIn isWhite l) l) in items-comma (suc (length l)) lists l
+      ∙ item-free (suc (length l)) lists (comma (front isWhite l)) (behind isWhite l) (omega arith)
 
   pub more-of-other : (b : ℕ) (l : List ℕ) → eqb b (byte "]") ≡ false → eqb b (byte ",") ≡ false → moreOf lists (b ∷ l) ≡ fault 6 (b ∷ l)
   more-of-other b l e f = items-other (suc (length l)) lists l b e f
@@ -323,7 +355,8 @@ follows-more inSlash (comma white v more) next = follows-ender listEnders inSlas
 mutual
   unfolding valueOnto valueRule listDepth
 
-  pub value-back : (v : Value) (lists : ℕ) (also next : List ℕ) → valueRule also v ≡ true → listDepth v ≤ lists → Follows also (valueInSlash v) next → valueOf lists also (valueOnto v next) ≡ found v next
+  pub value-back : (v : Value) (lists : ℕ) (also next : List ℕ) → valueRule also v ≡ true → listDepth v ≤ lists → Follows also (valueInSlash v) next
+      → valueOf lists also (valueOnto v next) ≡ found v next
   value-back (leaf v) lists also next r d f = value-of-leaf lists also (leafOnto v next) (no-list also v next r) ∙ rw (leaf-back also v next r f)
   value-back emptyList zero also next r d f = absurd (omega arith)
   value-back emptyList (suc lists) also next r d f = value-of-empty lists also next
@@ -331,7 +364,10 @@ mutual
   value-back (list v more) (suc lists) also next r d f =
       let h = both (valueRule listEnders v) (moreRule more) r in
       value-of-list lists also _ (no-close v (moreOnto more next) (h .0))
-      ∙ rw (value-back v lists listEnders (moreOnto more next) (h .0) (omega arith) (follows-more (valueInSlash v) more next), more-back more lists next (h .1) (omega arith))
+      ∙ rw (
+        value-back v lists listEnders (moreOnto more next) (h .0) (omega arith) (follows-more (valueInSlash v) more next),
+        more-back more lists next (h .1) (omega arith),
+      )
 
   pub more-back : (more : More) (lists : ℕ) (next : List ℕ) → moreRule more ≡ true → moreDepth more ≤ lists → moreOf lists (moreOnto more next) ≡ found more next
   more-back close lists next r d = more-of-close lists next
@@ -347,10 +383,13 @@ mutual
       )
 
 -- with any fuel above the length
-pub value-complete : (fuel lists : ℕ) (also : List ℕ) (v : Value) (next : List ℕ) → valueRule also v ≡ true → listDepth v ≤ lists → Follows also (valueInSlash v) next → length (valueOnto v next) < fuel → value fuel lists also (valueOnto v next) ≡ found v next
-value-complete fuel lists also v next r d f h = value-fuel fuel (suc (length (valueOnto v next))) lists also (valueOnto v next) h (omega arith) ∙ value-back v lists also next r d f
+pub value-complete : (fuel lists : ℕ) (also : List ℕ) (v : Value) (next : List ℕ) → valueRule also v ≡ true → listDepth v ≤ lists → Follows also (valueInSlash v) next
+    → length (valueOnto v next) < fuel → value fuel lists also (valueOnto v next) ≡ found v next
+value-complete fuel lists also v next r d f h =
+    value-fuel fuel (suc (length (valueOnto v next))) lists also (valueOnto v next) h (omega arith) ∙ value-back v lists also next r d f
 
-pub whole-complete : (lists : ℕ) (v : Value) (next : List ℕ) → valueRule [] v ≡ true → listDepth v ≤ lists → Follows [] (valueInSlash v) next → wholeValue lists (valueOnto v next) ≡ found v next
+pub whole-complete : (lists : ℕ) (v : Value) (next : List ℕ) → valueRule [] v ≡ true → listDepth v ≤ lists → Follows [] (valueInSlash v) next
+    → wholeValue lists (valueOnto v next) ≡ found v next
 whole-complete lists v next r d f = whole-found lists (valueOnto v next) v next (value-back v lists [] next r d f)
 
 -- ---- a spelling is that of one value

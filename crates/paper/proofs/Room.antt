@@ -18,7 +18,9 @@ use Rattle.paper.specs.Grammar.{inMode}
 use Rattle.paper.specs.Limits.{sheetLimit, conceptLimit}
 use Rattle.paper.specs.Entries.{itemEntries, traitSize, bodySize}
 use Rattle.paper.specs.ReadingValues.{wholeValue}
-use Rattle.paper.specs.Reading.{Bounds, bounds, blankLines, isBlankLine, isTab, tabsOnly, lineRest, name, due, makes, textOf, annotation, annotationTurn, annotations, enters, trait, traitDue, traitTurn, Opened, opened, admitted, head, opening, contentOf, roomIn, insideBy, annotatedBy, pieceBy, isClosing, concept, childrenOf, body, conceptOf, sheetTree, sheetOf}
+use Rattle.paper.specs.Reading.{Bounds, bounds, blankLines, isBlankLine, isTab, tabsOnly, lineRest, name, due, makes, textOf, annotation, annotationTurn}
+use Rattle.paper.specs.Reading.{annotations, enters, trait, traitDue, traitTurn, Opened, opened, admitted, head, opening, contentOf, roomIn, insideBy, annotatedBy}
+use Rattle.paper.specs.Reading.{pieceBy, isClosing, concept, childrenOf, body, conceptOf, sheetTree, sheetOf}
 use Rattle.paper.proofs.Tests.{split}
 
 -- a reading that is out of room

@@ -9,7 +9,8 @@ use lib.ListN.{length, drop, length-append}
 use lib.Dec.{leb}
 use borrow.Author.Tests.{leb-true, le-leb, lt-leb, ne-eqb}
 use Rattle.paper.specs.Found.{Found, found, fault, andThen}
-use Rattle.paper.specs.Bytes.{Row, one, two, three, four, none, rowOf, follower, scalar, mayStand, scalars, sheetBytes, isScalar, encode, all, encodeAll, startsWith, byteOrderMark}
+use Rattle.paper.specs.Bytes.{Row, one, two, three, four, none, rowOf, follower, scalar, mayStand, scalars, sheetBytes, isScalar, encode, all, encodeAll}
+use Rattle.paper.specs.Bytes.{startsWith, byteOrderMark}
 use Rattle.paper.proofs.Tests.{split, true-false, upTo, inside, below, above, byRange}
 use Rattle.paper.proofs.Lists.{all-head}
 use Rattle.paper.proofs.Finds.{Finds, finds-then}
@@ -55,7 +56,15 @@ module _ (b : ℕ) where
 
   pub row-ee : 0xEE ≤ b → b ≤ 0xEF → rowOf b ≡ three 0x80 0xBF
   unfolding rowOf
-  row-ee l h = rw (lt-leb b 0x7F (omega arith), above 0xC2 0xDF b (omega arith), ne-eqb b 0xE0 (omega arith), above 0xE1 0xEC b (omega arith), ne-eqb b 0xED (omega arith), inside 0xEE 0xEF b l h)
+  row-ee l h =
+      rw (
+        lt-leb b 0x7F (omega arith),
+        above 0xC2 0xDF b (omega arith),
+        ne-eqb b 0xE0 (omega arith),
+        above 0xE1 0xEC b (omega arith),
+        ne-eqb b 0xED (omega arith),
+        inside 0xEE 0xEF b l h,
+      )
 
   pub row-f0 : b ≡ 0xF0 → rowOf b ≡ four 0x90 0xBF
   unfolding rowOf
@@ -63,7 +72,17 @@ module _ (b : ℕ) where
 
   pub row-f1 : 0xF1 ≤ b → b ≤ 0xF3 → rowOf b ≡ four 0x80 0xBF
   unfolding rowOf
-  row-f1 l h = rw (lt-leb b 0x7F (omega arith), above 0xC2 0xDF b (omega arith), ne-eqb b 0xE0 (omega arith), above 0xE1 0xEC b (omega arith), ne-eqb b 0xED (omega arith), above 0xEE 0xEF b (omega arith), ne-eqb b 0xF0 (omega arith), inside 0xF1 0xF3 b l h)
+  row-f1 l h =
+      rw (
+        lt-leb b 0x7F (omega arith),
+        above 0xC2 0xDF b (omega arith),
+        ne-eqb b 0xE0 (omega arith),
+        above 0xE1 0xEC b (omega arith),
+        ne-eqb b 0xED (omega arith),
+        above 0xEE 0xEF b (omega arith),
+        ne-eqb b 0xF0 (omega arith),
+        inside 0xF1 0xF3 b l h,
+      )
 
   pub row-f4 : b ≡ 0xF4 → rowOf b ≡ four 0x80 0x8F
   unfolding rowOf
@@ -71,11 +90,33 @@ module _ (b : ℕ) where
 
   pub row-under : 0x80 ≤ b → b < 0xC2 → rowOf b ≡ none
   unfolding rowOf
-  row-under l h = rw (lt-leb b 0x7F (omega arith), below 0xC2 0xDF b (omega arith), ne-eqb b 0xE0 (omega arith), below 0xE1 0xEC b (omega arith), ne-eqb b 0xED (omega arith), below 0xEE 0xEF b (omega arith), ne-eqb b 0xF0 (omega arith), below 0xF1 0xF3 b (omega arith), ne-eqb b 0xF4 (omega arith))
+  row-under l h =
+      rw (
+        lt-leb b 0x7F (omega arith),
+        below 0xC2 0xDF b (omega arith),
+        ne-eqb b 0xE0 (omega arith),
+        below 0xE1 0xEC b (omega arith),
+        ne-eqb b 0xED (omega arith),
+        below 0xEE 0xEF b (omega arith),
+        ne-eqb b 0xF0 (omega arith),
+        below 0xF1 0xF3 b (omega arith),
+        ne-eqb b 0xF4 (omega arith),
+      )
 
   pub row-past : 0xF4 < b → rowOf b ≡ none
   unfolding rowOf
-  row-past h = rw (lt-leb b 0x7F (omega arith), above 0xC2 0xDF b (omega arith), ne-eqb b 0xE0 (omega arith), above 0xE1 0xEC b (omega arith), ne-eqb b 0xED (omega arith), above 0xEE 0xEF b (omega arith), ne-eqb b 0xF0 (omega arith), above 0xF1 0xF3 b (omega arith), ne-eqb b 0xF4 (omega arith))
+  row-past h =
+      rw (
+        lt-leb b 0x7F (omega arith),
+        above 0xC2 0xDF b (omega arith),
+        ne-eqb b 0xE0 (omega arith),
+        above 0xE1 0xEC b (omega arith),
+        ne-eqb b 0xED (omega arith),
+        above 0xEE 0xEF b (omega arith),
+        ne-eqb b 0xF0 (omega arith),
+        above 0xF1 0xF3 b (omega arith),
+        ne-eqb b 0xF4 (omega arith),
+      )
 
 -- what a row says of three bytes: the first one, the range of the second one, and that they spell scalar values which fewer bytes do not
 pub record Three (b low high : ℕ) : Type 0 where
@@ -154,11 +195,15 @@ module _ (b : ℕ) (l : List ℕ) where
   unfolding scalar
   scalar-two e = rw (e, scalar)
 
-  pub scalar-three : (low high : ℕ) → rowOf b ≡ three low high → scalar (b ∷ l) ≡ andThen (follower low high l) (λ c r. andThen (follower 0x80 0xBF r) (λ d q. found (((b - 0xE0) * 64 + c) * 64 + d) q))
+  pub scalar-three : (low high : ℕ) → rowOf b ≡ three low high
+      → scalar (b ∷ l) ≡ andThen (follower low high l) (λ c r. andThen (follower 0x80 0xBF r) (λ d q. found (((b - 0xE0) * 64 + c) * 64 + d) q))
   unfolding scalar
   scalar-three low high e = rw (e, scalar)
 
-  pub scalar-four : (low high : ℕ) → rowOf b ≡ four low high → scalar (b ∷ l) ≡ andThen (follower low high l) (λ c r. andThen (follower 0x80 0xBF r) (λ d q. andThen (follower 0x80 0xBF q) (λ e p. found ((((b - 0xF0) * 64 + c) * 64 + d) * 64 + e) p)))
+  pub scalar-four : (low high : ℕ) → rowOf b ≡ four low high
+      → scalar (b ∷ l)
+      ≡ andThen (follower low high l) (λ c r. andThen (follower 0x80 0xBF r)
+      (λ d q. andThen (follower 0x80 0xBF q) (λ e p. found ((((b - 0xF0) * 64 + c) * 64 + d) * 64 + e) p)))
   unfolding scalar
   scalar-four low high e = rw (e, scalar)
 
@@ -205,23 +250,43 @@ spelt-two b c left l h k =
       whole = rw (encode-two ((b - 0xC0) * 64 + c) (omega arith) (omega arith), high-bits (b - 0xC0) c k, low-bits (b - 0xC0) c k, q);
     }
 
-spelt-three : (b low high c d : ℕ) (left : List ℕ) → Three b low high → low ≤ 0x80 + c → 0x80 + c ≤ high → d ≤ 63 → Spelt (b ∷ (0x80 + c) ∷ (0x80 + d) ∷ left) (((b - 0xE0) * 64 + c) * 64 + d) left
+spelt-three : (b low high c d : ℕ) (left : List ℕ) → Three b low high → low ≤ 0x80 + c → 0x80 + c ≤ high → d ≤ 63
+    → Spelt (b ∷ (0x80 + c) ∷ (0x80 + d) ∷ left) (((b - 0xE0) * 64 + c) * 64 + d) left
 spelt-three b low high c d left row f t k =
     let q : 0xE0 + (b - 0xE0) ≡ b = omega arith in
     let x = (b - 0xE0) * 64 + c in
     record {
       right = row .spells c d f t k;
-      whole = rw (encode-three (x * 64 + d) (row .enough c d f) (omega arith), high-bits x d k, low-bits x d k, high-bits (b - 0xE0) c (omega arith), low-bits (b - 0xE0) c (omega arith), q);
+      whole =
+          rw (
+            encode-three (x * 64 + d) (row .enough c d f) (omega arith),
+            high-bits x d k,
+            low-bits x d k,
+            high-bits (b - 0xE0) c (omega arith),
+            low-bits (b - 0xE0) c (omega arith),
+            q,
+          );
     }
 
-spelt-four : (b low high c d e : ℕ) (left : List ℕ) → Four b low high → low ≤ 0x80 + c → 0x80 + c ≤ high → d ≤ 63 → e ≤ 63 → Spelt (b ∷ (0x80 + c) ∷ (0x80 + d) ∷ (0x80 + e) ∷ left) ((((b - 0xF0) * 64 + c) * 64 + d) * 64 + e) left
+spelt-four : (b low high c d e : ℕ) (left : List ℕ) → Four b low high → low ≤ 0x80 + c → 0x80 + c ≤ high → d ≤ 63 → e ≤ 63
+    → Spelt (b ∷ (0x80 + c) ∷ (0x80 + d) ∷ (0x80 + e) ∷ left) ((((b - 0xF0) * 64 + c) * 64 + d) * 64 + e) left
 spelt-four b low high c d e left row f t k m =
     let q : 0xF0 + (b - 0xF0) ≡ b = omega arith in
     let x = (b - 0xF0) * 64 + c in
     let y = x * 64 + d in
     record {
       right = scalar-high (y * 64 + e) (omega (arith, row .enough c d e f)) (row .spells c d e t k m);
-      whole = rw (encode-four (y * 64 + e) (row .enough c d e f), high-bits y e m, low-bits y e m, high-bits x d k, low-bits x d k, high-bits (b - 0xF0) c (omega arith), low-bits (b - 0xF0) c (omega arith), q);
+      whole =
+          rw (
+            encode-four (y * 64 + e) (row .enough c d e f),
+            high-bits y e m,
+            low-bits y e m,
+            high-bits x d k,
+            low-bits x d k,
+            high-bits (b - 0xF0) c (omega arith),
+            low-bits (b - 0xF0) c (omega arith),
+            q,
+          );
     }
 
 module _ (b : ℕ) (l : List ℕ) where
@@ -261,17 +326,35 @@ module _ (v : ℕ) (r : List ℕ) where
 
   two-back : 0x80 ≤ v → v ≤ 0x7FF → scalar (encode v ++ r) ≡ found v r
   two-back l h =
-      rw (encode-two v l h, scalar-two (0xC0 + v / 64) ((0x80 + v % 64) ∷ r) (row-two (0xC0 + v / 64) (omega arith) (omega arith)), follower-in 0x80 0xBF (0x80 + v % 64) r (omega arith) (omega arith))
+      rw (
+        encode-two v l h,
+        scalar-two (0xC0 + v / 64) ((0x80 + v % 64) ∷ r) (row-two (0xC0 + v / 64) (omega arith) (omega arith)),
+        follower-in 0x80 0xBF (0x80 + v % 64) r (omega arith) (omega arith),
+      )
       (ap (λ (k : ℕ). found k r) (omega arith))
 
-  three-back : (low high : ℕ) → rowOf (0xE0 + v / 64 / 64) ≡ three low high → 0x800 ≤ v → v ≤ 0xFFFF → low ≤ 0x80 + v / 64 % 64 → 0x80 + v / 64 % 64 ≤ high → scalar (encode v ++ r) ≡ found v r
+  three-back : (low high : ℕ) → rowOf (0xE0 + v / 64 / 64) ≡ three low high → 0x800 ≤ v → v ≤ 0xFFFF → low ≤ 0x80 + v / 64 % 64 → 0x80 + v / 64 % 64 ≤ high
+      → scalar (encode v ++ r) ≡ found v r
   three-back low high e l h f t =
-      rw (encode-three v l h, scalar-three (0xE0 + v / 64 / 64) ((0x80 + v / 64 % 64) ∷ (0x80 + v % 64) ∷ r) low high e, follower-in low high (0x80 + v / 64 % 64) ((0x80 + v % 64) ∷ r) f t, follower-in 0x80 0xBF (0x80 + v % 64) r (omega arith) (omega arith))
+      rw (
+        encode-three v l h,
+        scalar-three (0xE0 + v / 64 / 64) ((0x80 + v / 64 % 64) ∷ (0x80 + v % 64) ∷ r) low high e,
+        follower-in low high (0x80 + v / 64 % 64) ((0x80 + v % 64) ∷ r) f t,
+        follower-in 0x80 0xBF (0x80 + v % 64) r (omega arith) (omega arith),
+      )
       (ap (λ (k : ℕ). found k r) (omega arith))
 
-  four-back : (low high : ℕ) → rowOf (0xF0 + v / 64 / 64 / 64) ≡ four low high → 0x10000 ≤ v → low ≤ 0x80 + v / 64 / 64 % 64 → 0x80 + v / 64 / 64 % 64 ≤ high → scalar (encode v ++ r) ≡ found v r
+  four-back : (low high : ℕ) → rowOf (0xF0 + v / 64 / 64 / 64) ≡ four low high → 0x10000 ≤ v → low ≤ 0x80 + v / 64 / 64 % 64 → 0x80 + v / 64 / 64 % 64 ≤ high
+      → scalar (encode v ++ r) ≡ found v r
   four-back low high e l f t =
-      rw (encode-four v l, scalar-four (0xF0 + v / 64 / 64 / 64) ((0x80 + v / 64 / 64 % 64) ∷ (0x80 + v / 64 % 64) ∷ (0x80 + v % 64) ∷ r) low high e, follower-in low high (0x80 + v / 64 / 64 % 64) ((0x80 + v / 64 % 64) ∷ (0x80 + v % 64) ∷ r) f t, follower-in 0x80 0xBF (0x80 + v / 64 % 64) ((0x80 + v % 64) ∷ r) (omega arith) (omega arith), follower-in 0x80 0xBF (0x80 + v % 64) r (omega arith) (omega arith))
+      rw (
+        encode-four v l,
+        scalar-four (0xF0 + v / 64 / 64 / 64) ((0x80 + v / 64 / 64 % 64) ∷ (0x80 + v / 64 % 64) ∷ (0x80 + v % 64) ∷ r) low high e,
+        follower-in low high (0x80 + v / 64 / 64 % 64) ((0x80 + v / 64 % 64) ∷ (0x80 + v % 64) ∷ r) f t,
+        follower-in 0x80 0xBF (0x80 + v / 64 % 64)
+            ((0x80 + v % 64) ∷ r) (omega arith) (omega arith),
+        follower-in 0x80 0xBF (0x80 + v % 64) r (omega arith) (omega arith),
+      )
       (ap (λ (k : ℕ). found k r) (omega arith))
 
   -- the values below the surrogates, and those above, row by row
@@ -364,7 +447,8 @@ scalars-fuel (suc f) (suc g) (b ∷ l) h k =
     (λ v r e m. scalars-stop f b l v r e m ∙ sym (scalars-stop g b l v r e m))
     (λ v r e m.
     let less = scalar-shorter (b ∷ l) v r e in
-    scalars-on f b l v r e m ∙ ap (λ (x : Found (List ℕ)). andThen x (λ vs q. found (v ∷ vs) q)) (scalars-fuel f g r (omega arith) (omega arith)) ∙ sym (scalars-on g b l v r e m))
+    scalars-on f b l v r e m ∙ ap (λ (x : Found (List ℕ)). andThen x (λ vs q. found (v ∷ vs) q)) (scalars-fuel f g r (omega arith) (omega arith))
+    ∙ sym (scalars-on g b l v r e m))
 
 -- ---- what a checked list is made of
 

@@ -49,7 +49,8 @@ sheet-reads m by deeper room s =
     (λ tabs mark u l. reads-on s (λ a left. ReadAnnotated m by deeper room first a left) _ _ (annotatedOf m by deeper room first)
     (reads-in t _ (annotatedOf m by deeper room first) (annotated-reads m by deeper room first))
     (λ a left u k. reads-on s (λ bs end. ReadBlanks left bs end) _ _ (blankLines left) (reads-in u _ (blankLines left) (blanks-reads left))
-    (λ after rest u q. reads-on s (λ last end. (end ≡ []) × (rest ≡ last ++ []) × (all isBlank last ≡ true)) _ _ (lastBlanks (front isBlank rest) (behind isBlank rest)) (reads-in u _ (lastBlanks (front isBlank rest) (behind isBlank rest)) (last-reads rest))
+    (λ after rest u q. reads-on s (λ last end. (end ≡ []) × (rest ≡ last ++ []) × (all isBlank last ≡ true)) _ _ (lastBlanks (front isBlank rest) (behind isBlank rest))
+    (reads-in u _ (lastBlanks (front isBlank rest) (behind isBlank rest)) (last-reads rest))
     (λ last end u e. (
       u,
       record {
@@ -66,7 +67,8 @@ sheet-reads m by deeper room s =
     ))))))
 
 -- behind the root stands the end of its line
-ends-root : (after : List Blank) (last : List ℕ) → all blankRule after ≡ true → all isBlank last ≡ true → atLineEnd (behind isBlank (blanksOnto after (last ++ []))) ≡ true
+ends-root : (after : List Blank) (last : List ℕ) → all blankRule after ≡ true → all isBlank last ≡ true
+    → atLineEnd (behind isBlank (blanksOnto after (last ++ []))) ≡ true
 unfolding blanksOnto atLineEnd startsIn
 ends-root [] last r e = ap atLineEnd (behind-of isBlank last [] e refl)
 ends-root (b ∷ after) last r e = blank-ends b (blanksOnto after (last ++ [])) (all-head blankRule b after r .0)

@@ -7,7 +7,9 @@ use lib.ListN.{length, replicate, length-append}
 use Rattle.paper.specs.Values.{Value, leaf, emptyList, list, More, close, comma}
 use Rattle.paper.specs.Tree.{Trait, Annotation, Concept, selfClosed, children, content, Body, done, blankLine, element, Sheet}
 use Rattle.paper.specs.Grammar.{blankOnto, blanksOnto, annotationOnto, annotationsOnto, traitOnto, linesOnto}
-use Rattle.paper.specs.Entries.{Entry, allCells, valueWidth, itemSize, moreSize, itemEntries, moreEntries, traitSize, traitsSize, traitValue, traitEntries, annotationEntries, unnamed, conceptSize, bodySize, conceptWidth, conceptEntry, markerName, bodyStart, insideEntries, bodyEntries, noParent, rootStart, sheetSize, entries, entryCells, filled}
+use Rattle.paper.specs.Entries.{Entry, allCells, valueWidth, itemSize, moreSize, itemEntries, moreEntries, traitSize, traitsSize, traitValue, traitEntries}
+use Rattle.paper.specs.Entries.{annotationEntries, unnamed, conceptSize, bodySize, conceptWidth, conceptEntry, markerName, bodyStart, insideEntries, bodyEntries}
+use Rattle.paper.specs.Entries.{noParent, rootStart, sheetSize, entries, entryCells, filled}
 
 -- ---- as many entries as the size says
 
@@ -18,18 +20,35 @@ mutual
   item-size (leaf v) parent next at = refl
   item-size emptyList parent next at = refl
   item-size (list v more) parent next at =
-      omega (arith, length-append (itemEntries next (next + 1) (at + 1) v) (moreEntries parent (next + 1 + itemSize v) (at + 1 + valueWidth v) more), item-size v next (next + 1) (at + 1), more-size more parent (next + 1 + itemSize v) (at + 1 + valueWidth v))
+      omega (
+        arith,
+        length-append (itemEntries next (next + 1) (at + 1) v) (moreEntries parent (next + 1 + itemSize v) (at + 1 + valueWidth v) more),
+        item-size v next (next + 1) (at + 1),
+        more-size more parent (next + 1 + itemSize v) (at + 1 + valueWidth v),
+      )
 
   more-size : (more : More) (parent next at : ℕ) → length (moreEntries parent next at more) ≡ moreSize more
   more-size close parent next at = refl
   more-size (comma white v more) parent next at =
-      omega (arith, length-append (itemEntries next (next + 1) (at + 1 + length white) v) (moreEntries parent (next + 1 + itemSize v) (at + 1 + length white + valueWidth v) more), item-size v next (next + 1) (at + 1 + length white), more-size more parent (next + 1 + itemSize v) (at + 1 + length white + valueWidth v))
+      omega (
+        arith,
+        length-append (itemEntries next (next + 1) (at + 1 + length white) v)
+            (moreEntries parent (next + 1 + itemSize v) (at + 1 + length white + valueWidth v) more),
+        item-size v next (next + 1)
+            (at + 1 + length white),
+        more-size more parent (next + 1 + itemSize v) (at + 1 + length white + valueWidth v),
+      )
 
 pub traits-size : (ts : List Trait) (parent next at : ℕ) → length (traitEntries parent next at ts) ≡ traitsSize ts
 unfolding traitEntries traitsSize
 traits-size [] parent next at = refl
 traits-size (t ∷ ts) parent next at =
-    omega (arith, length-append (itemEntries next (next + 1) (traitValue at t) (t .value)) (traitEntries parent (next + traitSize t) (at + length (traitOnto t [])) ts), item-size (t .value) next (next + 1) (traitValue at t), traits-size ts parent (next + traitSize t) (at + length (traitOnto t [])))
+    omega (
+      arith,
+      length-append (itemEntries next (next + 1) (traitValue at t) (t .value)) (traitEntries parent (next + traitSize t) (at + length (traitOnto t [])) ts),
+      item-size (t .value) next (next + 1) (traitValue at t),
+      traits-size ts parent (next + traitSize t) (at + length (traitOnto t [])),
+    )
 
 pub notes-size : (notes : List Annotation) (parent at : ℕ) → length (annotationEntries parent at notes) ≡ length notes
 unfolding annotationEntries
@@ -42,9 +61,22 @@ mutual
   pub inside-size : (c : Concept) (own at tabs : ℕ) → suc (length (insideEntries own at tabs c)) ≡ conceptSize c
   inside-size (selfClosed k) own at tabs = omega (arith, traits-size (k .traits) own (own + 1) (markerName at k))
   inside-size (children k rest body back) own at tabs =
-      omega (arith, length-append (traitEntries own (own + 1) (markerName at k) (k .traits)) (bodyEntries own (own + 1 + traitsSize (k .traits)) (bodyStart at k rest) body), traits-size (k .traits) own (own + 1) (markerName at k), body-size body own (own + 1 + traitsSize (k .traits)) (bodyStart at k rest))
+      omega (
+        arith,
+        length-append (traitEntries own (own + 1) (markerName at k) (k .traits))
+            (bodyEntries own (own + 1 + traitsSize (k .traits)) (bodyStart at k rest) body),
+        traits-size (k .traits) own (own + 1) (markerName at k),
+        body-size body own
+            (own + 1 + traitsSize (k .traits)) (bodyStart at k rest),
+      )
   inside-size (content k rest lines) own at tabs =
-      omega (arith, length-append (traitEntries own (own + 1) (markerName at k) (k .traits)) (unnamed 5 0 own 0 (bodyStart at k rest) (bodyStart at k rest + length (linesOnto tabs lines [])) ∷ []), traits-size (k .traits) own (own + 1) (markerName at k))
+      omega (
+        arith,
+        length-append (traitEntries own (own + 1) (markerName at k) (k .traits))
+            (unnamed 5 0 own 0 (bodyStart at k rest) (bodyStart at k rest + length (linesOnto tabs lines [])) ∷ []),
+        traits-size (k .traits) own (own + 1)
+            (markerName at k),
+      )
 
   pub body-size : (b : Body) (parent next at : ℕ) → length (bodyEntries parent next at b) ≡ bodySize b
   body-size done parent next at = refl
@@ -53,18 +85,32 @@ mutual
       let start = at + length (annotationsOnto notes []) + tabs in
       let more = bodyEntries parent (next + length notes + conceptSize c) (start + conceptWidth tabs c + length (blankOnto rest [])) body in
       let inside = insideEntries (next + length notes) start tabs c in
-      omega (arith, length-append (annotationEntries parent at notes) (conceptEntry parent start tabs c ∷ (inside ++ more)), length-append inside more, notes-size notes parent at, inside-size c (next + length notes) start tabs, body-size body parent (next + length notes + conceptSize c) (start + conceptWidth tabs c + length (blankOnto rest [])))
+      omega (
+        arith,
+        length-append (annotationEntries parent at notes) (conceptEntry parent start tabs c ∷ (inside ++ more)),
+        length-append inside more,
+        notes-size notes parent at,
+        inside-size c (next + length notes) start tabs,
+        body-size body parent (next + length notes + conceptSize c)
+            (start + conceptWidth tabs c + length (blankOnto rest [])),
+      )
 
 pub entries-size : (t : Sheet) → length (entries t) ≡ sheetSize t
 unfolding entries sheetSize
 entries-size t =
     let at = length (blanksOnto (t .before) []) in
     let own = conceptEntry noParent (rootStart t) (t .tabs) (t .root) ∷ insideEntries (length (t .annotations)) (rootStart t) (t .tabs) (t .root) in
-    omega (arith, length-append (annotationEntries noParent at (t .annotations)) own, notes-size (t .annotations) noParent at, inside-size (t .root) (length (t .annotations)) (rootStart t) (t .tabs))
+    omega (
+      arith,
+      length-append (annotationEntries noParent at (t .annotations)) own,
+      notes-size (t .annotations) noParent at,
+      inside-size (t .root) (length (t .annotations)) (rootStart t) (t .tabs),
+    )
 
 -- ---- cells say which entries they are
 
-same-entry : (e f : Entry) → e .kind ≡ f .kind → e .form ≡ f .form → e .parent ≡ f .parent → e .count ≡ f .count → e .nameStart ≡ f .nameStart → e .nameEnd ≡ f .nameEnd → e .start ≡ f .start → e .end ≡ f .end → e ≡ f
+same-entry : (e f : Entry) → e .kind ≡ f .kind → e .form ≡ f .form → e .parent ≡ f .parent → e .count ≡ f .count → e .nameStart ≡ f .nameStart → e .nameEnd ≡ f .nameEnd
+    → e .start ≡ f .start → e .end ≡ f .end → e ≡ f
 same-entry e f a b c d g h i j = λ k. record { kind = a k; form = b k; parent = c k; count = d k; nameStart = g k; nameEnd = h k; start = i k; end = j k }
 
 same-entries : (es fs : List Entry) (y z : List ℕ) → length es ≡ length fs → allCells es ++ y ≡ allCells fs ++ z → es ≡ fs

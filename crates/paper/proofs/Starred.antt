@@ -41,7 +41,11 @@ pub record Case : Type 0 where
 
 unfoldable pub formOf : ℕ → List ℕ → List ℕ
 formOf lent s =
-    elim (Modes.modeTable table) [ fault n left ↦ [] | found m left ↦ elim (Reading.sheetOf m (Reading.roomOf lent) s) [ fault n left ↦ [] | found t left ↦ Canonical.canonical t ] ]
+    elim (Modes.modeTable table) [
+      | fault n left ↦ []
+      | found m left ↦
+          elim (Reading.sheetOf m (Reading.roomOf lent) s) [ fault n left ↦ [] | found t left ↦ Canonical.canonical t ]
+    ]
 
 unfoldable pub seen : Case → Seen
 seen k =

@@ -31,7 +31,8 @@ names-take (suc n) before (size ∷ s) =
     (λ f. rw f (omega (arith, leb-false size (length s) f)))))
     (λ e. rw (e, tableNames) (omega arith))
   where
-    more : size ≤ nameLimit → (x : Found (List (List ℕ))) → Takes (n * 33) n (drop size s) x → Takes (suc n * 33) (suc n) (size ∷ s) (andThen x (λ names left. found (take size s ∷ names) left))
+    more : size ≤ nameLimit → (x : Found (List (List ℕ))) → Takes (n * 33) n (drop size s) x
+        → Takes (suc n * 33) (suc n) (size ∷ s) (andThen x (λ names left. found (take size s ∷ names) left))
     more h (found names left) t = (omega (arith, t .0, length-drop size s), omega (arith, t .1))
     more h (fault k left) t = omega (arith, length-drop size s)
 
@@ -57,12 +58,14 @@ pub table-small : (s : List ℕ) → (readTable s .place ≤ 4226) × (readTable
 unfolding readTable modeTable wholly
 table-small s = first (section [] s) (section-takes [] s)
   where
-    second : (children : List (List ℕ)) (left : List ℕ) → length s ≤ length left + 2113 → length children ≤ sectionLimit → (y : Found (List (List ℕ))) → Takes 2113 sectionLimit left y
+    second : (children : List (List ℕ)) (left : List ℕ) → length s ≤ length left + 2113 → length children ≤ sectionLimit → (y : Found (List (List ℕ)))
+        → Takes 2113 sectionLimit left y
         → Small s (andThen y (λ content spare. wholly (record { children = children; content = content }) spare))
     second children left a c (found content []) t = (omega (arith, t .0), omega (arith, t .1))
     second children left a c (found content (b ∷ spare)) t = (omega (arith, t .0), omega arith)
     second children left a c (fault k end) t = (omega arith, omega arith)
 
-    first : (x : Found (List (List ℕ))) → Takes 2113 sectionLimit s x → Small s (andThen x (λ children left. andThen (section children left) (λ content spare. wholly (record { children = children; content = content }) spare)))
+    first : (x : Found (List (List ℕ))) → Takes 2113 sectionLimit s x
+        → Small s (andThen x (λ children left. andThen (section children left) (λ content spare. wholly (record { children = children; content = content }) spare)))
     first (found children left) t = second children left (t .0) (t .1) (section children left) (section-takes children left)
     first (fault k left) t = (omega arith, omega arith)

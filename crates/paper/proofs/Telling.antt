@@ -10,15 +10,23 @@ use lib.Dec.{leb}
 use lib.Seq.{take-append-seam}
 use Rattle.paper.specs.Bytes.{byte, tab, all, isBlank, isWhite, isLower, isUpper}
 use Rattle.paper.specs.Names.{nameRule}
-use Rattle.paper.specs.Values.{Leaf, string, character, backtick, word, Value, leaf, emptyList, list, More, close, comma, valueOnto, moreOnto, spelling, collapse, valueRule, moreRule, listEnders}
+use Rattle.paper.specs.Values.{Leaf, string, character, backtick, word, Value, leaf, emptyList, list, More, close, comma, valueOnto, moreOnto, spelling, collapse}
+use Rattle.paper.specs.Values.{valueRule, moreRule, listEnders}
 use Rattle.paper.specs.Tree.{Blank, Trait, Marker, Annotation, Line, Concept, selfClosed, children, content, Body, done, blankLine, element, Sheet, block, self}
-use Rattle.paper.specs.Grammar.{blankOnto, blanksOnto, tabsOnto, annotationOnto, annotationsOnto, traitOnto, traitsOnto, markerOnto, endingOnto, closingOnto, linesOnto, conceptOnto, bodyOnto, sheetOnto, blankRule, annotationRule, traitRule, markerRule, lineRule, opensBlock, conceptRule, bodyRule, sheetRule}
-use Rattle.paper.specs.Entries.{Entry, valueWidth, itemEntries, moreEntries, itemSize, traitEntries, traitSize, traitName, traitValue, traitsSize, annotationEntries, conceptEntry, conceptSize, conceptWidth, markerName, markerOf, bodyStart, insideEntries, bodyEntries, noParent, rootStart, entries}
-use Rattle.paper.specs.Canonical.{ValueSense, quoted, letter, spelt, listed, ItemsSense, none, item, TraitSense, MarkerSense, ConceptSense, bare, around, saying, BodySense, empty, with, SheetSense, leafSense, valueSense, moreSense, markerSense, lineSense, annotationSense, conceptSense, bodySense, meaning, canonical}
+use Rattle.paper.specs.Grammar.{blankOnto, blanksOnto, tabsOnto, annotationOnto, annotationsOnto, traitOnto, traitsOnto, markerOnto, endingOnto, closingOnto}
+use Rattle.paper.specs.Grammar.{linesOnto, conceptOnto, bodyOnto, sheetOnto, blankRule, annotationRule, traitRule, markerRule, lineRule, opensBlock, conceptRule}
+use Rattle.paper.specs.Grammar.{bodyRule, sheetRule}
+use Rattle.paper.specs.Entries.{Entry, valueWidth, itemEntries, moreEntries, itemSize, traitEntries, traitSize, traitName, traitValue, traitsSize}
+use Rattle.paper.specs.Entries.{annotationEntries, conceptEntry, conceptSize, conceptWidth, markerName, markerOf, bodyStart, insideEntries, bodyEntries, noParent}
+use Rattle.paper.specs.Entries.{rootStart, entries}
+use Rattle.paper.specs.Canonical.{ValueSense, quoted, letter, spelt, listed, ItemsSense, none, item, TraitSense, MarkerSense, ConceptSense, bare, around, saying}
+use Rattle.paper.specs.Canonical.{BodySense, empty, with, SheetSense, leafSense, valueSense, moreSense, markerSense, lineSense, annotationSense, conceptSense}
+use Rattle.paper.specs.Canonical.{bodySense, meaning, canonical}
 use Rattle.paper.proofs.Lists.{both, all-head}
 use Rattle.paper.proofs.Concepts.{element-parts}
 use Rattle.paper.proofs.ReadValues.{value-append}
-use Rattle.paper.proofs.Fronts.{Front, run-front, byte-front, blank-front, blanks-front, note-front, notes-front, trait-front, traits-front, marker-front, lines-front, whole-front, concept-ends, past-bytes, past-front, front-append}
+use Rattle.paper.proofs.Fronts.{Front, run-front, byte-front, blank-front, blanks-front, note-front, notes-front, trait-front, traits-front, marker-front}
+use Rattle.paper.proofs.Fronts.{lines-front, whole-front, concept-ends, past-bytes, past-front, front-append}
 
 -- ---- what an entry tells
 
@@ -113,7 +121,8 @@ past-byte : (s : List ℕ) (at b : ℕ) (rest : List ℕ) → drop at s ≡ b �
 past-byte s at b rest e = past-bytes s at (b ∷ []) rest e
 
 module _ (s : List ℕ) where
-  spells : (v : Value) (enders : List ℕ) (at : ℕ) (rest : List ℕ) → valueRule enders v ≡ true → drop at s ≡ valueOnto v rest → Spells (part s at (at + valueWidth v)) (valueSense v)
+  spells : (v : Value) (enders : List ℕ) (at : ℕ) (rest : List ℕ) → valueRule enders v ≡ true → drop at s ≡ valueOnto v rest
+      → Spells (part s at (at + valueWidth v)) (valueSense v)
   spells v enders at rest r e =
       record { it = v; enders = enders; rule = r; is = sym (part-is s at (spelling v) rest (e ∙ value-append v rest)); means = refl }
 
@@ -130,7 +139,8 @@ module _ (s : List ℕ) where
   mutual
     unfolding itemEntries itemSenses valueSense valueOnto valueRule
 
-    items-tell : (v : Value) (enders : List ℕ) (parent next at : ℕ) (rest : List ℕ) → valueRule enders v ≡ true → drop at s ≡ valueOnto v rest → AllTell s (itemEntries parent next at v) (itemSenses (valueSense v))
+    items-tell : (v : Value) (enders : List ℕ) (parent next at : ℕ) (rest : List ℕ) → valueRule enders v ≡ true → drop at s ≡ valueOnto v rest
+        → AllTell s (itemEntries parent next at v) (itemSenses (valueSense v))
     items-tell (leaf v) enders parent next at rest r e = leaf-tells v
     items-tell emptyList enders parent next at rest r e = none-left
     items-tell (list v more) enders parent next at rest r e =
@@ -140,7 +150,8 @@ module _ (s : List ℕ) where
         (tell-append (items-tell v listEnders next (next + 1) (at + 1) (moreOnto more rest) (p .0) first)
         (more-tell more parent (next + 1 + itemSize v) (at + 1 + valueWidth v) rest (p .1) (past-value v (at + 1) (moreOnto more rest) first)))
 
-    more-tell : (more : More) (parent next at : ℕ) (rest : List ℕ) → moreRule more ≡ true → drop at s ≡ moreOnto more rest → AllTell s (moreEntries parent next at more) (itemsSenses (moreSense more))
+    more-tell : (more : More) (parent next at : ℕ) (rest : List ℕ) → moreRule more ≡ true → drop at s ≡ moreOnto more rest
+        → AllTell s (moreEntries parent next at more) (itemsSenses (moreSense more))
     more-tell close parent next at rest r e = none-left
     more-tell (comma white v more) parent next at rest r e =
         let p = both (all isWhite white && valueRule listEnders v) (moreRule more) r in
@@ -162,8 +173,13 @@ module _ (s : List ℕ) where
       let rule = both (leb 1 (length (t .white)) && all isWhite (t .white) && nameRule isLower (t .name)) (valueRule [] v) (h .0) .1 in
       let more = traitsOnto ts rest in
       let name = past-bytes s at (t .white) (t .name ++ (byte "=" ∷ valueOnto v more)) e in
-      let first = past-byte s (traitName at t + length (t .name)) (byte "=") (valueOnto v more) (past-bytes s (traitName at t) (t .name) (byte "=" ∷ valueOnto v more) name) in
-      tells {x = trait (t .name) (valueSense v)} (refl, part-is s (traitName at t) (t .name) (byte "=" ∷ valueOnto v more) name, spells v [] (traitValue at t) more rule first)
+      let first =
+      past-byte s (traitName at t + length (t .name)) (byte "=") (valueOnto v more) (past-bytes s (traitName at t) (t .name) (byte "=" ∷ valueOnto v more) name) in
+      tells {x = trait (t .name) (valueSense v)} (
+        refl,
+        part-is s (traitName at t) (t .name) (byte "=" ∷ valueOnto v more) name,
+        spells v [] (traitValue at t) more rule first,
+      )
       (tell-append (items-tell v [] next (next + 1) (traitValue at t) more rule first)
       (traits-tell ts parent (next + traitSize t) (at + length (traitOnto t [])) rest (h .1) (past-front s at (traitOnto t) more (trait-front t) e)))
 
@@ -196,14 +212,17 @@ module _ (s : List ℕ) where
         (both (nameRule isUpper (k .name)) (all traitRule (k .traits)) (both (nameRule isUpper (k .name) && all traitRule (k .traits)) (all isWhite (k .white)) r .0) .1)
         (past-bytes s (at + 1) (k .name) (traitsOnto (k .traits) (k .white ++ rest)) past-mark)
 
-  past-opening : (k : Marker) (end : Blank) (at : ℕ) (rest : List ℕ) → drop at s ≡ markerOnto k (endingOnto block (blankOnto end rest)) → drop (bodyStart at k end) s ≡ rest
+  past-opening : (k : Marker) (end : Blank) (at : ℕ) (rest : List ℕ) → drop at s ≡ markerOnto k (endingOnto block (blankOnto end rest))
+      → drop (bodyStart at k end) s ≡ rest
   past-opening k end at rest e =
       past-front s (at + length (markerOnto k []) + 1) (blankOnto end) rest (blank-front end)
-      (past-byte s (at + length (markerOnto k [])) (byte ">") (blankOnto end rest) (past-front s at (markerOnto k) (endingOnto block (blankOnto end rest)) (marker-front k) e))
+      (past-byte s (at + length (markerOnto k [])) (byte ">") (blankOnto end rest)
+      (past-front s at (markerOnto k) (endingOnto block (blankOnto end rest)) (marker-front k) e))
 
   -- ---- Concepts
 
-  concept-named : (c : Concept) (at tabs : ℕ) (rest : List ℕ) → drop at s ≡ conceptOnto tabs c rest → part s (at + 1) (markerName at (markerOf c)) ≡ nameIn (conceptSense c)
+  concept-named : (c : Concept) (at tabs : ℕ) (rest : List ℕ) → drop at s ≡ conceptOnto tabs c rest
+      → part s (at + 1) (markerName at (markerOf c)) ≡ nameIn (conceptSense c)
   unfolding conceptOnto conceptSense
   concept-named (selfClosed k) at tabs rest e = marker-named k at _ e
   concept-named (children k end inner back) at tabs rest e = marker-named k at _ e
@@ -225,20 +244,33 @@ module _ (s : List ℕ) where
         let behind = tabsOnto tabs (closingOnto (k .name) rest) in
         let start = past-opening k end at (linesOnto tabs them behind) e in
         tell-append (marker-tells k at _ e own (p .0))
-        (tells {x = lines (map lineSense them)}
-        (refl, record { tabs = tabs; them = them; rule = p .3; is = sym (part-is s (bodyStart at k end) (linesOnto tabs them []) behind (start ∙ front-append (linesOnto tabs them) (lines-front tabs them) behind)); mean = refl })
+        (tells {x = lines (map lineSense them)} (
+          refl,
+          record {
+            tabs = tabs;
+            them = them;
+            rule = p .3;
+            is =
+                sym (part-is s (bodyStart at k end) (linesOnto tabs them []) behind (start ∙ front-append (linesOnto tabs them) (lines-front tabs them) behind));
+            mean =
+                refl;
+          },
+        )
         none-left)
 
     body-tell : (b : Body) (parent next at : ℕ) (rest : List ℕ) → bodyRule b ≡ true → drop at s ≡ bodyOnto b rest
         → AllTell s (bodyEntries parent next at b) (bodySenses (bodySense b))
     body-tell done parent next at rest r e = none-left
     body-tell (blankLine b inner) parent next at rest r e =
-        body-tell inner parent next (at + length (blankOnto b [])) rest (both (blankRule b) (bodyRule inner) r .1) (past-front s at (blankOnto b) (bodyOnto inner rest) (blank-front b) e)
+        body-tell inner parent next (at + length (blankOnto b [])) rest (both (blankRule b) (bodyRule inner) r .1)
+        (past-front s at (blankOnto b) (bodyOnto inner rest) (blank-front b) e)
     body-tell (element notes tabs c end inner) parent next at rest r e =
         let p = element-parts (all annotationRule notes) (conceptRule c) (blankRule end) (bodyRule inner) r in
         let more = blankOnto end (bodyOnto inner rest) in
         let start = at + length (annotationsOnto notes []) + tabs in
-        let first = past-tabs tabs (at + length (annotationsOnto notes [])) (conceptOnto tabs c more) (past-front s at (annotationsOnto notes) (tabsOnto tabs (conceptOnto tabs c more)) (notes-front notes) e) in
+        let first =
+        past-tabs tabs (at + length (annotationsOnto notes [])) (conceptOnto tabs c more)
+        (past-front s at (annotationsOnto notes) (tabsOnto tabs (conceptOnto tabs c more)) (notes-front notes) e) in
         tell-append (notes-tell notes parent at (tabsOnto tabs (conceptOnto tabs c more)) e)
         (tells {x = named (nameIn (conceptSense c))} (refl, concept-named c start tabs more first)
         (tell-append (inside-tell c (next + length notes) start tabs more (p .1) first)
@@ -259,7 +291,9 @@ entries-tell t r =
     let line = tabsOnto (t .tabs) (conceptOnto (t .tabs) c end) in
     let start : length (blanksOnto (t .before) []) ≡ 0 + length (blanksOnto (t .before) []) = omega arith in
     let notes = ap (λ (n : ℕ). drop n s) start ∙ past-front s 0 (blanksOnto (t .before)) (annotationsOnto (t .annotations) line) (blanks-front (t .before)) refl in
-    let first = past-tabs s (t .tabs) _ (conceptOnto (t .tabs) c end) (past-front s (length (blanksOnto (t .before) [])) (annotationsOnto (t .annotations)) line (notes-front (t .annotations)) notes) in
+    let first =
+    past-tabs s (t .tabs) _ (conceptOnto (t .tabs) c end)
+    (past-front s (length (blanksOnto (t .before) [])) (annotationsOnto (t .annotations)) line (notes-front (t .annotations)) notes) in
     tell-append (notes-tell s (t .annotations) noParent (length (blanksOnto (t .before) [])) line notes)
     (tells {x = named (nameIn (conceptSense c))} (refl, concept-named s c (rootStart t) (t .tabs) end first)
     (inside-tell s c (length (t .annotations)) (rootStart t) (t .tabs) end (q .2) first))

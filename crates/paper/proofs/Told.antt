@@ -10,7 +10,8 @@ use Rattle.paper.specs.Answer.{Told, accepted, refused, numberOf, told}
 use Rattle.paper.specs.declared.Answer.{Answer}
 use Rattle.paper.specs.declared.Answer.the-variants.{Accepted, Refused}
 use Rattle.paper.specs.declared.Refusal.{Refusal}
-use Rattle.paper.specs.declared.Refusal.the-variants.{Table, SheetTooLong, Bytes, Name, Unlisted, Value, Due, ClosingName, Cut, TooDeep, NoEntryLeft, NoRoom, RollTooLong, BeforeBoundary, TooManySheets, RootAnnotated, View}
+use Rattle.paper.specs.declared.Refusal.the-variants.{Table, SheetTooLong, Bytes, Name, Unlisted, Value, Due, ClosingName, Cut, TooDeep, NoEntryLeft, NoRoom}
+use Rattle.paper.specs.declared.Refusal.the-variants.{RollTooLong, BeforeBoundary, TooManySheets, RootAnnotated, View}
 
 refusals : List Refusal
 refusals =

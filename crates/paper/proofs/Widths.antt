@@ -6,8 +6,10 @@ use native.Mathlib.Omega.{arith}
 use lib.ListN.{length, replicate, length-append}
 use Rattle.paper.specs.Bytes.{byte, tab}
 use Rattle.paper.specs.Values.{Value, valueOnto, spelling}
-use Rattle.paper.specs.Tree.{LineEnd, LF, CRLF, Blank, Trait, Marker, Annotation, Line, blank, text, Ending, block, self, Concept, selfClosed, children, content, Body, done, blankLine, element}
-use Rattle.paper.specs.Grammar.{lineEndOnto, blankOnto, tabsOnto, annotationsOnto, traitsOnto, markerOnto, endingOnto, closingOnto, linesOnto, conceptOnto, bodyOnto}
+use Rattle.paper.specs.Tree.{LineEnd, LF, CRLF, Blank, Trait, Marker, Annotation, Line, blank, text, Ending, block, self, Concept, selfClosed, children, content}
+use Rattle.paper.specs.Tree.{Body, done, blankLine, element}
+use Rattle.paper.specs.Grammar.{lineEndOnto, blankOnto, tabsOnto, annotationsOnto, traitsOnto, markerOnto, endingOnto, closingOnto, linesOnto, conceptOnto}
+use Rattle.paper.specs.Grammar.{bodyOnto}
 use Rattle.paper.proofs.ReadValues.{value-append}
 
 -- in front of a list
@@ -29,7 +31,13 @@ unfolding annotationsOnto
 annotations-wide [] next = omega arith
 annotations-wide (a ∷ notes) next =
     let rest = annotationsOnto notes next in
-    omega (arith, annotations-wide notes next, blank-wide (a .rest) rest, append-wide (a .text) (byte "]" ∷ blankOnto (a .rest) rest), tabs-wide (a .tabs) (byte "[" ∷ (a .text ++ (byte "]" ∷ blankOnto (a .rest) rest))))
+    omega (
+      arith,
+      annotations-wide notes next,
+      blank-wide (a .rest) rest,
+      append-wide (a .text) (byte "]" ∷ blankOnto (a .rest) rest),
+      tabs-wide (a .tabs) (byte "[" ∷ (a .text ++ (byte "]" ∷ blankOnto (a .rest) rest))),
+    )
 
 value-wide : (v : Value) (next : List ℕ) → length next ≤ length (valueOnto v next)
 value-wide v next = omega (arith, ap length (value-append v next), length-append (spelling v) next)
@@ -39,7 +47,13 @@ unfolding traitsOnto
 traits-wide [] next = omega arith
 traits-wide (t ∷ ts) next =
     let rest = valueOnto (t .value) (traitsOnto ts next) in
-    omega (arith, traits-wide ts next, value-wide (t .value) (traitsOnto ts next), append-wide (t .name) (byte "=" ∷ rest), append-wide (t .white) (t .name ++ (byte "=" ∷ rest)))
+    omega (
+      arith,
+      traits-wide ts next,
+      value-wide (t .value) (traitsOnto ts next),
+      append-wide (t .name) (byte "=" ∷ rest),
+      append-wide (t .white) (t .name ++ (byte "=" ∷ rest)),
+    )
 
 pub ending-wide : (e : Ending) (next : List ℕ) → length next < length (endingOnto e next)
 ending-wide block next = omega arith
@@ -69,14 +83,35 @@ mutual
   concept-wide (selfClosed k) tabs next = omega (arith, marker-wide k self next)
   concept-wide (children k rest inner back) tabs next =
       let end = tabsOnto back (closingOnto (k .name) next) in
-      omega (arith, closing-wide (k .name) next, tabs-wide back (closingOnto (k .name) next), body-wide inner end, blank-wide rest (bodyOnto inner end), marker-wide k block (blankOnto rest (bodyOnto inner end)))
+      omega (
+        arith,
+        closing-wide (k .name) next,
+        tabs-wide back (closingOnto (k .name) next),
+        body-wide inner end,
+        blank-wide rest (bodyOnto inner end),
+        marker-wide k block (blankOnto rest (bodyOnto inner end)),
+      )
   concept-wide (content k rest lines) tabs next =
       let end = tabsOnto tabs (closingOnto (k .name) next) in
-      omega (arith, closing-wide (k .name) next, tabs-wide tabs (closingOnto (k .name) next), lines-wide tabs lines end, blank-wide rest (linesOnto tabs lines end), marker-wide k block (blankOnto rest (linesOnto tabs lines end)))
+      omega (
+        arith,
+        closing-wide (k .name) next,
+        tabs-wide tabs (closingOnto (k .name) next),
+        lines-wide tabs lines end,
+        blank-wide rest (linesOnto tabs lines end),
+        marker-wide k block (blankOnto rest (linesOnto tabs lines end)),
+      )
 
   pub body-wide : (b : Body) (next : List ℕ) → length next ≤ length (bodyOnto b next)
   body-wide done next = omega arith
   body-wide (blankLine b inner) next = omega (arith, body-wide inner next, blank-wide b (bodyOnto inner next))
   body-wide (element notes tabs c rest inner) next =
       let behind = blankOnto rest (bodyOnto inner next) in
-      omega (arith, body-wide inner next, blank-wide rest (bodyOnto inner next), concept-wide c tabs behind, tabs-wide tabs (conceptOnto tabs c behind), annotations-wide notes (tabsOnto tabs (conceptOnto tabs c behind)))
+      omega (
+        arith,
+        body-wide inner next,
+        blank-wide rest (bodyOnto inner next),
+        concept-wide c tabs behind,
+        tabs-wide tabs (conceptOnto tabs c behind),
+        annotations-wide notes (tabsOnto tabs (conceptOnto tabs c behind)),
+      )

@@ -9,9 +9,11 @@ use lib.Dec.{leb, eqb}
 use borrow.Author.Tests.{leb-true, le-leb, lt-leb, eqb-true, not-false}
 use Rattle.paper.specs.Found.{pick}
 use Rattle.paper.specs.Bytes.{byte, bytes, isUpper, isLower, isDigit, isLetter, isHex, all, elem, same, startsIn, lengthIn, space, tab, lf, cr}
-use Rattle.paper.specs.Values.{is, upTo, onward, past, isToken, hexGroups, isUuid, areDigits, isCount, unsigned, isInteger, isDecimal, isExponent, isScientific, isFraction, isScheme, isIri, wordForm, listEnders}
+use Rattle.paper.specs.Values.{is, upTo, onward, past, isToken, hexGroups, isUuid, areDigits, isCount, unsigned, isInteger, isDecimal, isExponent, isScientific}
+use Rattle.paper.specs.Values.{isFraction, isScheme, isIri, wordForm, listEnders}
 use Rattle.paper.proofs.Tests.{split, true-false, either, or-left, or-right}
-use Rattle.paper.proofs.Lists.{both, is-not, byFront, all-nil, all-cons, all-head, all-weaken, front-behind, behind-stops, all-append, starts-weaken, starts-append, starts-apart, elem-apart, elem-more, elem-right, without, same-is}
+use Rattle.paper.proofs.Lists.{both, is-not, byFront, all-nil, all-cons, all-head, all-weaken, front-behind, behind-stops, all-append, starts-weaken}
+use Rattle.paper.proofs.Lists.{starts-append, starts-apart, elem-apart, elem-more, elem-right, without, same-is}
 
 -- ---- the kinds in the order of their forms
 
@@ -131,7 +133,9 @@ no-minus w a = count-none (bytes "-") isDigit w a refl
 number-more : (cs ds w : List ℕ) (n : ℕ) → Number cs n w → Number (cs ++ ds) n w
 number-more cs ds w n h =
     record {
-      made = all-weaken (digitOr cs) (digitOr (cs ++ ds)) (λ b e. either (isDigit b) (elem b cs) e (λ f. or-left (isDigit b) _ f) (λ f. or-right (isDigit b) _ (elem-more b cs ds f))) w (h .made);
+      made =
+          all-weaken (digitOr cs) (digitOr (cs ++ ds)) (λ b e. either (isDigit b) (elem b cs) e (λ f. or-left (isDigit b) _ f)
+          (λ f. or-right (isDigit b) _ (elem-more b cs ds f))) w (h .made);
       first = h .first;
       few = h .few;
     }
@@ -151,7 +155,8 @@ integer-number (b ∷ w) e =
     record { made = digits-in (bytes "+-") (b ∷ w) (d .1); first = or-left (isDigit b) _ (d .0); few = omega (arith, no-minus (b ∷ w) (d .1)) })
 
 -- a number, one of these bytes, and more of a number
-joined : (cs ds u : List ℕ) (b : ℕ) (v : List ℕ) (n m : ℕ) → Number cs n u → elem b ds ≡ true → all (λ c. not (elem c ds)) (bytes "-") ≡ true → all (digitOr (cs ++ ds)) v ≡ true → count (bytes "-") v ≤ m → Number (cs ++ ds) (n + m) (u ++ (b ∷ v))
+joined : (cs ds u : List ℕ) (b : ℕ) (v : List ℕ) (n m : ℕ) → Number cs n u → elem b ds ≡ true → all (λ c. not (elem c ds)) (bytes "-") ≡ true
+    → all (digitOr (cs ++ ds)) v ≡ true → count (bytes "-") v ≤ m → Number (cs ++ ds) (n + m) (u ++ (b ∷ v))
 joined cs ds u b v n m h e k a f =
     record {
       made = all-append _ u (b ∷ v) (number-more cs ds u n h .made) (all-cons _ b v (or-right (isDigit b) _ (elem-right b cs ds e)) a);
@@ -169,12 +174,15 @@ unfolding elem
 is-elem c b e = rw e
 
 -- decimals and fractions: an integer, this byte, and digits
-two-numbers : (c : ℕ) (w : List ℕ) → elem (byte "-") (c ∷ []) ≡ false → isInteger (upTo (is c) w) ≡ true → areDigits (past (is c) w) ≡ true → Marked (bytes "+-") (c ∷ []) 1 w
+two-numbers : (c : ℕ) (w : List ℕ) → elem (byte "-") (c ∷ []) ≡ false → isInteger (upTo (is c) w) ≡ true → areDigits (past (is c) w) ≡ true
+    → Marked (bytes "+-") (c ∷ []) 1 w
 two-numbers c w k i a =
     let d = digits-of (past (is c) w) a .1 in
     parted (is c) w (λ n. no-digits (rw n at a))
     (λ b e q. rw q (record {
-      number = joined (bytes "+-") (c ∷ []) _ b _ 1 0 (integer-number _ i) (is-elem c b e) (all-cons _ (byte "-") [] (is-not k) (all-nil _)) (digits-in _ _ d) (omega (arith, no-minus (past (is c) w) d));
+      number =
+          joined (bytes "+-") (c ∷ []) _ b _ 1 0 (integer-number _ i) (is-elem c b e) (all-cons _ (byte "-") [] (is-not k) (all-nil _)) (digits-in _ _ d)
+          (omega (arith, no-minus (past (is c) w) d));
       mark = count-some (c ∷ []) (upTo (is c) w) b (past (is c) w) (is-elem c b e);
     }))
 
@@ -191,7 +199,9 @@ unfolding isScientific unsigned elem all
 scientific-number w e =
     let h = both (isInteger (upTo isExponent w) || isDecimal (upTo isExponent w)) (isInteger (past isExponent w)) e in
     let x = integer-number (past isExponent w) (h .1) in
-    let m = either (isInteger (upTo isExponent w)) (isDecimal (upTo isExponent w)) (h .0) (λ i. number-more (bytes "+-") (bytes ".") _ 1 (integer-number _ i)) (λ d. decimal-number _ d .number) in
+    let m =
+    either (isInteger (upTo isExponent w)) (isDecimal (upTo isExponent w)) (h .0) (λ i. number-more (bytes "+-") (bytes ".") _ 1 (integer-number _ i))
+    (λ d. decimal-number _ d .number) in
     parted isExponent w (λ n. no-digits (count-of [] (rw n at (h .1))))
     (λ b c q. rw q (record {
       number = joined (bytes "+-.") (bytes "eE") _ b _ 1 1 m c refl (number-more (bytes "+-") (bytes ".eE") _ 1 x .made) (x .few);
@@ -223,7 +233,9 @@ groups-made n (k ∷ ns) w p e =
     let g = groups-made k ns (past dash w) (q .1) (h .1) in
     parted dash w (λ z. no-group k ns (leb-true 1 k (q .0)) (rw z at (h .1)))
     (λ b f s. rw s (record {
-      made = all-append hexDash (upTo dash w) (b ∷ past dash w) (all-weaken isHex hexDash (λ b f. or-left (isHex b) _ f) _ x) (all-cons hexDash b _ (or-right (isHex b) _ (is-elem (byte "-") b f)) (g .made));
+      made =
+          all-append hexDash (upTo dash w) (b ∷ past dash w) (all-weaken isHex hexDash (λ b f. or-left (isHex b) _ f) _ x)
+          (all-cons hexDash b _ (or-right (isHex b) _ (is-elem (byte "-") b f)) (g .made));
       many = omega (arith, g .many, count-append (bytes "-") (upTo dash w) (b ∷ past dash w), count-in (bytes "-") b (past dash w) (is-elem (byte "-") b f));
     }))
 
@@ -299,17 +311,37 @@ kind-is boolean w e = either (same w (bytes "true")) (same w (bytes "false")) e 
 kind-is integer w e =
     let h = integer-number w e in
     let p = digitOr (bytes "+-") in
-    rw (none-of (bytes "$~:/st") p w (h .made) refl, lt-leb 3 (count (bytes "-") w) (omega (arith, h .few)), none-of (bytes "eE") p w (h .made) refl, none-of (bytes ".") p w (h .made) refl)
+    rw (
+      none-of (bytes "$~:/st") p w (h .made) refl,
+      lt-leb 3 (count (bytes "-") w) (omega (arith, h .few)),
+      none-of (bytes "eE") p w (h .made) refl,
+      none-of (bytes ".") p w (h .made) refl,
+    )
 kind-is decimal w e =
     let h = decimal-number w e in
     let p = digitOr (bytes "+-.") in
-    rw (none-of (bytes "$~:/st") p w (h .number .made) refl, lt-leb 3 (count (bytes "-") w) (omega (arith, h .number .few)), none-of (bytes "eE") p w (h .number .made) refl, one-of (bytes ".") w (h .mark))
+    rw (
+      none-of (bytes "$~:/st") p w (h .number .made) refl,
+      lt-leb 3 (count (bytes "-") w) (omega (arith, h .number .few)),
+      none-of (bytes "eE") p w (h .number .made) refl,
+      one-of (bytes ".") w (h .mark),
+    )
 kind-is scientific w e =
     let h = scientific-number w e in
-    rw (none-of (bytes "$~:/st") (digitOr (bytes "+-.eE")) w (h .number .made) refl, lt-leb 3 (count (bytes "-") w) (omega (arith, h .number .few)), one-of (bytes "eE") w (h .mark))
+    rw (
+      none-of (bytes "$~:/st") (digitOr (bytes "+-.eE")) w (h .number .made) refl,
+      lt-leb 3 (count (bytes "-") w) (omega (arith, h .number .few)),
+      one-of (bytes "eE") w (h .mark),
+    )
 kind-is fraction w e =
     let h = fraction-number w e in
-    rw (one-of (bytes "$~:/st") w (omega (arith, h .mark, count-single (byte "/") (bytes "$~:/st") w refl)), starts-apart _ (byte "$") w (h .number .first) refl, starts-apart _ (byte "~") w (h .number .first) refl, none-of (bytes ":") (digitOr (bytes "+-/")) w (h .number .made) refl, one-of (bytes "/") w (h .mark))
+    rw (
+      one-of (bytes "$~:/st") w (omega (arith, h .mark, count-single (byte "/") (bytes "$~:/st") w refl)),
+      starts-apart _ (byte "$") w (h .number .first) refl,
+      starts-apart _ (byte "~") w (h .number .first) refl,
+      none-of (bytes ":") (digitOr (bytes "+-/")) w (h .number .made) refl,
+      one-of (bytes "/") w (h .mark),
+    )
 kind-is pascal w e = token-sign (byte "$") isUpper w e (λ l q. rw (q, one-of (bytes "$~:/st") (byte "$" ∷ l) (count-some (bytes "$~:/st") [] (byte "$") l refl)))
 kind-is camel w e = token-sign (byte "~") isLower w e (λ l q. rw (q, one-of (bytes "$~:/st") (byte "~" ∷ l) (count-some (bytes "$~:/st") [] (byte "~") l refl)))
 kind-is uuid w e =
@@ -318,7 +350,12 @@ kind-is uuid w e =
 kind-is iri w e =
     let h = iri-colon w e in
     let f = iri-first w e in
-    rw (one-of (bytes "$~:/st") w (omega (arith, count-single (byte ":") (bytes "$~:/st") w refl)), starts-apart isLetter (byte "$") w f refl, starts-apart isLetter (byte "~") w f refl, one-of (bytes ":") w h)
+    rw (
+      one-of (bytes "$~:/st") w (omega (arith, count-single (byte ":") (bytes "$~:/st") w refl)),
+      starts-apart isLetter (byte "$") w f refl,
+      starts-apart isLetter (byte "~") w f refl,
+      one-of (bytes ":") w h,
+    )
 
 -- two kinds that fit one word are the same
 pub word-kinds : (j k : Kind) (w : List ℕ) → fits j w ≡ true → fits k w ≡ true → j ≡ k
@@ -356,7 +393,8 @@ form-of k w e = word-form w ∙ first-form w (all-kinds k) e
 
 -- and the one that the same tests give in any other order
 pub any-order : (ks : List Kind) → ((k : Kind) → Among k ks) → (w : List ℕ) → wordForm w ≡ firstForm ks w
-any-order ks a w = word-form w ∙ byKind kinds w (λ k e q. q ∙ sym (first-form w (a k) e)) (λ z. byKind ks w (λ k e q. first-form w (all-kinds k) e ∙ sym q) (λ y. z ∙ sym y))
+any-order ks a w =
+    word-form w ∙ byKind kinds w (λ k e q. q ∙ sym (first-form w (a k) e)) (λ z. byKind ks w (λ k e q. first-form w (all-kinds k) e ∙ sym q) (λ y. z ∙ sym y))
 
 -- ---- how a word begins
 

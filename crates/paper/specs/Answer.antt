@@ -4,7 +4,8 @@ use Prim.Native.Nat.{ℕ}
 use Rattle.paper.specs.declared.Answer.{Answer}
 use Rattle.paper.specs.declared.Answer.the-variants.{Accepted, Refused}
 use Rattle.paper.specs.declared.Refusal.{Refusal}
-use Rattle.paper.specs.declared.Refusal.the-variants.{Table, SheetTooLong, Bytes, Name, Unlisted, Value, Due, ClosingName, Cut, TooDeep, NoEntryLeft, NoRoom, RollTooLong, BeforeBoundary, TooManySheets, RootAnnotated, View}
+use Rattle.paper.specs.declared.Refusal.the-variants.{Table, SheetTooLong, Bytes, Name, Unlisted, Value, Due, ClosingName, Cut, TooDeep, NoEntryLeft, NoRoom}
+use Rattle.paper.specs.declared.Refusal.the-variants.{RollTooLong, BeforeBoundary, TooManySheets, RootAnnotated, View}
 
 pub record Told : Type 0 where
   pub number : ℕ

@@ -8,7 +8,8 @@ use lib.Dec.{leb, ltb, eqb}
 use Rattle.paper.specs.Found.{pick}
 use Rattle.paper.specs.Bytes.{byte, isUpper, lf, cr, tab, space}
 use Rattle.paper.specs.Values.{piecesMean, collapse, endsInSlash, Leaf, string, character, backtick, word, Value, leaf, emptyList, list, More, close, comma}
-use Rattle.paper.specs.Tree.{Marker, Annotation, Line, blank, text, Concept, selfClosed, children, content, Body, done, blankLine, element, Sheet, Ending, block, self}
+use Rattle.paper.specs.Tree.{Marker, Annotation, Line, blank, text, Concept, selfClosed, children, content, Body, done, blankLine, element, Sheet, Ending, block}
+use Rattle.paper.specs.Tree.{self}
 use Rattle.paper.specs.Grammar.{tabsOnto, endingOnto, closingOnto}
 
 -- ---- meanings

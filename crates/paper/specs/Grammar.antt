@@ -13,7 +13,8 @@ use Rattle.paper.specs.Bytes.{byte, bytes, isUpper, isLower, isBlank, is
 use Rattle.paper.specs.Names.{nameRule}
 use Rattle.paper.specs.Modes.{Modes, modeOf}
 use Rattle.paper.specs.Values.{valueOnto, valueRule, valueInSlash}
-use Rattle.paper.specs.Tree.{LineEnd, LF, CRLF, Blank, Trait, Marker, Annotation, Line, blank, text, Concept, selfClosed, children, content, Body, done, blankLine, element, Sheet, Ending, block, self}
+use Rattle.paper.specs.Tree.{LineEnd, LF, CRLF, Blank, Trait, Marker, Annotation, Line, blank, text, Concept, selfClosed, children, content, Body, done, blankLine}
+use Rattle.paper.specs.Tree.{element, Sheet, Ending, block, self}
 
 -- ---- the bytes of a tree, in front of what follows
 

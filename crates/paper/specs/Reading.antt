@@ -8,11 +8,13 @@ use lib.Dec.{leb, ltb, eqb}
 use Rattle.paper.specs.declared.Mode.the-variants.{Children, Absent}
 use Rattle.paper.specs.Answer.{Told, accepted, refused}
 use Rattle.paper.specs.Found.{Found, found, fault, andThen, Turn, over, stop, turnOf, manyOf, placeIn}
-use Rattle.paper.specs.Bytes.{byte, bytes, isUpper, isLower, isBlank, isWhite, isLineEnd, lengthIn, front, behind, elem, same, startsIn, startsWith, sheetBytes, lf, cr, tab, space}
+use Rattle.paper.specs.Bytes.{byte, bytes, isUpper, isLower, isBlank, isWhite, isLineEnd, lengthIn, front, behind, elem, same, startsIn, startsWith, sheetBytes, lf}
+use Rattle.paper.specs.Bytes.{cr, tab, space}
 use Rattle.paper.specs.Names.{nameLimit, run, pastRun, isName}
 use Rattle.paper.specs.Modes.{Modes, modeTable}
 use Rattle.paper.specs.Values.{is, upTo, onward}
-use Rattle.paper.specs.Tree.{LF, CRLF, Blank, Trait, Marker, Annotation, Line, blank, text, Concept, selfClosed, children, content, Body, done, Annotated, BodyPiece, blankPiece, elementPiece, before, Sheet, Ending, block, self}
+use Rattle.paper.specs.Tree.{LF, CRLF, Blank, Trait, Marker, Annotation, Line, blank, text, Concept, selfClosed, children, content, Body, done, Annotated}
+use Rattle.paper.specs.Tree.{BodyPiece, blankPiece, elementPiece, before, Sheet, Ending, block, self}
 use Rattle.paper.specs.Grammar.{tabsOnto, closingOnto, inMode}
 use Rattle.paper.specs.Limits.{sheetLimit, entryLimit, conceptLimit, listLimit}
 use Rattle.paper.specs.Entries.{entryCells, itemEntries, traitSize, traitsSize, bodySize, entries, filled}
@@ -104,7 +106,11 @@ unfoldable mutual
 -- an annotation whose "[" stood before s
 unfoldable pub annotation : ℕ → ℕ → List ℕ → Found Annotation
 annotation room tabs s =
-    andThen (textOf s) (λ t left. andThen (makes room s t left) (λ t left. andThen (lineRest left) (λ rest end. found (record { tabs = tabs; text = t; rest = rest }) end)))
+    andThen (textOf s) (λ t left. andThen (makes room s t left) (λ t left. andThen (lineRest left) (λ rest end. found (record {
+      tabs = tabs;
+      text = t;
+      rest = rest;
+    }) end)))
 
 unfoldable pub annotationTurn : ℕ → List ℕ → Turn Annotation
 annotationTurn room s =
@@ -140,7 +146,8 @@ traitTurn by room s = traitDue by room s (front isWhite s) (behind isWhite s)
 -- how a marker ends
 unfoldable pub ending : List ℕ → Found Ending
 ending [] = fault 9 []
-ending (b ∷ l) = elim (eqb b (byte ">")) [ true ↦ found block l | false ↦ andThen (due (byte "/") (b ∷ l)) (λ c left. andThen (due (byte ">") left) (λ d end. found self end)) ]
+ending (b ∷ l) =
+    elim (eqb b (byte ">")) [ true ↦ found block l | false ↦ andThen (due (byte "/") (b ∷ l)) (λ c left. andThen (due (byte ">") left) (λ d end. found self end)) ]
 
 pub record Opened : Type 0 where
   pub marker : Marker

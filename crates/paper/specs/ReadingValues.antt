@@ -7,7 +7,8 @@ use lib.ListN.{length, take, drop}
 use lib.Dec.{leb, eqb}
 use Rattle.paper.specs.Found.{Found, found, fault, andThen, Turn, more, over, stop, turnOf, manyOf, pick}
 use Rattle.paper.specs.Bytes.{byte, bytes, isHex, isWhite, isLineEnd, lengthIn, front, behind, startsWith, scalar, encode}
-use Rattle.paper.specs.Values.{Piece, direct, escaped, four, braces, pieceRule, wordForm, endsWord, listEnders, Leaf, string, character, backtick, word, Value, leaf, emptyList, list, More, close, comma}
+use Rattle.paper.specs.Values.{Piece, direct, escaped, four, braces, pieceRule, wordForm, endsWord, listEnders, Leaf, string, character, backtick, word, Value}
+use Rattle.paper.specs.Values.{leaf, emptyList, list, More, close, comma}
 
 -- ---- strings, characters and backticks
 

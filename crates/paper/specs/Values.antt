@@ -6,7 +6,8 @@ use mathlib.Core.List.{List, [], _∷_, _++_}
 use lib.ListN.{length, drop}
 use lib.Dec.{leb, eqb}
 use Rattle.paper.specs.Found.{found, fault, pick}
-use Rattle.paper.specs.Bytes.{byte, bytes, within, isUpper, isLower, isDigit, isLetter, isNameByte, isHex, isWhite, isLineEnd, all, elem, same, startsIn, front, behind, scalar, isScalar, encode, lf, cr, tab, space}
+use Rattle.paper.specs.Bytes.{byte, bytes, within, isUpper, isLower, isDigit, isLetter, isNameByte, isHex, isWhite, isLineEnd, all, elem, same, startsIn, front}
+use Rattle.paper.specs.Bytes.{behind, scalar, isScalar, encode, lf, cr, tab, space}
 
 -- ---- strings, characters and backticks
 

@@ -59,7 +59,9 @@ module _ {table s : List ℕ} {at : ℕ} {cells : List ℕ} {slot : Slot} (h : R
   pub notes-at : {line made own : ℕ} → notes ≡ Read line made own → NotesAt table s at cells slot mid line made
   notes-at {line} {made} {own} q =
       let room = slot .room - slot .next in
-      let f = found-at length length s notes (λ ns left. ReadAnnotations room (drop at s) ns left) at (annotations room (drop at s)) line made own (n .says) (annotations-reads room (drop at s)) (h .in-sheet .inside) q in
+      let f =
+      found-at length length s notes (λ ns left. ReadAnnotations room (drop at s) ns left) at (annotations room (drop at s)) line made own (n .says)
+      (annotations-reads room (drop at s)) (h .in-sheet .inside) q in
       record {
         stands = h;
         it = f .it;
@@ -106,7 +108,8 @@ module _ {table s : List ℕ} {at : ℕ} {cells : List ℕ} {slot : Slot} {mid :
     -- what the Concept makes, by the annotations
     made-concept : Makes conceptSize (λ c. 1) (wholeConcept (slot .parent) (slot .next + length noted) start tabs) s mid (slot .next + length noted) reading r after
     made-concept =
-        go (slot .next + made) (slot .room - (slot .next + made)) mark (mark - line) (omega (arith, n .many)) (omega (arith, n .many)) starts (omega (arith, run .0)) (rw lends at k)
+        go (slot .next + made) (slot .room - (slot .next + made)) mark (mark - line) (omega (arith, n .many)) (omega (arith, n .many)) starts (omega (arith, run .0))
+        (rw lends at k)
       where
         go : (number left place back : ℕ) → number ≡ slot .next + length noted → left ≡ room - length noted → place ≡ start → back ≡ tabs
             → Makes conceptSize (λ c. 1) (wholeConcept (slot .parent) number place back) s mid number
@@ -148,4 +151,5 @@ module _ {table s : List ℕ} {at : ℕ} {cells : List ℕ} {slot : Slot} {mid :
       annotated-read =
           makes-read _ _ _ _ _ _ _ (Read end (made + inside) (made + 1)) after (with-notes (the-concept .it)) end (made + inside) (made + 1) refl
           (the-concept .inside)
-          (by-concept ∙ ap (λ (x : Found Concept). andThen x (λ c left. found (with-notes c) left)) (the-concept .finds)) (omega (arith, n .many, the-concept .many)) (omega (arith, n .many)) laid
+          (by-concept ∙ ap (λ (x : Found Concept). andThen x (λ c left. found (with-notes c) left)) (the-concept .finds)) (omega (arith, n .many, the-concept .many))
+          (omega (arith, n .many)) laid

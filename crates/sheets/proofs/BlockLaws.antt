@@ -71,7 +71,8 @@ module _ {table s : List ℕ} {at : ℕ} {cells : List ℕ} {slot : Slot} (h : R
         let f = found-at bodySize bodyCount s body (λ inner left. ReadBody m bounds deeper room (drop start s) inner left) start
         (bodyOf m bounds deeper room (drop start s)) line made own (b .says)
         (body-reads m bounds (length (drop start s) + 2) deeper room (drop start s)) (rest .inside) q in
-        let starts : start ≡ at + length (blankOnto (rest .it) []) = omega (arith, ap length (rest .covers), blank-long (rest .it) (drop start s), length-drop at s, length-drop start s, rest .ahead, rest .inside) in
+        let starts : start ≡ at + length (blankOnto (rest .it) []) =
+        omega (arith, ap length (rest .covers), blank-long (rest .it) (drop start s), length-drop at s, length-drop start s, rest .ahead, rest .inside) in
         record {
           rest = rest .it;
           it = f .it;
@@ -85,7 +86,8 @@ module _ {table s : List ℕ} {at : ℕ} {cells : List ℕ} {slot : Slot} (h : R
 -- the closing marker of a Concept of this name, whose tabs end at a mark
 module _ {s : List ℕ} {at : ℕ} {cells : List ℕ} {slot : Slot} {m : Modes} {deeper : ℕ} {after : List ℕ} {line made own : ℕ}
     (body : BodyAt s at cells slot m deeper after line made own)
-    {mark : ℕ} (run : Stretch isTab s line mark) (k : Marker) {w : List ℕ} (named : k .name ≡ w) (tabs : ℕ) (last : Part) (e : seen last ≡ passed s (closing w (drop mark s))) where
+    {mark : ℕ} (run : Stretch isTab s line mark) (k : Marker) {w : List ℕ} (named : k .name ≡ w) (tabs : ℕ) (last : Part)
+    (e : seen last ≡ passed s (closing w (drop mark s))) where
   abbrev whole : Concept
   whole = children k (body .rest) (body .it) (lengthIn isTab (drop line s))
 
@@ -100,5 +102,8 @@ module _ {s : List ℕ} {at : ℕ} {cells : List ℕ} {slot : Slot} {m : Modes} 
   pub block-read : {end none few : ℕ} → last ≡ Read end none few
       → InsideAt s at tabs cells slot (blockOf m bounds deeper (slot .room - slot .next) k (drop at s)) (Read end made own) after
   block-read {end} {none} {few} q =
-      let f = found-at (λ b. 0) (λ b. 0) s last (λ b left. drop mark s ≡ closingOnto w left) mark (closing w (drop mark s)) end none few e (closing-reads w (drop mark s)) (run .2) q in
-      makes-read _ _ _ _ _ _ _ (Read end made own) after whole end made own refl (f .inside) (by-body ∙ ap (λ (x : Found ℕ). andThen x (λ b end. found whole end)) (f .finds)) (sym (body .many)) (sym (body .owned)) (body .laid)
+      let f =
+      found-at (λ b. 0) (λ b. 0) s last (λ b left. drop mark s ≡ closingOnto w left) mark (closing w (drop mark s)) end none few e (closing-reads w (drop mark s))
+      (run .2) q in
+      makes-read _ _ _ _ _ _ _ (Read end made own) after whole end made own refl (f .inside)
+      (by-body ∙ ap (λ (x : Found ℕ). andThen x (λ b end. found whole end)) (f .finds)) (sym (body .many)) (sym (body .owned)) (body .laid)

@@ -13,7 +13,8 @@ use Rattle.paper.specs.Bytes.{byte}
 use Rattle.paper.specs.Modes.{Modes}
 use Rattle.paper.specs.Tree.{Trait, Marker, Ending, block, self, Concept, selfClosed, children, content}
 use Rattle.paper.specs.Grammar.{blankOnto, traitsOnto, markerOnto, endingOnto, linesOnto, inMode}
-use Rattle.paper.specs.Entries.{Entry, unnamed, traitsSize, traitEntries, conceptSize, conceptCount, markerOf, conceptForm, conceptWidth, markerName, conceptEntry, bodyStart, insideEntries, bodyEntries}
+use Rattle.paper.specs.Entries.{Entry, unnamed, traitsSize, traitEntries, conceptSize, conceptCount, markerOf, conceptForm, conceptWidth, markerName, conceptEntry}
+use Rattle.paper.specs.Entries.{bodyStart, insideEntries, bodyEntries}
 use Rattle.paper.specs.Reading.{Opened as Marked, opening, contentOf, roomIn, conceptOf, blockOf, bounds}
 use Rattle.paper.proofs.Finds.{Reads}
 use Rattle.paper.proofs.Widths.{marker-wide}
@@ -54,9 +55,15 @@ module _ {table s : List ℕ} {at : ℕ} {cells : List ℕ} {slot : Slot} (h : R
   inside-block f b = rw (ne-eqb form 1 (λ e. omega arith), insideOf, eq-eqb form 2 f) b
 
   pub inside-content : (form ≡ 1 → ⊥) → (form ≡ 2 → ⊥) → {r : Part} {last : List ℕ}
-      → Makes (λ c. 1) (λ c. 1) (contentEntries (slot .parent) tabs at) s cells (slot .next) (contentOf tabs (slot .room - slot .next) k (drop at s)) r last → Inside r last
+      → Makes (λ c. 1) (λ c. 1) (contentEntries (slot .parent) tabs at) s cells (slot .next) (contentOf tabs (slot .room - slot .next) k (drop at s)) r last
+      → Inside r last
   unfolding insideOf
-  inside-content f g {r} {last} b = rw (ne-eqb form 1 f, insideOf, ne-eqb form 2 g) (go (contentOf tabs (slot .room - slot .next) k (drop at s)) (content-reads tabs (slot .room - slot .next) k (drop at s)) b)
+  inside-content f g {r} {last} b =
+      rw (
+        ne-eqb form 1 f,
+        insideOf,
+        ne-eqb form 2 g,
+      ) (go (contentOf tabs (slot .room - slot .next) k (drop at s)) (content-reads tabs (slot .room - slot .next) k (drop at s)) b)
     where
       go : (x : Found Concept) → Reads (drop at s) (λ c left. ReadContent tabs (slot .room - slot .next) k (drop at s) c left) x
           → Makes (λ c. 1) (λ c. 1) (contentEntries (slot .parent) tabs at) s cells (slot .next) x r last → InsideAt s at tabs cells slot x r last
@@ -93,7 +100,8 @@ count-is (content k rest lines) = refl
 
 -- those behind its own one, where its marker ends at `end`
 inside-is : (own at tabs end : ℕ) (c : Concept) → end ≡ at + length (markerOnto (markerOf c) (endingOnto (endingOf c) []))
-    → insideEntries own at tabs c ≡ traitEntries own (own + 1) (markerName at (markerOf c)) (markerOf c .traits) ++ bodyOfConcept own (own + 1 + traitsSize (markerOf c .traits)) tabs end c
+    → insideEntries own at tabs c
+    ≡ traitEntries own (own + 1) (markerName at (markerOf c)) (markerOf c .traits) ++ bodyOfConcept own (own + 1 + traitsSize (markerOf c .traits)) tabs end c
 unfolding insideEntries
 inside-is own at tabs end (selfClosed k) e = sym (append-nil (traitEntries own (own + 1) (markerName at k) (k .traits)))
 inside-is own at tabs end (children k rest body back) e =
@@ -103,7 +111,8 @@ inside-is own at tabs end (content k rest lines) e =
     let n : bodyStart at k rest ≡ end + length (blankOnto rest []) = omega (arith, marker-long k (byte ">" ∷ [])) in
     ap (λ (i : ℕ). traitEntries own (own + 1) (markerName at k) (k .traits) ++ (unnamed 5 0 own 0 i (i + length (linesOnto tabs lines [])) ∷ [])) n
 
-entry-is : (parent at tabs : ℕ) (c : Concept) (form count to end : ℕ) → form ≡ conceptForm c → count ≡ conceptCount c → to ≡ markerName at (markerOf c) → end ≡ at + conceptWidth tabs c
+entry-is : (parent at tabs : ℕ) (c : Concept) (form count to end : ℕ) → form ≡ conceptForm c → count ≡ conceptCount c → to ≡ markerName at (markerOf c)
+    → end ≡ at + conceptWidth tabs c
     → record { kind = 1; form = form; parent = parent; count = count; nameStart = at + 1; nameEnd = to; start = at; end = end } ≡ conceptEntry parent at tabs c
 entry-is parent at tabs c form count to end f n t e = rw (f, n, t, e)
 
@@ -165,14 +174,27 @@ module _ {table s : List ℕ} {at : ℕ} {cells : List ℕ} {slot : Slot} {deepe
       )
 
   marker-end : end ≡ at + length (markerOnto k (endingOnto ending []))
-  marker-end = omega (arith, ap length (marker .holds .covers), marker-long k (endingOnto ending (drop end s)), marker-long k (endingOnto ending []), go ending, length-drop at s, length-drop end s, known .stands .in-sheet .inside, marker .inside)
+  marker-end =
+      omega (
+        arith,
+        ap length (marker .holds .covers),
+        marker-long k (endingOnto ending (drop end s)),
+        marker-long k (endingOnto ending []),
+        go ending,
+        length-drop at s,
+        length-drop end s,
+        known .stands .in-sheet .inside,
+        marker .inside,
+      )
     where
       go : (e : Ending) → length (endingOnto e (drop end s)) ≡ length (endingOnto e []) + length (drop end s)
       go block = omega arith
       go self = omega arith
 
   named : k .name ≡ part s (at + 1) to
-  named = sym (part-is s (k .name) (traitsOnto (k .traits) (k .white ++ endingOnto ending (drop end s))) (at + 1) to (sym (drop-drop 1 at s) ∙ ap (drop 1) (marker .holds .covers)) (says .1))
+  named =
+      sym (part-is s (k .name) (traitsOnto (k .traits) (k .white ++ endingOnto ending (drop end s))) (at + 1) to
+      (sym (drop-drop 1 at s) ∙ ap (drop 1) (marker .holds .covers)) (says .1))
 
   -- the slot that is lent for what follows the marker
   module _ {under : Slot} (goes-under : under ≡ slotUnder slot) {next : Slot} (goes-on : next ≡ slotAfter under made) where
@@ -207,7 +229,8 @@ module _ {table s : List ℕ} {at : ℕ} {cells : List ℕ} {slot : Slot} {deepe
 
       inside-refused : (why : Refusal) (place : ℕ) → b ≡ Part.Refused why place → (r : Part) → r ≡ Part.Refused why place → (last : List ℕ)
           → ReadsConcept table s at tabs deeper cells slot r last
-      inside-refused why place g r e last = makes-passed _ _ _ _ _ _ _ r last insideSize insideCount (λ x. x) (λ n left. refl) inner why place (ap seen (e ∙ sym g) ∙ follows .says) e reading-is
+      inside-refused why place g r e last =
+          makes-passed _ _ _ _ _ _ _ r last insideSize insideCount (λ x. x) (λ n left. refl) inner why place (ap seen (e ∙ sym g) ∙ follows .says) e reading-is
 
       module _ (far more count : ℕ) (g : b ≡ Part.Read far more count) where
         it : FoundAt insideSize insideCount (λ c left. Formed k ending (formOf m (marker .it)) c) s end inner far more count
@@ -232,16 +255,20 @@ module _ {table s : List ℕ} {at : ℕ} {cells : List ℕ} {slot : Slot} {deepe
             let t : traitsSize (markerOf c .traits) ≡ made = ap (λ (k : Marker). traitsSize (k .traits)) (it .holds .marked) ∙ marker .many in
             omega (arith, size-is c, it .many)
 
-        entry : record { kind = 1; form = form; parent = slot .parent; count = own + count; nameStart = at + 1; nameEnd = to; start = at; end = far } ≡ conceptEntry (slot .parent) at tabs c
+        entry : record { kind = 1; form = form; parent = slot .parent; count = own + count; nameStart = at + 1; nameEnd = to; start = at; end = far }
+            ≡ conceptEntry (slot .parent) at tabs c
         entry =
             let t : length (markerOf c .traits) ≡ own = ap (λ (k : Marker). length (k .traits)) (it .holds .marked) ∙ marker .owned in
-            entry-is (slot .parent) at tabs c form (own + count) to far (says .0 ∙ sym (it .holds .form)) (omega (arith, count-is c, it .owned)) (says .1 ∙ ap (markerName at) (sym (it .holds .marked)))
+            entry-is (slot .parent) at tabs c form (own + count) to far (says .0 ∙ sym (it .holds .form)) (omega (arith, count-is c, it .owned))
+            (says .1 ∙ ap (markerName at) (sym (it .holds .marked)))
             (omega (arith, ap length (read .covers), concept-long c tabs (drop far s), length-drop at s, length-drop far s, known .stands .in-sheet .inside, it .inside))
 
         behind-own : insideEntries (slot .next) at tabs c ≡ enteredBy (slot .next) (at + 1) (marker .it) ++ bodyOfConcept (slot .next) (slot .next + 1 + made) tabs end c
         behind-own =
-            inside-is (slot .next) at tabs end c (marker-end ∙ ap₂ (λ (k : Marker) (e : Ending). at + length (markerOnto k (endingOnto e []))) (sym (it .holds .marked)) (sym (it .holds .ends)))
-            ∙ ap (λ (k : Marker). traitEntries (slot .next) (slot .next + 1) (markerName at k) (k .traits) ++ bodyOfConcept (slot .next) (slot .next + 1 + traitsSize (k .traits)) tabs end c) (it .holds .marked)
+            inside-is (slot .next) at tabs end c (marker-end ∙ ap₂ (λ (k : Marker) (e : Ending). at + length (markerOnto k (endingOnto e []))) (sym (it .holds .marked))
+            (sym (it .holds .ends)))
+            ∙ ap (λ (k : Marker). traitEntries (slot .next) (slot .next + 1) (markerName at k) (k .traits) ++ bodyOfConcept (slot .next)
+            (slot .next + 1 + traitsSize (k .traits)) tabs end c) (it .holds .marked)
             ∙ ap (λ (n : ℕ). enteredBy (slot .next) (at + 1) (marker .it) ++ bodyOfConcept (slot .next) (slot .next + 1 + n) tabs end c) (marker .many)
 
         left-is : left ≡ lay cells (slot .next + 1) (insideEntries (slot .next) at tabs c)
@@ -268,7 +295,8 @@ module _ {table s : List ℕ} {at : ℕ} {cells : List ℕ} {slot : Slot} {deepe
             → ReadsConcept table s at tabs deeper cells slot r last
         inside-ended r last e l =
             makes-read _ _ _ _ _ _ _ r last c far (1 + made + more) 1 e (it .inside) finds (sym size) refl
-            (l ∙ ap₂ (λ (x : List ℕ) (e : Entry). lay x (slot .next) (e ∷ [])) left-is entry ∙ lay-before cells (slot .next) (conceptEntry (slot .parent) at tabs c) (insideEntries (slot .next) at tabs c))
+            (l ∙ ap₂ (λ (x : List ℕ) (e : Entry). lay x (slot .next) (e ∷ [])) left-is entry ∙ lay-before cells (slot .next) (conceptEntry (slot .parent) at tabs c)
+            (insideEntries (slot .next) at tabs c))
 
       pub may-end : length left ≡ length cells → Ends left slot b at to made own
       may-end held =

@@ -15,7 +15,13 @@ use Rattle.lines.proofs.Lengths.{tabs-long, blank-long, notes-long, lines-long}
 pub trait-long : (t : Trait) (next : List ℕ) → length (traitOnto t next) ≡ length (t .white) + length (t .name) + 1 + length (spelling (t .value)) + length next
 trait-long t next =
     let value = valueOnto (t .value) next in
-    omega (arith, length-append (t .white) (t .name ++ (byte "=" ∷ value)), length-append (t .name) (byte "=" ∷ value), ap length (value-append (t .value) next), length-append (spelling (t .value)) next)
+    omega (
+      arith,
+      length-append (t .white) (t .name ++ (byte "=" ∷ value)),
+      length-append (t .name) (byte "=" ∷ value),
+      ap length (value-append (t .value) next),
+      length-append (spelling (t .value)) next,
+    )
 
 traits-long : (ts : List Trait) (next : List ℕ) → length (traitsOnto ts next) ≡ length (traitsOnto ts []) + length next
 unfolding traitsOnto
@@ -26,7 +32,15 @@ pub marker-long : (k : Marker) (next : List ℕ) → length (markerOnto k next) 
 marker-long k next =
     let more = k .white ++ next in
     let none = k .white ++ [] in
-    omega (arith, length-append (k .name) (traitsOnto (k .traits) more), length-append (k .name) (traitsOnto (k .traits) none), traits-long (k .traits) more, traits-long (k .traits) none, length-append (k .white) next, length-append (k .white) [])
+    omega (
+      arith,
+      length-append (k .name) (traitsOnto (k .traits) more),
+      length-append (k .name) (traitsOnto (k .traits) none),
+      traits-long (k .traits) more,
+      traits-long (k .traits) none,
+      length-append (k .white) next,
+      length-append (k .white) [],
+    )
 
 closing-long : (w next : List ℕ) → length (closingOnto w next) ≡ length (closingOnto w []) + length next
 closing-long w next = omega (arith, length-append w (byte ">" ∷ next), length-append w (byte ">" ∷ []))
@@ -39,11 +53,36 @@ mutual
   concept-long (children k rest inner back) tabs next =
       let more = tabsOnto back (closingOnto (k .name) next) in
       let none = tabsOnto back (closingOnto (k .name) []) in
-      omega (arith, marker-long k (endingOnto block (blankOnto rest (bodyOnto inner more))), marker-long k (endingOnto block (blankOnto rest (bodyOnto inner none))), blank-long rest (bodyOnto inner more), blank-long rest (bodyOnto inner none), body-long inner more, body-long inner none, tabs-long back (closingOnto (k .name) next), tabs-long back (closingOnto (k .name) []), closing-long (k .name) next)
+      omega (
+        arith,
+        marker-long k (endingOnto block (blankOnto rest (bodyOnto inner more))),
+        marker-long k (endingOnto block (blankOnto rest (bodyOnto inner none))),
+        blank-long rest (bodyOnto inner more),
+        blank-long rest (bodyOnto inner none),
+        body-long inner more,
+        body-long inner none,
+        tabs-long back
+            (closingOnto (k .name) next),
+        tabs-long back (closingOnto (k .name) []),
+        closing-long (k .name) next,
+      )
   concept-long (content k rest lines) tabs next =
       let more = tabsOnto tabs (closingOnto (k .name) next) in
       let none = tabsOnto tabs (closingOnto (k .name) []) in
-      omega (arith, marker-long k (endingOnto block (blankOnto rest (linesOnto tabs lines more))), marker-long k (endingOnto block (blankOnto rest (linesOnto tabs lines none))), blank-long rest (linesOnto tabs lines more), blank-long rest (linesOnto tabs lines none), lines-long tabs lines more, lines-long tabs lines none, tabs-long tabs (closingOnto (k .name) next), tabs-long tabs (closingOnto (k .name) []), closing-long (k .name) next)
+      omega (
+        arith,
+        marker-long k (endingOnto block (blankOnto rest (linesOnto tabs lines more))),
+        marker-long k (endingOnto block (blankOnto rest (linesOnto tabs lines none))),
+        blank-long rest (linesOnto tabs lines more),
+        blank-long rest
+            (linesOnto tabs lines none),
+        lines-long tabs lines more,
+        lines-long tabs lines none,
+        tabs-long tabs (closingOnto (k .name) next),
+        tabs-long tabs
+            (closingOnto (k .name) []),
+        closing-long (k .name) next,
+      )
 
   pub body-long : (b : Body) (next : List ℕ) → length (bodyOnto b next) ≡ length (bodyOnto b []) + length next
   body-long done next = omega arith
@@ -51,7 +90,19 @@ mutual
   body-long (element notes tabs c rest inner) next =
       let more = blankOnto rest (bodyOnto inner next) in
       let none = blankOnto rest (bodyOnto inner []) in
-      omega (arith, notes-long notes (tabsOnto tabs (conceptOnto tabs c more)), notes-long notes (tabsOnto tabs (conceptOnto tabs c none)), tabs-long tabs (conceptOnto tabs c more), tabs-long tabs (conceptOnto tabs c none), concept-long c tabs more, concept-long c tabs none, blank-long rest (bodyOnto inner next), blank-long rest (bodyOnto inner []), body-long inner next)
+      omega (
+        arith,
+        notes-long notes (tabsOnto tabs (conceptOnto tabs c more)),
+        notes-long notes (tabsOnto tabs (conceptOnto tabs c none)),
+        tabs-long tabs (conceptOnto tabs c more),
+        tabs-long tabs (conceptOnto tabs c none),
+        concept-long c tabs more,
+        concept-long c tabs none,
+        blank-long rest
+            (bodyOnto inner next),
+        blank-long rest (bodyOnto inner []),
+        body-long inner next,
+      )
 
 -- no more entries name the Concept as parent than there are
 concept-some : (c : Concept) → 1 ≤ conceptSize c

@@ -105,9 +105,12 @@ end-passed s a x e = told a ∙ ap unclosed e ∙ found-as x
     found-as (fault n left) = refl
 
 -- the ending that is told is the one that is found
-end-found : (s : List ℕ) (mark : ℕ) → mark ≤ length s → (a : Ending) → ended a ≡ endedOf s (ending (drop mark s)) → (e : Ends) (end : ℕ) → a ≡ endAs e end → (ending (drop mark s) ≡ found e (drop end s)) × (end ≤ length s)
+end-found : (s : List ℕ) (mark : ℕ) → mark ≤ length s → (a : Ending) → ended a ≡ endedOf s (ending (drop mark s)) → (e : Ends) (end : ℕ) → a ≡ endAs e end
+    → (ending (drop mark s) ≡ found e (drop end s)) × (end ≤ length s)
 end-found s mark h a says e end q =
-    let f = found-at (λ e. 0) (λ e. 0) s (endPart a) _ mark (ending (drop mark s)) end 0 0 (end-passed s a (ending (drop mark s)) says) (ending-reads (drop mark s)) h (ap endPart q ∙ read e) in
+    let f =
+    found-at (λ e. 0) (λ e. 0) s (endPart a) _ mark (ending (drop mark s)) end 0 0 (end-passed s a (ending (drop mark s)) says) (ending-reads (drop mark s)) h
+    (ap endPart q ∙ read e) in
     (f .finds ∙ ap (λ (i : Ends). found i (drop end s)) (same e (f .it) (drop end s) (sym (ap ended q) ∙ says ∙ ap (endedOf s) (f .finds))), f .inside)
   where
     read : (e : Ends) → endPart (endAs e end) ≡ Read end 0 0
@@ -205,7 +208,9 @@ module _ {s : List ℕ} {to : ℕ} (place : In s to) {cells : List ℕ} {slot : 
               many = f .many;
               owned = f .owned;
               inside = white .2;
-              laid = made-traits .laid (f .it) (drop end s) (f .finds) ∙ ap (λ (at : ℕ). lay cells (slot .next + 1) (traitEntries (slot .next) (slot .next + 1) at (f .it))) wide;
+              laid =
+                  made-traits .laid (f .it) (drop end s) (f .finds)
+                  ∙ ap (λ (at : ℕ). lay cells (slot .next + 1) (traitEntries (slot .next) (slot .next + 1) at (f .it))) wide;
             }
 
 -- its ending

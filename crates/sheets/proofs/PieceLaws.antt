@@ -30,7 +30,8 @@ use Rattle.lines.specs.declared.part.Part.the-variants.{Read, Refused}
 use Rattle.lines.proofs.Crossing.{further, FoundAt, found-at, makes-passed, makes-read, makes-same}
 use Rattle.lines.proofs.Ends.{RestAt}
 use Rattle.lines.proofs.Turns.{makes-behind}
-use Rattle.sheets.specs.Concepts.{Ready, annotatedSize, annotatedCount, annotatedEntries, ReadsAnnotated, ReadsChildren, pieceSize, pieceCount, pieceEntries, ReadsPiece}
+use Rattle.sheets.specs.Concepts.{Ready, annotatedSize, annotatedCount, annotatedEntries, ReadsAnnotated, ReadsChildren, pieceSize, pieceCount, pieceEntries}
+use Rattle.sheets.specs.Concepts.{ReadsPiece}
 use Rattle.sheets.proofs.Lengths.{body-long, body-few}
 use Rattle.sheets.proofs.Bodies.{before-size, before-count, before-entries, onward, body-over, body-on}
 
@@ -87,7 +88,9 @@ module _ {table s : List ℕ} {at : ℕ} {cells : List ℕ} {slot : Slot} (h : R
 
         by-concept : pieceOf (modesOf table) bounds deeper room (drop at s) ≡ ofConcept noted
         by-concept =
-            let t = found-at (λ n. 0) (λ n. 0) s tabs (λ n mark. mark ≡ behind isTab (drop at s)) at (tabsOnly (drop at s)) line none no told (only-reads (drop at s)) (h .in-sheet .inside) passes in
+            let t =
+            found-at (λ n. 0) (λ n. 0) s tabs (λ n mark. mark ≡ behind isTab (drop at s)) at (tabsOnly (drop at s)) line none no told (only-reads (drop at s))
+            (h .in-sheet .inside) passes in
             by-tabs ∙ ap ofTabs (t .finds)
 
         pub concept-refused : {why : Refusal} {place : ℕ} → r ≡ Refused why place → Piece r after
@@ -99,7 +102,14 @@ module _ {table s : List ℕ} {at : ℕ} {cells : List ℕ} {slot : Slot} (h : R
         concept-at {end} {made} {own} q =
             let f = found-at annotatedSize annotatedCount s r _ at noted end made own (one .says)
             (annotated-reads (modesOf table) bounds deeper room (drop at s)) (h .in-sheet .inside) q in
-            record { it = f .it; finds = by-concept ∙ ap ofConcept (f .finds); many = f .many; owned = f .owned; inside = f .inside; laid = one .laid (f .it) (drop end s) (f .finds) }
+            record {
+              it = f .it;
+              finds = by-concept ∙ ap ofConcept (f .finds);
+              many = f .many;
+              owned = f .owned;
+              inside = f .inside;
+              laid = one .laid (f .it) (drop end s) (f .finds);
+            }
 
 module _ {table s : List ℕ} {at deeper : ℕ} {cells : List ℕ} {slot : Slot} {after : List ℕ} {end made own : ℕ}
     (concept : ConceptAt table s at deeper cells slot after end made own) where
@@ -111,7 +121,8 @@ module _ {table s : List ℕ} {at deeper : ℕ} {cells : List ℕ} {slot : Slot}
 
   pub rest-refused : (rest : Part) → seen rest ≡ passed s (lineRest (drop end s)) → {why : Refusal} {place : ℕ} → rest ≡ Refused why place
       → ReadsPiece table s at deeper cells slot rest after
-  rest-refused rest e {why} {place} q = makes-passed _ _ _ _ _ _ _ rest after (λ b. 0) (λ b. 0) ofRest (λ n left. refl) (lineRest (drop end s)) why place e q (concept .finds)
+  rest-refused rest e {why} {place} q =
+      makes-passed _ _ _ _ _ _ _ rest after (λ b. 0) (λ b. 0) ofRest (λ n left. refl) (lineRest (drop end s)) why place e q (concept .finds)
 
   same-entries : (rest : Blank) → annotatedEntries (slot .parent) (slot .next) at (concept .it) ≡ pieceEntries (slot .parent) (slot .next) at (ended rest)
   unfolding insideEntries
@@ -174,7 +185,8 @@ module _ {table s : List ℕ} {at deeper : ℕ} {lent : List ℕ} {slot : Slot} 
   unfolding conceptSize bodyCount insideEntries
   pieces-over n =
       so-far .goes-on (Read i made own) cells
-      (makes-read _ _ _ _ _ _ reading (Read i made own) cells done i made own refl (so-far .inside) (body-over m deeper left (drop i s) (sym asked ∙ not-false o n)) (sym (add-zero made)) (sym (add-zero own)) (sym (lay-none cells (slot .next + made))))
+      (makes-read _ _ _ _ _ _ reading (Read i made own) cells done i made own refl (so-far .inside) (body-over m deeper left (drop i s) (sym asked ∙ not-false o n))
+      (sym (add-zero made)) (sym (add-zero own)) (sym (lay-none cells (slot .next + made))))
 
   module _ (n : not o ≡ true) where
     by-piece : reading ≡ andThen (pieceOf m bounds deeper left (drop i s)) (onward m deeper left)

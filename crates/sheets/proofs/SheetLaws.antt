@@ -133,7 +133,8 @@ module _ (m : Modes) (s cells : List ℕ) where
   module _ (blanks : Part) (e : seen blanks ≡ passed s (blankLines (drop 0 s))) where
     pub before-refused : (after : List ℕ) (why : Refusal) (place : ℕ) → blanks ≡ Refused why place → Grows blanks after
     before-refused after why place q =
-        makes-passed sheetSize rootCount entries s cells 0 tree blanks after (λ b. 0) (λ b. 0) (λ x. andThen x led) (λ k left. refl) (blankLines s) why place e q by-blanks
+        makes-passed sheetSize rootCount entries s cells 0 tree blanks after (λ b. 0) (λ b. 0) (λ x. andThen x led) (λ k left. refl)
+        (blankLines s) why place e q by-blanks
 
     module _ (first made mine : ℕ) (q : blanks ≡ Read first made mine) (tabs : Part) (f : seen tabs ≡ passed s (tabsOnly (drop first s))) where
       it : FoundAt (λ b. 0) (λ b. 0) (λ bs left. ReadBlanks s bs left) s 0 (blankLines s) first made mine
@@ -144,11 +145,14 @@ module _ (m : Modes) (s cells : List ℕ) where
 
       pub tabs-refused : (after : List ℕ) (why : Refusal) (place : ℕ) → tabs ≡ Refused why place → Grows tabs after
       tabs-refused after why place r =
-          makes-passed sheetSize rootCount entries s cells 0 tree tabs after (λ n. 0) (λ n. 0) (λ x. andThen x (λ n mark. rooted (it .it) (drop first s))) (λ k left. refl) (tabsOnly (drop first s)) why place f r by-tabs
+          makes-passed sheetSize rootCount entries s cells 0 tree tabs after (λ n. 0) (λ n. 0) (λ x. andThen x (λ n mark. rooted (it .it) (drop first s)))
+          (λ k left. refl) (tabsOnly (drop first s)) why place f r by-tabs
 
       pub tabs-led : (mark some own : ℕ) → tabs ≡ Read mark some own → Led first
       tabs-led mark some own r =
-          let t = found-at (λ n. 0) (λ n. 0) s tabs (λ n left. left ≡ behind isTab (drop first s)) first (tabsOnly (drop first s)) mark some own f (only-reads (drop first s)) (it .inside) r in
+          let t =
+          found-at (λ n. 0) (λ n. 0) s tabs (λ n left. left ≡ behind isTab (drop first s)) first (tabsOnly (drop first s)) mark some own f (only-reads (drop first s))
+          (it .inside) r in
           record {
             before = it .it;
             starts = omega (arith, ap length (it .holds .covers), blanks-long (it .it) (drop first s), length-drop first s, it .inside);
@@ -177,7 +181,8 @@ module _ (m : Modes) (s cells : List ℕ) where
 
     pub root-refused : (why : Refusal) (place : ℕ) → r ≡ Refused why place → Grows r after
     root-refused why place q =
-        makes-passed sheetSize rootCount entries s cells 0 tree r after annotatedSize annotatedCount (λ x. andThen x (ended (l .before))) (λ k left. refl) reads why place (roots .says) q (l .same)
+        makes-passed sheetSize rootCount entries s cells 0 tree r after annotatedSize annotatedCount (λ x. andThen x (ended (l .before))) (λ k left. refl) reads why place
+        (roots .says) q (l .same)
 
     pub root-read : (end made own : ℕ) → r ≡ Read end made own → RootAt end made own after
     root-read end made own q =
@@ -205,7 +210,8 @@ module _ (m : Modes) (s cells : List ℕ) where
         let t = found-at (λ t. 0) (λ t. 0) s r (λ t left. ReadSheet m bounds conceptLimit (roomOf (length cells)) s t left) 0 tree last some mine rests
         (sheet-reads m bounds conceptLimit (roomOf (length cells)) s) (omega arith) q in
         let of = ended-rooted (root .before) (root .root) (drop end s) (t .it) (drop last s) (sym (root .same) ∙ t .finds) in
-        makes-read sheetSize rootCount entries s cells 0 tree (Read last made own) after (t .it) last made own refl (t .inside) (t .finds) (root .size ∙ sym (of .size)) (root .count ∙ sym (of .count))
+        makes-read sheetSize rootCount entries s cells 0 tree (Read last made own) after (t .it) last made own refl (t .inside) (t .finds) (root .size ∙ sym (of .size))
+        (root .count ∙ sym (of .count))
         (root .laid ∙ ap (lay cells 0) (sym (of .are)))
 
 -- the root is read with the room that the cells have
@@ -242,7 +248,9 @@ module _ (m : Modes) (s cells : List ℕ) where
 
   pub sheet-long : (after : List ℕ) → sheetLimit < length s → Reads s cells sheet (refused 2 sheetLimit) after
   unfolding sheetOf
-  sheet-long after h = faulty (refused 2 sheetLimit) after 2 (drop sheetLimit s) (rw (lt-ltb sheetLimit (length s) h, sheetOf)) (ap (refused 2) (sym (place-back s sheetLimit (omega arith))))
+  sheet-long after h =
+      faulty (refused 2 sheetLimit) after 2 (drop sheetLimit s) (rw (lt-ltb sheetLimit (length s) h, sheetOf))
+      (ap (refused 2) (sym (place-back s sheetLimit (omega arith))))
 
   module _ (h : length s ≤ sheetLimit) where
     abbrev tree-of : Found (List ℕ) → Found Sheet
@@ -296,7 +304,8 @@ all-zero cells =
     rw z (rw (lay-none cells 0, z) at (lay-filled cells [] (omega arith)))
 
 module _ (table s cells : List ℕ) where
-  pub table-refused : (a : Answer) (why : Refusal) (p : ℕ) → told a ≡ readTable table → a ≡ Answer.Refused why p → (after : List ℕ) → after ≡ sets cells 0 (replicate (length cells - 0) 0)
+  pub table-refused : (a : Answer) (why : Refusal) (p : ℕ) → told a ≡ readTable table → a ≡ Answer.Refused why p → (after : List ℕ)
+      → after ≡ sets cells 0 (replicate (length cells - 0) 0)
       → answers (told a) after ≡ reading table s (length cells)
   unfolding reading readTable
   table-refused a why p e q after z = go (modeTable table) refl
@@ -305,7 +314,8 @@ module _ (table s cells : List ℕ) where
       go (found m left) f = absurd (number-positive why (number-told (rw (q, readTable, f) at e)))
       go (fault n left) f = rw (f, reading) (ap₂ answers (rw (readTable, f) at e) (z ∙ all-zero cells))
 
-  module _ (r : Answer) (mid : List ℕ) (count : ℕ) (g : Reads s cells (sheet (modesOf table) s cells) (told r) mid) (same : length mid ≡ length cells) (n : count ≡ told r .count) where
+  module _ (r : Answer) (mid : List ℕ) (count : ℕ) (g : Reads s cells (sheet (modesOf table) s cells) (told r) mid) (same : length mid ≡ length cells)
+      (n : count ≡ told r .count) where
     pub count-fits : count * entryCells ≤ length mid
     count-fits = go (sheet (modesOf table) s cells) (finds-fits (modesOf table) (roomOf (length cells)) s) (g .says)
       where
@@ -313,12 +323,14 @@ module _ (table s cells : List ℕ) where
         go (found t left) h e = omega (arith, h, ap (λ (a : Told). a .count) e)
         go (fault k left) h e = omega (arith, ap (λ (a : Told). a .count) e)
 
-    pub sheet-done : (after : List ℕ) → Valid table → after ≡ sets mid (count * entryCells) (replicate (length mid - count * entryCells) 0) → answers (told r) after ≡ reading table s (length cells)
+    pub sheet-done : (after : List ℕ) → Valid table → after ≡ sets mid (count * entryCells) (replicate (length mid - count * entryCells) 0)
+        → answers (told r) after ≡ reading table s (length cells)
     unfolding reading
     sheet-done after v z = go (sheet (modesOf table) s cells) refl (g .says)
       where
         cleared : (t : Sheet) → mid ≡ lay cells 0 (entries t) → count ≡ length (entries t)
-            → sets mid (count * entryCells) (replicate (length mid - count * entryCells) 0) ≡ sets (lay cells 0 (entries t)) (length (entries t) * entryCells) (replicate (length cells - length (entries t) * entryCells) 0)
+            → sets mid (count * entryCells) (replicate (length mid - count * entryCells) 0)
+            ≡ sets (lay cells 0 (entries t)) (length (entries t) * entryCells) (replicate (length cells - length (entries t) * entryCells) 0)
         cleared t l many = rw (same, l, many)
 
         go : (x : Found Sheet) → sheet (modesOf table) s cells ≡ x → told r ≡ answerOf s x → answers (told r) after ≡ reading table s (length cells)
@@ -327,4 +339,9 @@ module _ (table s cells : List ℕ) where
             rw (v, reading, f) (ap₂ answers e (z ∙ cleared t (g .laid t left f) many ∙ lay-filled cells (entries t) (omega (arith, count-fits))))
         go (fault k left) f e =
             let none : count ≡ 0 = n ∙ ap (λ (a : Told). a .count) e in
-            rw (v, reading, f) (ap₂ answers e (z ∙ ap (λ (k : ℕ). sets mid (k * entryCells) (replicate (length mid - k * entryCells) 0)) none ∙ all-zero mid ∙ ap (λ (k : ℕ). replicate k 0) same))
+            rw (
+              v,
+              reading,
+              f,
+            ) (ap₂ answers e (z ∙ ap (λ (k : ℕ). sets mid (k * entryCells) (replicate (length mid - k * entryCells) 0)) none ∙ all-zero mid ∙ ap
+            (λ (k : ℕ). replicate k 0) same))

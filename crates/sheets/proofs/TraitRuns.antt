@@ -43,10 +43,12 @@ own-with own ts = own + length ts
 
 abbrev Rest : List ℕ → Slot → List ℕ → ℕ → ℕ → ℕ → Part → List ℕ → Type 0
 Rest s slot cells i made own r after =
-    Makes (made-with made) (own-with own) (traitEntries (slot .parent) (slot .next + made) i) s cells (slot .next + made) (traitsOf (slot .room - (slot .next + made)) (drop i s)) r after
+    Makes (made-with made) (own-with own) (traitEntries (slot .parent) (slot .next + made) i) s cells (slot .next + made)
+    (traitsOf (slot .room - (slot .next + made)) (drop i s)) r after
 
 abbrev All : List ℕ → ℕ → List ℕ → Slot → Part → List ℕ → Type 0
-All s at cells slot r after = Makes traitsSize length (traitEntries (slot .parent) (slot .next) at) s cells (slot .next) (traitsOf (slot .room - slot .next) (drop at s)) r after
+All s at cells slot r after =
+    Makes traitsSize length (traitEntries (slot .parent) (slot .next) at) s cells (slot .next) (traitsOf (slot .room - slot .next) (drop at s)) r after
 
 -- what the turns so far leave
 pub record Traits (s : List ℕ) (at : ℕ) (lent : List ℕ) (slot : Slot) (cells : List ℕ) (i made own : ℕ) : Type 0 where
@@ -63,7 +65,8 @@ traits-begin s at cells slot h f = record {
   some = omega arith;
   held = refl;
   onward = λ r after k.
-      makes-same (made-with 0) (own-with 0) traitsSize length (traitEntries (slot .parent) (slot .next) at) s cells (slot .next) (traitsOf (slot .room - slot .next) (drop at s)) r after
+      makes-same (made-with 0) (own-with 0) traitsSize length (traitEntries (slot .parent) (slot .next) at) s cells (slot .next)
+      (traitsOf (slot .room - slot .next) (drop at s)) r after
       (λ ts. zero-add (traitsSize ts)) (λ ts. zero-add (length ts)) (rw (add-zero (slot .next)) at k);
 }
 
@@ -103,14 +106,16 @@ module _ {s : List ℕ} {at : ℕ} {lent : List ℕ} {slot : Slot} {cells : List
       → (many mine : Trait → ℕ) → seen r ≡ seenOf many mine s x → All s at lent slot r after
   stopped x t r why place after q many mine e =
       so-far .onward r after
-      (makes-stop traitSize (traitTurn bounds) (trait-shorter bounds) left (drop i s) many mine turnOf (λ k rest. refl) (made-with made) (own-with own) (traitEntries (slot .parent) (slot .next + made) i) s cells (slot .next + made) x r after
+      (makes-stop traitSize (traitTurn bounds) (trait-shorter bounds) left (drop i s) many mine turnOf (λ k rest. refl) (made-with made) (own-with own)
+      (traitEntries (slot .parent) (slot .next + made) i) s cells (slot .next + made) x r after
       why place e q t)
 
   module _ {mark : ℕ} (run : Stretch isWhite s i mark) where
     pub traits-cut : mark ≡ length s → {r : Part} → r ≡ Refused Cut (length s) → All s at lent slot r cells
     unfolding traitTurn traitDue
     traits-cut h {r} q =
-        stopped (fault 9 []) (rw (behind-none isWhite s i mark run (omega arith))) r Cut (length s) cells q (λ t. 0) (λ t. 0) (says-cut {A = Trait} (λ t. 0) (λ t. 0) s (fault 9 []) r q refl)
+        stopped (fault 9 []) (rw (behind-none isWhite s i mark run (omega arith))) r Cut (length s) cells q (λ t. 0) (λ t. 0)
+        (says-cut {A = Trait} (λ t. 0) (λ t. 0) s (fault 9 []) r q refl)
 
     module _ (h : mark < length s) where
       by-mark : traitTurn bounds left (drop i s) ≡ traitDue bounds left (drop i s) white (getD s mark 0 ∷ drop (mark + 1) s)
@@ -124,7 +129,8 @@ module _ {s : List ℕ} {at : ℕ} {lent : List ℕ} {slot : Slot} {cells : List
       unfolding traitEntries traitsSize
       traits-over e {r} q =
           so-far .onward r cells
-          (makes-over traitSize (traitTurn bounds) (trait-shorter bounds) left (drop i s) (made-with made) (own-with own) (traitEntries (slot .parent) (slot .next + made) i) s cells (slot .next + made) r i made own
+          (makes-over traitSize (traitTurn bounds) (trait-shorter bounds) left (drop i s) (made-with made) (own-with own)
+          (traitEntries (slot .parent) (slot .next + made) i) s cells (slot .next + made) r i made own
           (by-mark ∙ ends-marker bounds left (drop i s) white (getD s mark 0) (drop (mark + 1) s) e) q (so-far .inside) (sym (add-zero made)) (sym (add-zero own)) refl)
 
       module _ (e : elem (getD s mark 0) (bytes ">/") ≡ false) where
@@ -132,16 +138,19 @@ module _ {s : List ℕ} {at : ℕ} {lent : List ℕ} {slot : Slot} {cells : List
         traits-due n {r} q =
             let none : leb 1 (length white) ≡ false = lt-leb 1 (length white) (omega (arith, white-long)) in
             let turn = by-mark ∙ no-white bounds left (drop i s) white (getD s mark 0) (drop (mark + 1) s) e none ∙ ap (stop 7) (sym (here s mark h)) in
-            stopped (fault 7 (drop mark s)) turn r Due mark cells q (λ t. 0) (λ t. 0) (says-refused {A = Trait} (λ t. 0) (λ t. 0) s (fault 7 (drop mark s)) r Due mark q (run .2) refl)
+            stopped (fault 7 (drop mark s)) turn r Due mark cells q (λ t. 0) (λ t. 0)
+            (says-refused {A = Trait} (λ t. 0) (λ t. 0) s (fault 7 (drop mark s)) r Due mark q (run .2) refl)
 
         a-trait : i < mark → traitTurn bounds left (drop i s) ≡ turnOf (trait bounds left white (drop mark s))
         a-trait w =
             let some : leb 1 (length white) ≡ true = le-leb 1 (length white) (omega (arith, white-long)) in
-            by-mark ∙ some-white bounds left (drop i s) white (getD s mark 0) (drop (mark + 1) s) e some ∙ ap (λ (l : List ℕ). turnOf (trait bounds left white l)) (sym (here s mark h))
+            by-mark ∙ some-white bounds left (drop i s) white (getD s mark 0) (drop (mark + 1) s) e some
+            ∙ ap (λ (l : List ℕ). turnOf (trait bounds left white l)) (sym (here s mark h))
 
     -- one more
     module _ (due : Begins s i mark) {next : Slot} (lends : next ≡ slotAfter slot made) {r : Part} {after : List ℕ}
-        (one : (w : List ℕ) → Makes traitSize (λ t. 1) (oneTrait (next .parent) (next .next) mark) s cells (next .next) (trait bounds (next .room - next .next) w (drop mark s)) r after) where
+        (one : (w : List ℕ) → Makes traitSize (λ t. 1) (oneTrait (next .parent) (next .next) mark) s cells (next .next)
+        (trait bounds (next .room - next .next) w (drop mark s)) r after) where
       abbrev number : ℕ
       number = slot .next + made
 
@@ -179,7 +188,18 @@ module _ {s : List ℕ} {at : ℕ} {lent : List ℕ} {slot : Slot} {cells : List
         ends : i + length (traitOnto one-more []) ≡ end
         ends =
             let v = one-more .value in
-            omega (arith, starts, trait-long one-more [], ap length (it .holds .covers), length-append (one-more .name) (byte "=" ∷ valueOnto v (drop end s)), value-length v (drop end s), length-drop mark s, length-drop end s, run .2, it .inside)
+            omega (
+              arith,
+              starts,
+              trait-long one-more [],
+              ap length (it .holds .covers),
+              length-append (one-more .name) (byte "=" ∷ valueOnto v (drop end s)),
+              value-length v (drop end s),
+              length-drop mark s,
+              length-drop end s,
+              run .2,
+              it .inside,
+            )
 
         laid-as : (ts : List Trait) → traitEntries (slot .parent) number i (one-more ∷ ts) ≡ entries-of ++ traitEntries (slot .parent) (number + length entries-of) end ts
         unfolding traitEntries
@@ -197,9 +217,11 @@ module _ {s : List ℕ} {at : ℕ} {lent : List ℕ} {slot : Slot} {cells : List
               let same : slot .next + (made + more) ≡ wide = omega (arith, long, it .many) in
               let fewer : slot .room - wide ≡ left - traitSize one-more = omega (arith, long) in
               so-far .onward other cells′
-              (makes-more traitSize (traitTurn bounds) (trait-shorter bounds) left (drop i s) (made-with made) (own-with own) (traitEntries (slot .parent) number i) (traitEntries (slot .parent) wide end)
+              (makes-more traitSize (traitTurn bounds) (trait-shorter bounds) left (drop i s) (made-with made) (own-with own) (traitEntries (slot .parent) number i)
+              (traitEntries (slot .parent) wide end)
               entries-of s cells after number one-more (drop end s) other cells′ (turn ∙ ap turnOf (it .finds)) laid-as (entered .laid one-more (drop end s) (it .finds))
-              (makes-same (made-with (made + more)) (own-with (own + 1)) _ _ (traitEntries (slot .parent) wide end) s after wide (traitsOf (left - traitSize one-more) (drop end s)) other cells′
+              (makes-same (made-with (made + more)) (own-with (own + 1)) _ _ (traitEntries (slot .parent) wide end) s after wide
+              (traitsOf (left - traitSize one-more) (drop end s)) other cells′
               (λ ts. omega (arith, it .many)) (λ ts. omega arith)
               (rw (same, fewer) at k)));
         }

@@ -53,7 +53,9 @@ module _ (s cells : List ℕ) (n : ℕ) where
   -- no part
   module _ (e : Nowhere ≡ spanOf s cells n) where
     unseen : viewable s cells n ≡ false
-    unseen = split (viewable s cells n) (λ v. let z : _≡_ {A = Span} Nowhere (Part (spanStart cells n) (spanEnd cells n)) = rw v at e in let o : _≡_ {A = ℕ} 0 1 = cc in absurd (omega arith)) (λ v. v)
+    unseen =
+        split (viewable s cells n) (λ v. let z : _≡_ {A = Span} Nowhere (Part (spanStart cells n) (spanEnd cells n)) = rw v at e in let o : _≡_ {A = ℕ} 0 1 = cc in absurd
+        (omega arith)) (λ v. v)
 
     pub view-none : [] ≡ viewed s cells n
     unfolding viewed

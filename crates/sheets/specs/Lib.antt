@@ -3,3 +3,4 @@ pub mod Traits
 pub mod Opening
 pub mod Concepts
 pub mod Sheets
+pub mod Promises

@@ -47,7 +47,8 @@ abbrev pub enteredBy : ℕ → ℕ → Marker → List Entry
 enteredBy own at o = traitEntries own (own + 1) (at + length (o .marker .name)) (o .marker .traits)
 
 -- what is answered and written where the marker is found as x, and its name starts at `start`; `forms` has the form of a name's blocks
-pub record Opens (deeper : ℕ) (forms : List ℕ → ℕ) (s : List ℕ) (start : ℕ) (cells : List ℕ) (slot : Slot) (x : Found Marker) (r : Opening) (after : List ℕ) : Type 0 where
+pub record Opens (deeper : ℕ) (forms : List ℕ → ℕ) (s : List ℕ) (start : ℕ) (cells : List ℕ) (slot : Slot) (x : Found Marker) (r : Opening)
+    (after : List ℕ) : Type 0 where
   pub makes : Makes madeBy traitsIn (enteredBy (slot .next) start) s cells (slot .next + 1) x (partOf r) after
   pub says : (form to end made own : ℕ) (inside : Nesting) → r ≡ Opened form to end made own inside → (o : Marker) (left : List ℕ) → x ≡ found o left
       → (form ≡ formIn (forms (o .marker .name)) (o .ends)) × (to ≡ start + length (o .marker .name)) × (suc (inside .left) ≡ deeper)

@@ -26,18 +26,15 @@ ghost use Prim.Native.Nat.{_≤_};
 ghost use lib.ListN.{length, drop};
 ghost use Rattle.paper.specs.Answer.{told};
 ghost use Rattle.paper.specs.Limits.{sheetLimit};
-ghost use Rattle.paper.specs.Reading.{reading};
-ghost use Rattle.paper.specs.View.{viewed, viewAnswer};
 ghost use Rattle.modes.specs.Table.{Valid};
 ghost use Rattle.lines.specs.Parts.{seen, passed};
+ghost use Rattle.sheets.specs.Promises.{ReadsSheet, Views, ViewAnswers};
 ghost use Rattle.sheets.specs.Sheets.{ReadsUnder, ReadsTree, behindRoot, spanOf};
 
 // Reads a sheet. An acceptance has its length and how many entries it made; the cells behind them are zero.
 // A refusal leaves every cell zero.
 pub fn read(table: &[u8], sheet: &[u8], cells: &mut [u32]) -> Answer
-    ensures { λ r.
-        ⌜ record { answer = told r; cells = now (cells .exit) }
-        ≡ reading (now (table .entry)) (now (sheet .entry)) (length (now (cells .entry))) ⌝ }
+    ensures { λ r. ⌜ ReadsSheet (now (table .entry)) (now (sheet .entry)) (length (now (cells .entry))) r (now (cells .exit)) ⌝ }
 {
     let modes = modes::read(table);
     let Answer::Accepted { .. } = modes else {
@@ -136,7 +133,7 @@ enum Span {
 
 // The part of the sheet that an entry's span names; empty where the entry cannot be viewed.
 pub fn view<'a>(sheet: &'a [u8], cells: &[u32], entry: usize) -> &'a [u8]
-    ensures { λ r. ⌜ now r ≡ viewed (now (sheet .entry)) (now (cells .entry)) entry ⌝ }
+    ensures { λ r. ⌜ Views (now (sheet .entry)) (now (cells .entry)) entry (now r) ⌝ }
 {
     match span_of(sheet, cells, entry) {
         Span::Part { start, end } => &sheet[start..end],
@@ -146,7 +143,7 @@ pub fn view<'a>(sheet: &'a [u8], cells: &[u32], entry: usize) -> &'a [u8]
 
 // Whether an entry can be viewed: 0, 0 and the length of its part, or 17.
 pub fn view_answer(sheet: &[u8], cells: &[u32], entry: usize) -> Answer
-    ensures { λ r. ⌜ told r ≡ viewAnswer (now (sheet .entry)) (now (cells .entry)) entry ⌝ }
+    ensures { λ r. ⌜ ViewAnswers (now (sheet .entry)) (now (cells .entry)) entry r ⌝ }
 {
     match span_of(sheet, cells, entry) {
         Span::Part { start, end } => Answer::Accepted {

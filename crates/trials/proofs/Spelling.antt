@@ -43,7 +43,8 @@ module _ (t : List ℕ) (i : ℕ) where
     unfolding spelt
     second-wrong e = rw (pair, e, and-false)
 
-    pub one-pair : isHex (getD t i 0) ≡ true → isHex (getD t (i + 1) 0) ≡ true → spelt (drop i t) ≡ onto ((hexDigit (getD t i 0) * 16 + hexDigit (getD t (i + 1) 0)) ∷ []) (spelt (drop (i + 2) t))
+    pub one-pair : isHex (getD t i 0) ≡ true → isHex (getD t (i + 1) 0) ≡ true
+        → spelt (drop i t) ≡ onto ((hexDigit (getD t i 0) * 16 + hexDigit (getD t (i + 1) 0)) ∷ []) (spelt (drop (i + 2) t))
     unfolding spelt
     one-pair e f = rw (pair, e, f)
 

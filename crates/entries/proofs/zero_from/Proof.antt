@@ -10,7 +10,8 @@ use Rattle.entries.proofs.zero_from.Statement.{statement}
 use Rattle.entries.proofs.zero_from.Tie as tie
 
 abbrev Inv-loop : tie.InvT-loop
-Inv-loop cells₀ at i₀ cells i = (i ≤ length cells₀) × (length cells ≡ length cells₀) × (sets cells i (replicate (length cells₀ - i) 0) ≡ sets cells₀ at (replicate (length cells₀ - at) 0))
+Inv-loop cells₀ at i₀ cells i =
+    (i ≤ length cells₀) × (length cells ≡ length cells₀) × (sets cells i (replicate (length cells₀ - i) 0) ≡ sets cells₀ at (replicate (length cells₀ - at) 0))
 
 abbrev μ-loop : tie.MeasureT-loop
 μ-loop cells₀ at i₀ cells i = length cells₀ - i
@@ -31,7 +32,11 @@ loop-less : tie.Need-loop-less Inv-loop μ-loop
 loop-less c = search needs
 
 loop-again : tie.Need-loop-again Inv-loop μ-loop
-loop-again c = (omega arith, simp length-set (omega arith), zeros-more (c .before .loop .cells) (length (c .before .before .args .cells .now)) (c .before .loop .i) (omega arith) ∙ c .before .loop .inv .2)
+loop-again c = (
+  omega arith,
+  simp length-set (omega arith),
+  zeros-more (c .before .loop .cells) (length (c .before .before .args .cells .now)) (c .before .loop .i) (omega arith) ∙ c .before .loop .inv .2,
+)
 
 same-length : tie.Need-same-length Inv-loop μ-loop
 same-length c = search needs

@@ -17,7 +17,10 @@ same-length : tie.Need-same-length
 same-length c = search needs
 
 returns : tie.Need-returns
-returns c = (ap (λ (x : Reading). x .cells) (c .before .before .before .before .read .ensures), c .tell .ensures ∙ ap (λ (x : Reading). threeOf (x .answer)) (c .before .before .before .before .read .ensures))
+returns c = (
+  ap (λ (x : Reading). x .cells) (c .before .before .before .before .read .ensures),
+  c .tell .ensures ∙ ap (λ (x : Reading). threeOf (x .answer)) (c .before .before .before .before .read .ensures),
+)
 
 pub cdx-sheet-spec : {M : Type 1} → statement M
 cdx-sheet-spec = tie.close (tie.spec read-requires tell-requires same-length returns)

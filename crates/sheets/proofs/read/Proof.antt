@@ -14,7 +14,8 @@ fits : (c : tie.After-count) → c .count .result * entryCells ≤ length (c .be
 fits c =
     let at-read-under = c .before .before .before .before in
     let top = at-read-under .before .before .before .before .before .before .before .before in
-    count-fits (top .args .table .now) (top .args .sheet .now) (top .args .cells .now) (at-read-under .read-under .result) _ (c .count .result) (at-read-under .read-under .ensures) (at-read-under .read-under .kept .1 .1 .0) (c .count .ensures)
+    count-fits (top .args .table .now) (top .args .sheet .now) (top .args .cells .now) (at-read-under .read-under .result) _ (c .count .result)
+    (at-read-under .read-under .ensures) (at-read-under .read-under .kept .1 .1 .0) (c .count .ensures)
 
 read-requires : tie.Need-read-requires
 read-requires c κs = search needs
@@ -32,7 +33,10 @@ same-length : tie.Need-same-length
 same-length c = search needs
 
 returns : tie.Need-returns
-returns c = table-refused _ _ (c .before .before .before .before .before .before .before .before .before .before .args .cells .now) _ _ _ (c .before .before .before .before .before .before .read .ensures) (c .before .before .before .before .enum-told2 .given .1) _ (c .before .before .zero-from .ensures)
+returns c =
+    table-refused _ _ (c .before .before .before .before .before .before .before .before .before .before .args .cells .now) _ _ _
+    (c .before .before .before .before .before .before .read .ensures) (c .before .before .before .before .enum-told2 .given .1) _
+    (c .before .before .zero-from .ensures)
 
 read-under-requires : tie.Need-read-under-requires
 read-under-requires c κs = accepted-valid _ _ _ _ (c .before .before .before .read .ensures) (c .before .enum-told .given .1)
@@ -54,7 +58,10 @@ returns-2 c =
     let at-zero-from = c .before .before in
     let at-read-under = at-zero-from .before .before .before .before .before in
     let top = at-read-under .before .before .before .before .before .before .before .before in
-    sheet-done (top .args .table .now) (top .args .sheet .now) (top .args .cells .now) (at-read-under .read-under .result) _ (at-zero-from .before .count .result) (at-read-under .read-under .ensures) (at-read-under .read-under .kept .1 .1 .0) (at-zero-from .before .count .ensures) _ (accepted-valid _ _ _ _ (at-read-under .before .before .before .before .read .ensures) (at-read-under .before .before .enum-told .given .1)) (at-zero-from .zero-from2 .ensures)
+    sheet-done (top .args .table .now) (top .args .sheet .now) (top .args .cells .now) (at-read-under .read-under .result) _ (at-zero-from .before .count .result)
+    (at-read-under .read-under .ensures) (at-read-under .read-under .kept .1 .1 .0) (at-zero-from .before .count .ensures) _
+    (accepted-valid _ _ _ _ (at-read-under .before .before .before .before .read .ensures) (at-read-under .before .before .enum-told .given .1))
+    (at-zero-from .zero-from2 .ensures)
 
 pub read-spec : {M : Type 1} → statement M
 read-spec =

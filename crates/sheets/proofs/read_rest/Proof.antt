@@ -14,17 +14,22 @@ enum-told : tie.Need-enum-told
 enum-told c = search needs
 
 returns : tie.Need-returns
-returns c = blanks-refused (c .before .before .before .before .args .s .now) (c .before .before .before .before .args .at) (c .before .before .blank-lines .result) (c .before .before .blank-lines .ensures) _ _ (c .enum-told .given .1)
+returns c =
+    blanks-refused (c .before .before .before .before .args .s .now) (c .before .before .before .before .args .at) (c .before .before .blank-lines .result)
+    (c .before .before .blank-lines .ensures) _ _ (c .enum-told .given .1)
 
 last-blanks-requires : tie.Need-last-blanks-requires
 last-blanks-requires c κs =
     let at-blank-lines = c .before .before .before in
-    blanks-inside (at-blank-lines .before .before .args .s .now) (at-blank-lines .before .before .args .at) (at-blank-lines .blank-lines .result) (at-blank-lines .blank-lines .ensures) (at-blank-lines .before .before .pre) _ _ _ (c .before .blanks .given .1)
+    blanks-inside (at-blank-lines .before .before .args .s .now) (at-blank-lines .before .before .args .at) (at-blank-lines .blank-lines .result)
+    (at-blank-lines .blank-lines .ensures) (at-blank-lines .before .before .pre) _ _ _ (c .before .blanks .given .1)
 
 returns-2 : tie.Need-returns-2
 returns-2 c =
     let at-blank-lines = c .before .before .before .before in
-    blanks-last (at-blank-lines .before .before .args .s .now) (at-blank-lines .before .before .args .at) (at-blank-lines .blank-lines .result) (at-blank-lines .blank-lines .ensures) (at-blank-lines .before .before .pre) _ _ _ (c .before .before .blanks .given .1) (c .last-blanks .result) (c .last-blanks .ensures)
+    blanks-last (at-blank-lines .before .before .args .s .now) (at-blank-lines .before .before .args .at) (at-blank-lines .blank-lines .result)
+    (at-blank-lines .blank-lines .ensures) (at-blank-lines .before .before .pre) _ _ _ (c .before .before .blanks .given .1) (c .last-blanks .result)
+    (c .last-blanks .ensures)
 
 pub read-rest-spec : {M : Type 1} → statement M
 read-rest-spec =

@@ -2,18 +2,28 @@
 use native.Mathlib.Omega.{arith}
 use borrow.Author.Needs.{needs}
 use Rattle.modes.specs.Table.{modesOf}
-use Rattle.sheets.proofs.SheetLaws.{blanks-inside, before-refused, tabs-refused, Led, tabs-led, root-stands, root-refused, RootAt, root-read, rest-refused, tree-read}
+use Rattle.sheets.proofs.SheetLaws.{blanks-inside, before-refused, tabs-refused, Led, tabs-led, root-stands, root-refused, RootAt, root-read, rest-refused}
+use Rattle.sheets.proofs.SheetLaws.{tree-read}
 use Rattle.sheets.proofs.read_tree.Statement.{statement}
 use Rattle.sheets.proofs.read_tree.Tie as tie
 
 -- the root is due at a place, and it is read
-leads : (c : tie.After-enum-told2) → let start = c .before .before .before .before .before .before .before .before .before .before .args in Led (modesOf (start .table .now)) (start .s .now) (start .cells .now) (c .before .before .before .before .blanks .given .0 .0)
-leads c = tabs-led _ _ _ (c .before .before .before .before .before .before .blank-lines .result) (c .before .before .before .before .before .before .blank-lines .ensures) _ _ _ (c .before .before .before .before .blanks .given .1) (c .before .before .tabs-only .result) (c .before .before .tabs-only .ensures) _ _ _ (c .enum-told2 .given .1)
+leads : (c : tie.After-enum-told2) → let start =
+    c .before .before .before .before .before .before .before .before .before .before .args in Led (modesOf (start .table .now)) (start .s .now) (start .cells .now)
+    (c .before .before .before .before .blanks .given .0 .0)
+leads c =
+    tabs-led _ _ _ (c .before .before .before .before .before .before .blank-lines .result)
+    (c .before .before .before .before .before .before .blank-lines .ensures) _ _ _ (c .before .before .before .before .blanks .given .1)
+    (c .before .before .tabs-only .result) (c .before .before .tabs-only .ensures) _ _ _ (c .enum-told2 .given .1)
 
-reads : (c : tie.After-known-told2) → let start = c .before .before .before .before .before .before .before .before .before .before .before .before .before .before .before .before .before .before .before .args in RootAt (modesOf (start .table .now)) (start .s .now) (start .cells .now) (c .before .root .given .0 .0) (c .before .root .given .0 .1 .0) (c .before .root .given .0 .1 .1 .0) (c .before .before .before .before .before .read-annotated .last .1 .1 .1 .1 .0)
+reads : (c : tie.After-known-told2) → let start =
+    c .before .before .before .before .before .before .before .before .before .before .before .before .before .before .before .before .before .before .before .args in
+    RootAt (modesOf (start .table .now)) (start .s .now) (start .cells .now) (c .before .root .given .0 .0) (c .before .root .given .0 .1 .0)
+    (c .before .root .given .0 .1 .1 .0) (c .before .before .before .before .before .read-annotated .last .1 .1 .1 .1 .0)
 reads c =
     let at-read-annotated = c .before .before .before .before .before in
-    root-read _ _ _ _ (leads (at-read-annotated .before .before .before .before)) _ _ (at-read-annotated .before .before .new .ensures) (at-read-annotated .before .before .before .room .ensures) _ _ (at-read-annotated .read-annotated .ensures) _ _ _ (c .before .root .given .1)
+    root-read _ _ _ _ (leads (at-read-annotated .before .before .before .before)) _ _ (at-read-annotated .before .before .new .ensures)
+    (at-read-annotated .before .before .before .room .ensures) _ _ (at-read-annotated .read-annotated .ensures) _ _ _ (c .before .root .given .1)
 
 blank-lines-requires : tie.Need-blank-lines-requires
 blank-lines-requires c κs = search needs
@@ -28,7 +38,9 @@ returns : tie.Need-returns
 returns c = before-refused _ _ _ _ (c .before .before .blank-lines .ensures) _ _ _ (c .enum-told .given .1)
 
 tabs-only-requires : tie.Need-tabs-only-requires
-tabs-only-requires c κs = blanks-inside (c .before .before .before .before .before .before .before .args .s .now) 0 (c .before .before .before .blank-lines .result) (c .before .before .before .blank-lines .ensures) (omega arith) _ _ _ (c .before .blanks .given .1)
+tabs-only-requires c κs =
+    blanks-inside (c .before .before .before .before .before .before .before .args .s .now) 0 (c .before .before .before .blank-lines .result)
+    (c .before .before .before .blank-lines .ensures) (omega arith) _ _ _ (c .before .blanks .given .1)
 
 enum-told-2 : tie.Need-enum-told-2
 enum-told-2 c = search needs
@@ -37,7 +49,9 @@ enum-told-3 : tie.Need-enum-told-3
 enum-told-3 c = search needs
 
 returns-2 : tie.Need-returns-2
-returns-2 c = tabs-refused _ _ _ _ (c .before .before .before .before .before .before .blank-lines .ensures) _ _ _ (c .before .before .before .before .blanks .given .1) _ (c .before .before .tabs-only .ensures) _ _ _ (c .enum-told3 .given .1)
+returns-2 c =
+    tabs-refused _ _ _ _ (c .before .before .before .before .before .before .blank-lines .ensures) _ _ _ (c .before .before .before .before .blanks .given .1) _
+    (c .before .before .tabs-only .ensures) _ _ _ (c .enum-told3 .given .1)
 
 room-requires : tie.Need-room-requires
 room-requires c κs = search needs
@@ -62,7 +76,8 @@ same-length c = search needs
 returns-3 : tie.Need-returns-3
 returns-3 c =
     let at-read-annotated = c .before .before .before .before in
-    root-refused _ _ _ _ (leads (at-read-annotated .before .before .before .before)) _ _ (at-read-annotated .before .before .new .ensures) (at-read-annotated .before .before .before .room .ensures) _ _ (at-read-annotated .read-annotated .ensures) _ _ (c .enum-told4 .given .1)
+    root-refused _ _ _ _ (leads (at-read-annotated .before .before .before .before)) _ _ (at-read-annotated .before .before .new .ensures)
+    (at-read-annotated .before .before .before .room .ensures) _ _ (at-read-annotated .read-annotated .ensures) _ _ (c .enum-told4 .given .1)
 
 read-rest-requires : tie.Need-read-rest-requires
 read-rest-requires c κs = reads c .inside

@@ -28,7 +28,8 @@ enum-known-end : tie.Need-enum-known-end
 enum-known-end c = search needs
 
 returns-2 : tie.Need-returns-2
-returns-2 c = sheet-broken _ _ _ (omega (arith, c .before .before .before .before .if1 .left)) _ _ (sym (c .before .place .given .1) ∙ c .before .before .before .check .ensures)
+returns-2 c =
+    sheet-broken _ _ _ (omega (arith, c .before .before .before .before .if1 .left)) _ _ (sym (c .before .place .given .1) ∙ c .before .before .before .check .ensures)
 
 same-length : tie.Need-same-length
 same-length c = search needs
@@ -36,7 +37,9 @@ same-length c = search needs
 returns-3 : tie.Need-returns-3
 returns-3 c =
     let at-read-tree = c .before .before .before .before .before in
-    sheet-refused _ _ _ (omega (arith, at-read-tree .before .before .before .before .before .if1 .left)) (sym (at-read-tree .before .before .enum-told .given .1) ∙ at-read-tree .before .before .before .before .check .ensures) _ _ (at-read-tree .read-tree .ensures) _ _ (c .before .refusal .given .1)
+    sheet-refused _ _ _ (omega (arith, at-read-tree .before .before .before .before .before .if1 .left))
+    (sym (at-read-tree .before .before .enum-told .given .1) ∙ at-read-tree .before .before .before .before .check .ensures) _ _
+    (at-read-tree .read-tree .ensures) _ _ (c .before .refusal .given .1)
 
 same-length-2 : tie.Need-same-length-2
 same-length-2 c = search needs
@@ -44,7 +47,9 @@ same-length-2 c = search needs
 returns-4 : tie.Need-returns-4
 returns-4 c =
     let at-read-tree = c .before .before .before .before .before in
-    sheet-read _ _ _ (omega (arith, at-read-tree .before .before .before .before .before .if1 .left)) (sym (at-read-tree .before .before .enum-told .given .1) ∙ at-read-tree .before .before .before .before .check .ensures) _ _ (at-read-tree .read-tree .ensures) _ _ _ (c .before .end .given .1)
+    sheet-read _ _ _ (omega (arith, at-read-tree .before .before .before .before .before .if1 .left))
+    (sym (at-read-tree .before .before .enum-told .given .1) ∙ at-read-tree .before .before .before .before .check .ensures) _ _
+    (at-read-tree .read-tree .ensures) _ _ _ (c .before .end .given .1)
 
 pub read-under-spec : {M : Type 1} → statement M
 read-under-spec =

@@ -22,7 +22,8 @@ returns c =
 
 returns-2 : tie.Need-returns-2
 returns-2 c =
-    span-part _ _ _ _ (c .before .before .before .before .before .before .get .ensures) (c .before .before .if1 .left) (ltb-false _ _ (c .before .if2 .left)) (ltb-false _ _ (c .if3 .left))
+    span-part _ _ _ _ (c .before .before .before .before .before .before .get .ensures) (c .before .before .if1 .left) (ltb-false _ _ (c .before .if2 .left))
+    (ltb-false _ _ (c .if3 .left))
 
 pub span-of-spec : {M : Type 1} → statement M
 span-of-spec =

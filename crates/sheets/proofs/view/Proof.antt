@@ -9,7 +9,10 @@ use Rattle.sheets.proofs.view.Statement.{statement}
 use Rattle.sheets.proofs.view.Tie as tie
 
 -- the span that is found
-spans : (c : tie.After-known-told) → Part (c .before .start .given .0 .0) (c .before .start .given .0 .1 .0) ≡ spanOf (c .before .before .before .before .before .before .args .sheet .now) (c .before .before .before .before .before .before .args .cells .now) (c .before .before .before .before .before .before .args .entry)
+spans : (c : tie.After-known-told)
+    → Part (c .before .start .given .0 .0) (c .before .start .given .0 .1 .0)
+    ≡ spanOf (c .before .before .before .before .before .before .args .sheet .now) (c .before .before .before .before .before .before .args .cells .now)
+    (c .before .before .before .before .before .before .args .entry)
 spans c = sym (c .before .start .given .1) ∙ c .before .before .before .span-of .ensures
 
 span-of-requires : tie.Need-span-of-requires

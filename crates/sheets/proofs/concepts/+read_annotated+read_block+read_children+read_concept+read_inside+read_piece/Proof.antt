@@ -10,7 +10,8 @@ use Rattle.entries.proofs.Slots.{fits-after}
 use Rattle.lines.proofs.Ends.{RestAt, rest-at}
 use Rattle.sheets.proofs.ConceptLaws.{inside-closed, inside-block, inside-content, marker-refused, MarkerAt, marker-ahead, lent-stands, may-end, concept-ended}
 use Rattle.sheets.proofs.Slots.{stands-on}
-use Rattle.sheets.proofs.PieceLaws.{blank-made, tabs-refused, concept-refused, ConceptAt, concept-at, rest-refused, piece-made, Pieces, pieces-begin, pieces-over, pieces-refused, piece-ahead, pieces-on}
+use Rattle.sheets.proofs.PieceLaws.{blank-made, tabs-refused, concept-refused, ConceptAt, concept-at, rest-refused, piece-made, Pieces, pieces-begin, pieces-over}
+use Rattle.sheets.proofs.PieceLaws.{pieces-refused, piece-ahead, pieces-on}
 use Rattle.sheets.proofs.AnnotatedLaws as annotated
 use Rattle.sheets.proofs.BlockLaws as block
 use borrow.Fn.Kinds.{In}
@@ -139,30 +140,65 @@ read-piece-below t =
     and 3 read-piece-kinds.ps (falls 3 read-piece-kinds.ps _<_ μ-read-piece t) read-piece.Pre
 
 abbrev read-annotated-calls : ℕ → read-annotated-lts.Claims
-read-annotated-calls t = (read-all-reads.Asked, read-all-reads.Learnt, end-reads.Asked, end-reads.Learnt, after-reads.Asked, after-reads.Learnt, read-concept-below t, read-concept.Post)
+read-annotated-calls t =
+    (read-all-reads.Asked, read-all-reads.Learnt, end-reads.Asked, end-reads.Learnt, after-reads.Asked, after-reads.Learnt, read-concept-below t, read-concept.Post)
 
 abbrev read-block-calls : ℕ → read-block-lts.Claims
-read-block-calls t = (line-rest-reads.Asked, line-rest-reads.Learnt, read-children-below t, read-children.Post, end-reads.Asked, end-reads.Learnt, read-closing-reads.Asked, read-closing-reads.Learnt)
+read-block-calls t = (
+  line-rest-reads.Asked,
+  line-rest-reads.Learnt,
+  read-children-below t,
+  read-children.Post,
+  end-reads.Asked,
+  end-reads.Learnt,
+  read-closing-reads.Asked,
+  read-closing-reads.Learnt,
+)
 
 abbrev read-children-calls : ℕ → read-children-lts.Claims
 read-children-calls t = (is-closing-reads.Asked, is-closing-reads.Learnt, after-reads.Asked, after-reads.Learnt, read-piece-below t, read-piece.Post)
 
 abbrev read-concept-calls : ℕ → read-concept-lts.Claims
-read-concept-calls t = (read-opening-reads.Asked, read-opening-reads.Learnt, refused-reads.Asked, refused-reads.Learnt, under-reads.Asked, under-reads.Learnt, after-reads.Asked, after-reads.Learnt, read-inside-below t, read-inside.Post, end-concept-reads.Asked, end-concept-reads.Learnt)
+read-concept-calls t = (
+  read-opening-reads.Asked,
+  read-opening-reads.Learnt,
+  refused-reads.Asked,
+  refused-reads.Learnt,
+  under-reads.Asked,
+  under-reads.Learnt,
+  after-reads.Asked,
+  after-reads.Learnt,
+  read-inside-below t,
+  read-inside.Post,
+  end-concept-reads.Asked,
+  end-concept-reads.Learnt,
+)
 
 abbrev read-inside-calls : ℕ → read-inside-lts.Claims
 read-inside-calls t = (past-reads.Asked, past-reads.Learnt, read-block-below t, read-block.Post, read-content-reads.Asked, read-content-reads.Learnt)
 
 abbrev read-piece-calls : ℕ → read-piece-lts.Claims
-read-piece-calls t = (is-blank-line-reads.Asked, is-blank-line-reads.Learnt, line-rest-reads.Asked, line-rest-reads.Learnt, tabs-only-reads.Asked, tabs-only-reads.Learnt, read-annotated-below t, read-annotated.Post)
+read-piece-calls t = (
+  is-blank-line-reads.Asked,
+  is-blank-line-reads.Learnt,
+  line-rest-reads.Asked,
+  line-rest-reads.Learnt,
+  tabs-only-reads.Asked,
+  tabs-only-reads.Learnt,
+  read-annotated-below t,
+  read-annotated.Post,
+)
 
 -- ---- read_annotated: the annotations, the tabs, the Concept
 
 -- the annotations are read
 annotated-notes : (t : ℕ) (c : read-annotated-lts.After-notes (read-annotated-calls t) (read-annotated-at t) read-annotated.Post)
     → let start = c .before .before .before .before .before .before .before .before .before .args in
-    annotated.NotesAt (start .table .now) (start .s .now) (start .at) (start .cells .now) (start .slot) (c .before .before .before .before .read-all .last .1 .1 .0) (c .notes .given .0 .0) (c .notes .given .0 .1 .0)
-annotated-notes t c = annotated.notes-at (c .before .before .before .before .before .before .before .before .before .pre .1) (c .before .before .before .before .read-all .ensures) (c .notes .given .1)
+    annotated.NotesAt (start .table .now) (start .s .now) (start .at) (start .cells .now) (start .slot) (c .before .before .before .before .read-all .last .1 .1 .0)
+    (c .notes .given .0 .0) (c .notes .given .0 .1 .0)
+annotated-notes t c =
+    annotated.notes-at (c .before .before .before .before .before .before .before .before .before .pre .1) (c .before .before .before .before .read-all .ensures)
+    (c .notes .given .1)
 
 read-annotated-read-all-requires : (t : ℕ) → read-annotated-lts.Need-read-all-requires (read-annotated-calls t) (read-annotated-at t) read-annotated.Post
 read-annotated-read-all-requires t c κs = (c .before .before .before .before .pre .1 .in-sheet, c .before .before .before .before .pre .1 .fits)
@@ -177,7 +213,9 @@ read-annotated-same-length : (t : ℕ) → read-annotated-lts.Need-same-length (
 read-annotated-same-length t c = search needs
 
 read-annotated-returns : (t : ℕ) → read-annotated-lts.Need-returns (read-annotated-calls t) (read-annotated-at t) read-annotated.Post
-read-annotated-returns t c = annotated.notes-refused (c .before .before .before .before .before .before .before .before .before .pre .1) (c .before .before .before .before .read-all .ensures) _ (c .enum-told .given .1)
+read-annotated-returns t c =
+    annotated.notes-refused (c .before .before .before .before .before .before .before .before .before .pre .1) (c .before .before .before .before .read-all .ensures) _
+    (c .enum-told .given .1)
 
 read-annotated-end-requires : (t : ℕ) → read-annotated-lts.Need-end-requires (read-annotated-calls t) (read-annotated-at t) read-annotated.Post
 read-annotated-end-requires t c κs = annotated-notes t (c .before) .inside
@@ -190,8 +228,16 @@ read-annotated-after-requires t c κs = let notes = annotated-notes t (c .before
 
 read-annotated-read-concept-requires : (t : ℕ) → read-annotated-lts.Need-read-concept-requires (read-annotated-calls t) (read-annotated-at t) read-annotated.Post
 read-annotated-read-concept-requires t c κs =
-    let at-notes = c .before .before .before .before in
-    (omega (arith, at-notes .before .before .before .before .before .before .before .before .before .pre .0, annotated-notes t at-notes .ahead, c .before .before .end .ensures), annotated.concept-stands (annotated-notes t at-notes) (c .before .before .end .ensures) (c .after .ensures) (at-notes .before .before .before .before .read-all .kept .1 .1 .0))
+    let at-notes = c .before .before .before .before in (
+      omega (
+        arith,
+        at-notes .before .before .before .before .before .before .before .before .before .pre .0,
+        annotated-notes t at-notes .ahead,
+        c .before .before .end .ensures,
+      ),
+      annotated.concept-stands (annotated-notes t
+          at-notes) (c .before .before .end .ensures) (c .after .ensures) (at-notes .before .before .before .before .read-all .kept .1 .1 .0),
+    )
 
 read-annotated-enum-known-concept : (t : ℕ) → read-annotated-lts.Need-enum-known-concept (read-annotated-calls t) (read-annotated-at t) read-annotated.Post
 read-annotated-enum-known-concept t c = search needs
@@ -205,16 +251,24 @@ read-annotated-same-length-2 t c = search needs
 read-annotated-returns-2 : (t : ℕ) → read-annotated-lts.Need-returns-2 (read-annotated-calls t) (read-annotated-at t) read-annotated.Post
 read-annotated-returns-2 t c =
     let at-read-concept = c .before .before .before .before in
-    annotated.concept-refused (annotated-notes t (at-read-concept .before .before .before .before .before)) (at-read-concept .before .before .before .end .ensures) (at-read-concept .before .after .ensures) _ (at-read-concept .read-concept .ensures) (c .enum-told2 .given .1)
+    annotated.concept-refused (annotated-notes t (at-read-concept .before .before .before .before .before)) (at-read-concept .before .before .before .end .ensures)
+    (at-read-concept .before .after .ensures) _ (at-read-concept .read-concept .ensures) (c .enum-told2 .given .1)
 
 read-annotated-add-t17 : (t : ℕ) → read-annotated-lts.Need-add-t17 (read-annotated-calls t) (read-annotated-at t) read-annotated.Post
 read-annotated-add-t17 t c =
     let at-read-concept = c .before .before .before .before .before in
     let notes = annotated-notes t (at-read-concept .before .before .before .before .before) in
-    omega (arith, annotated.all-few notes (at-read-concept .before .before .before .end .ensures) (at-read-concept .before .after .ensures) _ (at-read-concept .read-concept .ensures) (c .before .concept .given .1), notes .stands .fits .few)
+    omega (
+      arith,
+      annotated.all-few notes (at-read-concept .before .before .before .end .ensures) (at-read-concept .before .after .ensures) _
+          (at-read-concept .read-concept .ensures) (c .before .concept .given .1),
+      notes .stands .fits .few,
+    )
 
 read-annotated-add-t21 : (t : ℕ) → read-annotated-lts.Need-add-t21 (read-annotated-calls t) (read-annotated-at t) read-annotated.Post
-read-annotated-add-t21 t c = let notes = annotated-notes t (c .before .before .before .before .before .before .before .before .before .before) in omega (arith, notes .few, notes .stands .fits .few)
+read-annotated-add-t21 t c =
+    let notes =
+    annotated-notes t (c .before .before .before .before .before .before .before .before .before .before) in omega (arith, notes .few, notes .stands .fits .few)
 
 read-annotated-same-length-3 : (t : ℕ) → read-annotated-lts.Need-same-length-3 (read-annotated-calls t) (read-annotated-at t) read-annotated.Post
 read-annotated-same-length-3 t c = search needs
@@ -222,19 +276,25 @@ read-annotated-same-length-3 t c = search needs
 read-annotated-returns-3 : (t : ℕ) → read-annotated-lts.Need-returns-3 (read-annotated-calls t) (read-annotated-at t) read-annotated.Post
 read-annotated-returns-3 t c =
     let at-read-concept = c .before .before .before .before .before in
-    annotated.annotated-read (annotated-notes t (at-read-concept .before .before .before .before .before)) (at-read-concept .before .before .before .end .ensures) (at-read-concept .before .after .ensures) _ (at-read-concept .read-concept .ensures) (c .before .concept .given .1)
+    annotated.annotated-read (annotated-notes t (at-read-concept .before .before .before .before .before)) (at-read-concept .before .before .before .end .ensures)
+    (at-read-concept .before .after .ensures) _ (at-read-concept .read-concept .ensures) (c .before .concept .given .1)
 
 -- ---- read_block: the rest of the line, the children, the closing marker
 
 -- the rest of the line, and the children behind it
-block-rest : (t : ℕ) (c : read-block-lts.After-rest (read-block-calls t) (read-block-at t) read-block.Post) → RestAt (c .before .before .before .before .before .before .args .s .now) (c .before .before .before .before .before .before .args .at) (c .rest .given .0 .0)
-block-rest t c = rest-at _ _ _ _ _ _ (c .before .before .before .before .before .before .pre .1 .0 .in-sheet .inside) (c .before .before .line-rest .ensures) (c .rest .given .1)
+block-rest : (t : ℕ) (c : read-block-lts.After-rest (read-block-calls t) (read-block-at t) read-block.Post)
+    → RestAt (c .before .before .before .before .before .before .args .s .now) (c .before .before .before .before .before .before .args .at) (c .rest .given .0 .0)
+block-rest t c =
+    rest-at _ _ _ _ _ _ (c .before .before .before .before .before .before .pre .1 .0 .in-sheet .inside) (c .before .before .line-rest .ensures) (c .rest .given .1)
 
 block-body : (t : ℕ) (c : read-block-lts.After-body (read-block-calls t) (read-block-at t) read-block.Post)
     → let start = c .before .before .before .before .before .before .before .before .before .before .before .before .before .args in
     let read = c .body .given .0 in
-    block.BodyAt (start .s .now) (start .at) (start .cells .now) (start .slot) (modesOf (start .table .now)) (start .nesting .left) (c .before .before .before .before .read-children .last .1 .1 .1 .1 .0) (read .0) (read .1 .0) (read .1 .1 .0)
-block-body t c = block.body-at (c .before .before .before .before .before .before .before .before .before .before .before .before .before .pre .1 .0) _ _ (block-rest t (c .before .before .before .before .before .before .before)) (c .before .before .before .before .read-children .ensures) (c .body .given .1)
+    block.BodyAt (start .s .now) (start .at) (start .cells .now) (start .slot) (modesOf (start .table .now)) (start .nesting .left)
+    (c .before .before .before .before .read-children .last .1 .1 .1 .1 .0) (read .0) (read .1 .0) (read .1 .1 .0)
+block-body t c =
+    block.body-at (c .before .before .before .before .before .before .before .before .before .before .before .before .before .pre .1 .0) _ _
+    (block-rest t (c .before .before .before .before .before .before .before)) (c .before .before .before .before .read-children .ensures) (c .body .given .1)
 
 read-block-line-rest-requires : (t : ℕ) → read-block-lts.Need-line-rest-requires (read-block-calls t) (read-block-at t) read-block.Post
 read-block-line-rest-requires t c κs = search needs
@@ -246,12 +306,15 @@ read-block-enum-told : (t : ℕ) → read-block-lts.Need-enum-told (read-block-c
 read-block-enum-told t c = search needs
 
 read-block-returns : (t : ℕ) → read-block-lts.Need-returns (read-block-calls t) (read-block-at t) read-block.Post
-read-block-returns t c = λ k tabs named. block.rest-refused (c .before .before .before .before .before .before .pre .1 .0) _ _ k tabs _ (c .before .before .line-rest .ensures) (c .enum-told .given .1)
+read-block-returns t c =
+    λ k tabs named. block.rest-refused (c .before .before .before .before .before .before .pre .1 .0) _ _ k tabs _ (c .before .before .line-rest .ensures)
+    (c .enum-told .given .1)
 
 read-block-read-children-requires : (t : ℕ) → read-block-lts.Need-read-children-requires (read-block-calls t) (read-block-at t) read-block.Post
 read-block-read-children-requires t c κs =
     let top = c .before .before .before .before .before .before .before .before in
-    let rest = block-rest t (c .before .before) in (omega (arith, top .pre .0, rest .ahead, rest .inside), stands-on (top .pre .1 .0) (rest .inside) (top .pre .1 .0 .fits))
+    let rest =
+    block-rest t (c .before .before) in (omega (arith, top .pre .0, rest .ahead, rest .inside), stands-on (top .pre .1 .0) (rest .inside) (top .pre .1 .0 .fits))
 
 read-block-enum-known-body : (t : ℕ) → read-block-lts.Need-enum-known-body (read-block-calls t) (read-block-at t) read-block.Post
 read-block-enum-known-body t c = search needs
@@ -263,7 +326,10 @@ read-block-same-length : (t : ℕ) → read-block-lts.Need-same-length (read-blo
 read-block-same-length t c = search needs
 
 read-block-returns-2 : (t : ℕ) → read-block-lts.Need-returns-2 (read-block-calls t) (read-block-at t) read-block.Post
-read-block-returns-2 t c = λ k tabs named. block.body-refused (c .before .before .before .before .before .before .before .before .before .before .before .before .before .pre .1 .0) _ _ (block-rest t (c .before .before .before .before .before .before .before)) (c .before .before .before .before .read-children .ensures) k tabs (c .enum-told2 .given .1)
+read-block-returns-2 t c =
+    λ k tabs named. block.body-refused (c .before .before .before .before .before .before .before .before .before .before .before .before .before .pre .1 .0) _ _
+    (block-rest t (c .before .before .before .before .before .before .before)) (c .before .before .before .before .read-children .ensures) k tabs
+    (c .enum-told2 .given .1)
 
 read-block-end-requires : (t : ℕ) → read-block-lts.Need-end-requires (read-block-calls t) (read-block-at t) read-block.Post
 read-block-end-requires t c κs = block-body t (c .before) .inside
@@ -283,13 +349,17 @@ read-block-same-length-2 : (t : ℕ) → read-block-lts.Need-same-length-2 (read
 read-block-same-length-2 t c = search needs
 
 read-block-returns-3 : (t : ℕ) → read-block-lts.Need-returns-3 (read-block-calls t) (read-block-at t) read-block.Post
-read-block-returns-3 t c = λ k tabs named. block.closing-refused (block-body t (c .before .before .before .before .before)) (c .before .before .before .end .ensures) k named tabs _ (c .before .before .read-closing .ensures) (c .enum-told3 .given .1)
+read-block-returns-3 t c =
+    λ k tabs named. block.closing-refused (block-body t (c .before .before .before .before .before)) (c .before .before .before .end .ensures) k named tabs _
+    (c .before .before .read-closing .ensures) (c .enum-told3 .given .1)
 
 read-block-same-length-3 : (t : ℕ) → read-block-lts.Need-same-length-3 (read-block-calls t) (read-block-at t) read-block.Post
 read-block-same-length-3 t c = search needs
 
 read-block-returns-4 : (t : ℕ) → read-block-lts.Need-returns-4 (read-block-calls t) (read-block-at t) read-block.Post
-read-block-returns-4 t c = λ k tabs named. block.block-read (block-body t (c .before .before .before .before .before .before)) (c .before .before .before .before .end .ensures) k named tabs _ (c .before .before .before .read-closing .ensures) (c .before .closing .given .1)
+read-block-returns-4 t c =
+    λ k tabs named. block.block-read (block-body t (c .before .before .before .before .before .before)) (c .before .before .before .before .end .ensures) k named tabs _
+    (c .before .before .before .read-closing .ensures) (c .before .closing .given .1)
 
 -- ---- read_children: what the pieces from `i` on make, those from `at` on make; what is left of the slice falls
 
@@ -303,61 +373,94 @@ read-children-μ-loop table s at nesting cells₀ slot i₀ made₀ own₀ cells
 children-ahead : (t : ℕ) (c : read-children-lts.After-piece (read-children-calls t) (read-children-at t) read-children.Post read-children-Inv-loop read-children-μ-loop)
     → let turn = c .before .before .before .before .before .before .before .before .before in
     let top = turn .before .before .before .before in
-    (turn .loop .i < c .piece .given .0 .0) × (c .piece .given .0 .0 ≤ length (top .args .s .now)) × (top .args .slot .next + turn .loop .made + c .piece .given .0 .1 .0 ≤ top .args .slot .room) × (c .piece .given .0 .1 .1 .0 ≤ c .piece .given .0 .1 .0)
+    (turn .loop .i < c .piece .given .0 .0) × (c .piece .given .0 .0 ≤ length (top .args .s .now))
+    × (top .args .slot .next + turn .loop .made + c .piece .given .0 .1 .0 ≤ top .args .slot .room) × (c .piece .given .0 .1 .1 .0 ≤ c .piece .given .0 .1 .0)
 children-ahead t c =
     let at-read-piece = c .before .before .before .before in
     let at-if = at-read-piece .before .before .before in
-    piece-ahead (at-if .before .before .loop .inv) (at-if .before .is-closing .ensures) (at-if .if1 .taken) (at-read-piece .before .after .ensures) (at-read-piece .read-piece .ensures) (c .piece .given .1)
+    piece-ahead (at-if .before .before .loop .inv) (at-if .before .is-closing .ensures) (at-if .if1 .taken) (at-read-piece .before .after .ensures)
+    (at-read-piece .read-piece .ensures) (c .piece .given .1)
 
-read-children-loop-holds : (t : ℕ) → read-children-lts.Need-loop-holds (read-children-calls t) (read-children-at t) read-children.Post read-children-Inv-loop read-children-μ-loop
+read-children-loop-holds : (t : ℕ)
+    → read-children-lts.Need-loop-holds (read-children-calls t) (read-children-at t) read-children.Post read-children-Inv-loop read-children-μ-loop
 read-children-loop-holds t c = pieces-begin _ _ _ _ _ _ (c .before .before .before .pre .1 .in-sheet .inside) (c .before .before .before .pre .1 .fits .inside)
 
-read-children-is-closing-requires : (t : ℕ) → read-children-lts.Need-is-closing-requires (read-children-calls t) (read-children-at t) read-children.Post read-children-Inv-loop read-children-μ-loop
+read-children-is-closing-requires : (t : ℕ)
+    → read-children-lts.Need-is-closing-requires (read-children-calls t) (read-children-at t) read-children.Post read-children-Inv-loop read-children-μ-loop
 read-children-is-closing-requires t c κs = c .loop .inv .inside
 
-read-children-after-requires : (t : ℕ) → read-children-lts.Need-after-requires (read-children-calls t) (read-children-at t) read-children.Post read-children-Inv-loop read-children-μ-loop
-read-children-after-requires t c κs = omega (arith, c .before .before .before .loop .inv .few, c .before .before .before .before .before .before .before .pre .1 .fits .few)
+read-children-after-requires : (t : ℕ)
+    → read-children-lts.Need-after-requires (read-children-calls t) (read-children-at t) read-children.Post read-children-Inv-loop read-children-μ-loop
+read-children-after-requires t c κs =
+    omega (arith, c .before .before .before .loop .inv .few, c .before .before .before .before .before .before .before .pre .1 .fits .few)
 
-read-children-read-piece-requires : (t : ℕ) → read-children-lts.Need-read-piece-requires (read-children-calls t) (read-children-at t) read-children.Post read-children-Inv-loop read-children-μ-loop
+read-children-read-piece-requires : (t : ℕ)
+    → read-children-lts.Need-read-piece-requires (read-children-calls t) (read-children-at t) read-children.Post read-children-Inv-loop read-children-μ-loop
 read-children-read-piece-requires t c κs =
     let at-loop = c .before .before .before .before in
-    let top = at-loop .before .before .before .before in
-    (omega (arith, top .pre .0, at-loop .loop .inv .ahead), stands-on (top .pre .1) (at-loop .loop .inv .inside) (fits-after _ (top .pre .1 .fits) (at-loop .loop .inv .held) (at-loop .loop .inv .few) (c .after .ensures)))
+    let top = at-loop .before .before .before .before in (
+      omega (arith, top .pre .0, at-loop .loop .inv .ahead),
+      stands-on (top .pre .1) (at-loop .loop .inv .inside) (fits-after _ (top .pre .1 .fits) (at-loop .loop .inv .held) (at-loop .loop .inv .few) (c .after .ensures)),
+    )
 
-read-children-enum-known-piece : (t : ℕ) → read-children-lts.Need-enum-known-piece (read-children-calls t) (read-children-at t) read-children.Post read-children-Inv-loop read-children-μ-loop
+read-children-enum-known-piece : (t : ℕ)
+    → read-children-lts.Need-enum-known-piece (read-children-calls t) (read-children-at t) read-children.Post read-children-Inv-loop read-children-μ-loop
 read-children-enum-known-piece t c = search needs
 
-read-children-enum-told : (t : ℕ) → read-children-lts.Need-enum-told (read-children-calls t) (read-children-at t) read-children.Post read-children-Inv-loop read-children-μ-loop
+read-children-enum-told : (t : ℕ)
+    → read-children-lts.Need-enum-told (read-children-calls t) (read-children-at t) read-children.Post read-children-Inv-loop read-children-μ-loop
 read-children-enum-told t c = search needs
 
-read-children-same-length : (t : ℕ) → read-children-lts.Need-same-length (read-children-calls t) (read-children-at t) read-children.Post read-children-Inv-loop read-children-μ-loop
-read-children-same-length t c = c .before .before .before .before .read-piece .kept .1 .1 .1 .1 .0 ∙ c .before .before .before .before .before .before .before .before .before .loop .inv .held
+read-children-same-length : (t : ℕ)
+    → read-children-lts.Need-same-length (read-children-calls t) (read-children-at t) read-children.Post read-children-Inv-loop read-children-μ-loop
+read-children-same-length t c =
+    c .before .before .before .before .read-piece .kept .1 .1 .1 .1 .0 ∙ c .before .before .before .before .before .before .before .before .before .loop .inv .held
 
-read-children-returns : (t : ℕ) → read-children-lts.Need-returns (read-children-calls t) (read-children-at t) read-children.Post read-children-Inv-loop read-children-μ-loop
+read-children-returns : (t : ℕ)
+    → read-children-lts.Need-returns (read-children-calls t) (read-children-at t) read-children.Post read-children-Inv-loop read-children-μ-loop
 read-children-returns t c =
     let at-read-piece = c .before .before .before .before in
     let at-if = at-read-piece .before .before .before in
-    pieces-refused (at-if .before .before .loop .inv) (at-if .before .is-closing .ensures) (at-if .if1 .taken) (at-read-piece .before .after .ensures) (at-read-piece .read-piece .ensures) (c .enum-told .given .1)
+    pieces-refused (at-if .before .before .loop .inv) (at-if .before .is-closing .ensures) (at-if .if1 .taken) (at-read-piece .before .after .ensures)
+    (at-read-piece .read-piece .ensures) (c .enum-told .given .1)
 
-read-children-add-made : (t : ℕ) → read-children-lts.Need-add-made (read-children-calls t) (read-children-at t) read-children.Post read-children-Inv-loop read-children-μ-loop
-read-children-add-made t c = let on = children-ahead t (c .before) in omega (arith, c .before .before .before .before .before .before .before .before .before .before .before .before .before .before .pre .1 .fits .few)
+read-children-add-made : (t : ℕ)
+    → read-children-lts.Need-add-made (read-children-calls t) (read-children-at t) read-children.Post read-children-Inv-loop read-children-μ-loop
+read-children-add-made t c =
+    let on =
+    children-ahead t (c .before) in omega (
+      arith,
+      c .before .before .before .before .before .before .before .before .before .before .before .before .before .before .pre .1 .fits .few,
+    )
 
-read-children-add-own : (t : ℕ) → read-children-lts.Need-add-own (read-children-calls t) (read-children-at t) read-children.Post read-children-Inv-loop read-children-μ-loop
-read-children-add-own t c = let on = children-ahead t (c .before) in omega (arith, c .before .before .before .before .before .before .before .before .before .before .loop .inv .fewer, c .before .before .before .before .before .before .before .before .before .before .before .before .before .before .pre .1 .fits .few)
+read-children-add-own : (t : ℕ)
+    → read-children-lts.Need-add-own (read-children-calls t) (read-children-at t) read-children.Post read-children-Inv-loop read-children-μ-loop
+read-children-add-own t c =
+    let on =
+    children-ahead t (c .before) in omega (
+      arith,
+      c .before .before .before .before .before .before .before .before .before .before .loop .inv .fewer,
+      c .before .before .before .before .before .before .before .before .before .before .before .before .before .before .pre .1 .fits .few,
+    )
 
-read-children-loop-less : (t : ℕ) → read-children-lts.Need-loop-less (read-children-calls t) (read-children-at t) read-children.Post read-children-Inv-loop read-children-μ-loop
+read-children-loop-less : (t : ℕ)
+    → read-children-lts.Need-loop-less (read-children-calls t) (read-children-at t) read-children.Post read-children-Inv-loop read-children-μ-loop
 read-children-loop-less t c = let on = children-ahead t (c .before) in omega arith
 
-read-children-loop-again : (t : ℕ) → read-children-lts.Need-loop-again (read-children-calls t) (read-children-at t) read-children.Post read-children-Inv-loop read-children-μ-loop
+read-children-loop-again : (t : ℕ)
+    → read-children-lts.Need-loop-again (read-children-calls t) (read-children-at t) read-children.Post read-children-Inv-loop read-children-μ-loop
 read-children-loop-again t c =
     let at-read-piece = c .before .before .before .before .before in
     let at-if = at-read-piece .before .before .before in
-    pieces-on (at-if .before .before .loop .inv) (at-if .before .is-closing .ensures) (at-if .if1 .taken) (at-read-piece .before .after .ensures) (at-read-piece .read-piece .ensures) (c .before .piece .given .1) (at-read-piece .read-piece .kept .1 .1 .1 .1 .0)
+    pieces-on (at-if .before .before .loop .inv) (at-if .before .is-closing .ensures) (at-if .if1 .taken) (at-read-piece .before .after .ensures)
+    (at-read-piece .read-piece .ensures) (c .before .piece .given .1) (at-read-piece .read-piece .kept .1 .1 .1 .1 .0)
 
-read-children-same-length-2 : (t : ℕ) → read-children-lts.Need-same-length-2 (read-children-calls t) (read-children-at t) read-children.Post read-children-Inv-loop read-children-μ-loop
+read-children-same-length-2 : (t : ℕ)
+    → read-children-lts.Need-same-length-2 (read-children-calls t) (read-children-at t) read-children.Post read-children-Inv-loop read-children-μ-loop
 read-children-same-length-2 t c = c .before .before .loop .inv .held
 
-read-children-returns-2 : (t : ℕ) → read-children-lts.Need-returns-2 (read-children-calls t) (read-children-at t) read-children.Post read-children-Inv-loop read-children-μ-loop
+read-children-returns-2 : (t : ℕ)
+    → read-children-lts.Need-returns-2 (read-children-calls t) (read-children-at t) read-children.Post read-children-Inv-loop read-children-μ-loop
 read-children-returns-2 t c = pieces-over (c .before .before .loop .inv) (c .before .is-closing .ensures) (c .if1 .left)
 
 -- ---- read_concept: the opening marker, what follows it, the entry before them
@@ -366,11 +469,20 @@ read-children-returns-2 t c = pieces-over (c .before .before .loop .inv) (c .bef
 concept-marker : (t : ℕ) (c : read-concept-lts.After-form (read-concept-calls t) (read-concept-at t) read-concept.Post)
     → let start = c .before .before .before .before .before .before .before .before .before .args in
     let read = c .form .given .0 in
-    MarkerAt (start .table .now) (start .s .now) (start .at) (start .cells .now) (start .slot) (start .nesting .left) (c .before .before .before .before .read-opening .last .1 .1 .1 .1 .0) (read .0) (read .1 .0) (read .1 .1 .0) (read .1 .1 .1 .0) (read .1 .1 .1 .1 .0) (read .1 .1 .1 .1 .1 .0)
-concept-marker t c = record { stands = c .before .before .before .before .before .before .before .before .before .pre .1; answer = c .before .before .before .before .read-opening .result; opens = c .before .before .before .before .read-opening .ensures; told = c .form .given .1 }
+    MarkerAt (start .table .now) (start .s .now) (start .at) (start .cells .now) (start .slot) (start .nesting .left)
+    (c .before .before .before .before .read-opening .last .1 .1 .1 .1 .0) (read .0) (read .1 .0) (read .1 .1 .0) (read .1 .1 .1 .0) (read .1 .1 .1 .1 .0)
+    (read .1 .1 .1 .1 .1 .0)
+concept-marker t c =
+    record {
+      stands = c .before .before .before .before .before .before .before .before .before .pre .1;
+      answer = c .before .before .before .before .read-opening .result;
+      opens = c .before .before .before .before .read-opening .ensures;
+      told = c .form .given .1;
+    }
 
 read-concept-read-opening-requires : (t : ℕ) → read-concept-lts.Need-read-opening-requires (read-concept-calls t) (read-concept-at t) read-concept.Post
-read-concept-read-opening-requires t c κs = (c .before .before .before .before .pre .1 .valid, c .before .before .before .before .pre .1 .in-sheet, c .before .before .before .before .pre .1 .fits)
+read-concept-read-opening-requires t c κs =
+    (c .before .before .before .before .pre .1 .valid, c .before .before .before .before .pre .1 .in-sheet, c .before .before .before .before .pre .1 .fits)
 
 read-concept-enum-known-refusal : (t : ℕ) → read-concept-lts.Need-enum-known-refusal (read-concept-calls t) (read-concept-at t) read-concept.Post
 read-concept-enum-known-refusal t c = search needs
@@ -382,10 +494,16 @@ read-concept-enum-known-form : (t : ℕ) → read-concept-lts.Need-enum-known-fo
 read-concept-enum-known-form t c = search needs
 
 read-concept-under-requires : (t : ℕ) → read-concept-lts.Need-under-requires (read-concept-calls t) (read-concept-at t) read-concept.Post
-read-concept-under-requires t c κs = omega (arith, c .before .before .before .before .before .before .before .before .before .before .pre .1 .fits .few, c .before .before .before .before .before .before .before .before .before .before .pre .1 .fits .inside)
+read-concept-under-requires t c κs =
+    omega (
+      arith,
+      c .before .before .before .before .before .before .before .before .before .before .pre .1 .fits .few,
+      c .before .before .before .before .before .before .before .before .before .before .pre .1 .fits .inside,
+    )
 
 read-concept-after-requires : (t : ℕ) → read-concept-lts.Need-after-requires (read-concept-calls t) (read-concept-at t) read-concept.Post
-read-concept-after-requires t c κs = let marker = concept-marker t (c .before .before) in omega (arith, marker-ahead marker .4, marker .stands .fits .few, ap (λ (x : Slot). x .next) (c .under .ensures))
+read-concept-after-requires t c κs =
+    let marker = concept-marker t (c .before .before) in omega (arith, marker-ahead marker .4, marker .stands .fits .few, ap (λ (x : Slot). x .next) (c .under .ensures))
 
 read-concept-add-read-inside : (t : ℕ) → read-concept-lts.Need-add-read-inside (read-concept-calls t) (read-concept-at t) read-concept.Post
 read-concept-add-read-inside t c =
@@ -395,20 +513,31 @@ read-concept-add-read-inside t c =
 read-concept-read-inside-requires : (t : ℕ) → read-concept-lts.Need-read-inside-requires (read-concept-calls t) (read-concept-at t) read-concept.Post
 read-concept-read-inside-requires t c κs =
     let at-form = c .before .before .before .before in
-    let ahead = marker-ahead (concept-marker t at-form) in
-    (omega (arith, ahead .2, ahead .3, at-form .before .before .before .before .before .before .before .before .before .pre .0), (lent-stands (concept-marker t at-form) (c .before .before .under .ensures) (c .before .after .ensures) (at-form .before .before .before .before .read-opening .kept .1 .1 .1 .1 .0), omega (arith, ahead .0), ahead .1))
+    let ahead = marker-ahead (concept-marker t at-form) in (
+      omega (arith, ahead .2, ahead .3, at-form .before .before .before .before .before .before .before .before .before .pre .0),
+      (
+        lent-stands (concept-marker t at-form) (c .before .before .under .ensures) (c .before .after .ensures)
+            (at-form .before .before .before .before .read-opening .kept .1 .1 .1 .1 .0),
+        omega (arith, ahead .0),
+        ahead .1,
+      ),
+    )
 
 read-concept-end-concept-requires : (t : ℕ) → read-concept-lts.Need-end-concept-requires (read-concept-calls t) (read-concept-at t) read-concept.Post
 read-concept-end-concept-requires t c κs =
     let at-read-inside = c .before .before .before in
     let at-after = at-read-inside .before .before in
-    may-end (concept-marker t (at-after .before .before .before)) (at-after .before .under .ensures) (at-after .after .ensures) _ (at-read-inside .read-inside .ensures) (at-read-inside .read-inside .kept .1 .1 .1 .1 .1 .1 .1 .1 .0 ∙ at-after .before .before .before .before .before .before .before .read-opening .kept .1 .1 .1 .1 .0)
+    may-end (concept-marker t (at-after .before .before .before)) (at-after .before .under .ensures) (at-after .after .ensures) _ (at-read-inside .read-inside .ensures)
+    (at-read-inside .read-inside .kept .1 .1 .1 .1 .1 .1 .1 .1 .0 ∙
+    at-after .before .before .before .before .before .before .before .read-opening .kept .1 .1 .1 .1 .0)
 
 read-concept-same-length : (t : ℕ) → read-concept-lts.Need-same-length (read-concept-calls t) (read-concept-at t) read-concept.Post
 read-concept-same-length t c = search needs
 
 read-concept-returns : (t : ℕ) → read-concept-lts.Need-returns (read-concept-calls t) (read-concept-at t) read-concept.Post
-read-concept-returns t c = marker-refused (c .before .before .before .before .before .before .before .before .before .before .before .pre .1) (c .before .before .before .before .before .before .read-opening .ensures) _ (c .before .before .refusal .given .1) (c .refused .ensures)
+read-concept-returns t c =
+    marker-refused (c .before .before .before .before .before .before .before .before .before .before .before .pre .1)
+    (c .before .before .before .before .before .before .read-opening .ensures) _ (c .before .before .refusal .given .1) (c .refused .ensures)
 
 read-concept-same-length-2 : (t : ℕ) → read-concept-lts.Need-same-length-2 (read-concept-calls t) (read-concept-at t) read-concept.Post
 read-concept-same-length-2 t c = search needs
@@ -416,7 +545,9 @@ read-concept-same-length-2 t c = search needs
 read-concept-returns-2 : (t : ℕ) → read-concept-lts.Need-returns-2 (read-concept-calls t) (read-concept-at t) read-concept.Post
 read-concept-returns-2 t c =
     let at-read-inside = c .before .before .before .before .before .before in
-    concept-ended (concept-marker t (at-read-inside .before .before .before .before .before)) (at-read-inside .before .before .before .under .ensures) (at-read-inside .before .before .after .ensures) _ (at-read-inside .read-inside .ensures) (c .before .before .end-concept .ensures .0) (c .before .before .end-concept .ensures .1)
+    concept-ended (concept-marker t (at-read-inside .before .before .before .before .before)) (at-read-inside .before .before .before .under .ensures)
+    (at-read-inside .before .before .after .ensures) _ (at-read-inside .read-inside .ensures) (c .before .before .end-concept .ensures .0)
+    (c .before .before .end-concept .ensures .1)
 
 -- ---- read_inside: by the form of the marker
 
@@ -438,13 +569,17 @@ read-inside-same-length : (t : ℕ) → read-inside-lts.Need-same-length (read-i
 read-inside-same-length t c = search needs
 
 read-inside-returns-2 : (t : ℕ) → read-inside-lts.Need-returns-2 (read-inside-calls t) (read-inside-at t) read-inside.Post
-read-inside-returns-2 t c = λ k named. inside-block (c .before .before .before .before .before .before .before .before .pre .1 .0) _ _ _ k (c .before .before .before .before .match .keys2) (c .before .before .read-block .ensures k _ named)
+read-inside-returns-2 t c =
+    λ k named. inside-block (c .before .before .before .before .before .before .before .before .pre .1 .0) _ _ _ k (c .before .before .before .before .match .keys2)
+    (c .before .before .read-block .ensures k _ named)
 
 read-inside-same-length-2 : (t : ℕ) → read-inside-lts.Need-same-length-2 (read-inside-calls t) (read-inside-at t) read-inside.Post
 read-inside-same-length-2 t c = search needs
 
 read-inside-returns-3 : (t : ℕ) → read-inside-lts.Need-returns-3 (read-inside-calls t) (read-inside-at t) read-inside.Post
-read-inside-returns-3 t c = λ k named. inside-content (c .before .before .before .before .before .before .before .before .pre .1 .0) _ _ _ k (c .before .before .before .before .match .rest .0 .1) (c .before .before .before .before .match .rest .1) (c .before .before .read-content .ensures k named)
+read-inside-returns-3 t c =
+    λ k named. inside-content (c .before .before .before .before .before .before .before .before .pre .1 .0) _ _ _ k
+    (c .before .before .before .before .match .rest .0 .1) (c .before .before .before .before .match .rest .1) (c .before .before .read-content .ensures k named)
 
 -- ---- read_piece: a blank line, or tabs, a Concept and the rest of its line
 
@@ -452,11 +587,14 @@ read-inside-returns-3 t c = λ k named. inside-content (c .before .before .befor
 piece-concept : (t : ℕ) (c : read-piece-lts.After-concept (read-piece-calls t) (read-piece-at t) read-piece.Post)
     → let start = c .before .before .before .before .before .before .before .before .before .before .before .before .before .before .args in
     let read = c .concept .given .0 in
-    ConceptAt (start .table .now) (start .s .now) (start .at) (start .nesting .left) (start .cells .now) (start .slot) (c .before .before .before .before .read-annotated .last .1 .1 .1 .1 .0) (read .0) (read .1 .0) (read .1 .1 .0)
+    ConceptAt (start .table .now) (start .s .now) (start .at) (start .nesting .left) (start .cells .now) (start .slot)
+    (c .before .before .before .before .read-annotated .last .1 .1 .1 .1 .0) (read .0) (read .1 .0) (read .1 .1 .0)
 piece-concept t c =
     let at-read-annotated = c .before .before .before .before in
     let at-tabs-only = at-read-annotated .before .before .before .before in
-    concept-at (at-tabs-only .before .before .before .before .before .before .pre .1) _ (at-tabs-only .before .before .is-blank-line .ensures) (at-tabs-only .before .if1 .left) _ (at-tabs-only .tabs-only .ensures) (at-read-annotated .before .before .enum-told .given .1) (at-read-annotated .read-annotated .ensures) (c .concept .given .1)
+    concept-at (at-tabs-only .before .before .before .before .before .before .pre .1) _ (at-tabs-only .before .before .is-blank-line .ensures)
+    (at-tabs-only .before .if1 .left) _ (at-tabs-only .tabs-only .ensures) (at-read-annotated .before .before .enum-told .given .1)
+    (at-read-annotated .read-annotated .ensures) (c .concept .given .1)
 
 read-piece-is-blank-line-requires : (t : ℕ) → read-piece-lts.Need-is-blank-line-requires (read-piece-calls t) (read-piece-at t) read-piece.Post
 read-piece-is-blank-line-requires t c κs = search needs
@@ -465,7 +603,8 @@ read-piece-line-rest-requires : (t : ℕ) → read-piece-lts.Need-line-rest-requ
 read-piece-line-rest-requires t c κs = search needs
 
 read-piece-returns : (t : ℕ) → read-piece-lts.Need-returns (read-piece-calls t) (read-piece-at t) read-piece.Post
-read-piece-returns t c = blank-made (c .before .before .before .before .before .before .pre .1) _ (c .before .before .is-blank-line .ensures) (c .before .if1 .taken) _ (c .line-rest .ensures)
+read-piece-returns t c =
+    blank-made (c .before .before .before .before .before .before .pre .1) _ (c .before .before .is-blank-line .ensures) (c .before .if1 .taken) _ (c .line-rest .ensures)
 
 read-piece-tabs-only-requires : (t : ℕ) → read-piece-lts.Need-tabs-only-requires (read-piece-calls t) (read-piece-at t) read-piece.Post
 read-piece-tabs-only-requires t c κs = search needs
@@ -477,10 +616,15 @@ read-piece-enum-told-2 : (t : ℕ) → read-piece-lts.Need-enum-told-2 (read-pie
 read-piece-enum-told-2 t c = search needs
 
 read-piece-returns-2 : (t : ℕ) → read-piece-lts.Need-returns-2 (read-piece-calls t) (read-piece-at t) read-piece.Post
-read-piece-returns-2 t c = tabs-refused (c .before .before .before .before .before .before .before .before .pre .1) _ (c .before .before .before .before .is-blank-line .ensures) (c .before .before .before .if1 .left) _ (c .before .before .tabs-only .ensures) (c .enum-told2 .given .1)
+read-piece-returns-2 t c =
+    tabs-refused (c .before .before .before .before .before .before .before .before .pre .1) _ (c .before .before .before .before .is-blank-line .ensures)
+    (c .before .before .before .if1 .left) _ (c .before .before .tabs-only .ensures) (c .enum-told2 .given .1)
 
 read-piece-read-annotated-requires : (t : ℕ) → read-piece-lts.Need-read-annotated-requires (read-piece-calls t) (read-piece-at t) read-piece.Post
-read-piece-read-annotated-requires t c κs = (omega (arith, c .before .before .before .before .before .before .before .before .before .pre .0), c .before .before .before .before .before .before .before .before .before .pre .1)
+read-piece-read-annotated-requires t c κs = (
+  omega (arith, c .before .before .before .before .before .before .before .before .before .pre .0),
+  c .before .before .before .before .before .before .before .before .before .pre .1,
+)
 
 read-piece-enum-known-concept : (t : ℕ) → read-piece-lts.Need-enum-known-concept (read-piece-calls t) (read-piece-at t) read-piece.Post
 read-piece-enum-known-concept t c = search needs
@@ -495,7 +639,9 @@ read-piece-returns-3 : (t : ℕ) → read-piece-lts.Need-returns-3 (read-piece-c
 read-piece-returns-3 t c =
     let at-read-annotated = c .before .before .before .before in
     let at-tabs-only = at-read-annotated .before .before .before .before in
-    concept-refused (at-tabs-only .before .before .before .before .before .before .pre .1) _ (at-tabs-only .before .before .is-blank-line .ensures) (at-tabs-only .before .if1 .left) _ (at-tabs-only .tabs-only .ensures) (at-read-annotated .before .before .enum-told .given .1) (at-read-annotated .read-annotated .ensures) (c .enum-told3 .given .1)
+    concept-refused (at-tabs-only .before .before .before .before .before .before .pre .1) _ (at-tabs-only .before .before .is-blank-line .ensures)
+    (at-tabs-only .before .if1 .left) _ (at-tabs-only .tabs-only .ensures) (at-read-annotated .before .before .enum-told .given .1)
+    (at-read-annotated .read-annotated .ensures) (c .enum-told3 .given .1)
 
 read-piece-line-rest-requires-2 : (t : ℕ) → read-piece-lts.Need-line-rest-requires-2 (read-piece-calls t) (read-piece-at t) read-piece.Post
 read-piece-line-rest-requires-2 t c κs = piece-concept t (c .before) .inside
@@ -516,7 +662,10 @@ read-piece-same-length-3 : (t : ℕ) → read-piece-lts.Need-same-length-3 (read
 read-piece-same-length-3 t c = c .before .before .before .before .before .before .before .before .before .read-annotated .kept .1 .1 .1 .1 .0
 
 read-piece-returns-5 : (t : ℕ) → read-piece-lts.Need-returns-5 (read-piece-calls t) (read-piece-at t) read-piece.Post
-read-piece-returns-5 t c = piece-made (piece-concept t (c .before .before .before .before .before)) (rest-at _ _ _ _ _ _ (piece-concept t (c .before .before .before .before .before) .inside) (c .before .before .before .line-rest2 .ensures) (c .before .rest .given .1))
+read-piece-returns-5 t c =
+    piece-made (piece-concept t (c .before .before .before .before .before))
+    (rest-at _ _ _ _ _ _ (piece-concept t (c .before .before .before .before .before) .inside) (c .before .before .before .line-rest2 .ensures)
+    (c .before .rest .given .1))
 
 pub +read-annotated+read-block+read-children+read-concept+read-inside+read-piece-spec :
     {M : Type 1} → statement M

@@ -8,7 +8,8 @@ use Rattle.sheets.proofs.concepts.end_concept.Tie as tie
 
 -- the room for the entry, and where the Concept ends
 room : (c : tie.After-body) → let start = c .before .before .before .args in
-    (start .slot .next + 1 + start .made + c .body .given .0 .1 .0 ≤ start .slot .room) × (start .own ≤ start .made) × (c .body .given .0 .1 .1 .0 ≤ c .body .given .0 .1 .0) × (c .body .given .0 .0 ≤ sheetLimit)
+    (start .slot .next + 1 + start .made + c .body .given .0 .1 .0 ≤ start .slot .room) × (start .own ≤ start .made)
+    × (c .body .given .0 .1 .1 .0 ≤ c .body .given .0 .1 .0) × (c .body .given .0 .0 ≤ sheetLimit)
 room c = c .before .before .before .pre .room _ _ _ (c .body .given .1)
 
 enum-known-body : tie.Need-enum-known-body
@@ -54,7 +55,8 @@ same-length : tie.Need-same-length
 same-length c = search needs
 
 returns-2 : tie.Need-returns-2
-returns-2 c = (rw (c .before .before .before .before .before .body .given .1), rw (c .before .before .before .before .before .body .given .1) (c .before .before .put .ensures))
+returns-2 c =
+    (rw (c .before .before .before .before .before .body .given .1), rw (c .before .before .before .before .before .body .given .1) (c .before .before .put .ensures))
 
 pub end-concept-spec : {M : Type 1} → statement M
 end-concept-spec =

@@ -8,13 +8,17 @@ use Rattle.sheets.proofs.opening.read_marker.Statement.{statement}
 use Rattle.sheets.proofs.opening.read_marker.Tie as tie
 
 -- the marker up to its ending
-traits : (c : tie.After-read-ending) → let start = c .before .before .before .before .before .before .before .before .before .before .before .before .before .before .args in
-    TraitsAt (start .s .now) (start .start) (start .to) (start .cells .now) (start .slot) (c .before .before .before .before .before .before .before .read-traits .last .1 .1 .0) (c .before .end2 .result) (c .before .before .before .end .given .0 .1 .0) (c .before .before .before .end .given .0 .1 .1 .0)
+traits : (c : tie.After-read-ending) → let start =
+    c .before .before .before .before .before .before .before .before .before .before .before .before .before .before .args in
+    TraitsAt (start .s .now) (start .start) (start .to) (start .cells .now) (start .slot)
+    (c .before .before .before .before .before .before .before .read-traits .last .1 .1 .0) (c .before .end2 .result) (c .before .before .before .end .given .0 .1 .0)
+    (c .before .before .before .end .given .0 .1 .1 .0)
 traits c =
     let at-read-traits = c .before .before .before .before .before .before .before in
     let at-if = at-read-traits .before .before .before in
     let top = at-if .before .before .before .before in
-    marker-traits (top .pre .0) (top .pre .2) (top .pre .1) (top .args .block) (at-if .before .is-full .ensures) (at-if .if1 .left) (at-read-traits .before .under .ensures) (at-read-traits .read-traits .ensures) (c .before .before .before .end .given .1) (c .before .end2 .ensures)
+    marker-traits (top .pre .0) (top .pre .2) (top .pre .1) (top .args .block) (at-if .before .is-full .ensures) (at-if .if1 .left)
+    (at-read-traits .before .under .ensures) (at-read-traits .read-traits .ensures) (c .before .before .before .end .given .1) (c .before .end2 .ensures)
 
 is-full-requires : tie.Need-is-full-requires
 is-full-requires c κs = search needs
@@ -23,13 +27,19 @@ unopened-requires : tie.Need-unopened-requires
 unopened-requires c κs = search needs
 
 returns : tie.Need-returns
-returns c = no-room (c .before .before .before .before .before .pre .0) (c .before .before .before .before .before .pre .2) (c .before .before .before .before .before .pre .1) _ (c .before .before .is-full .ensures) (c .before .if1 .taken) (c .unopened .ensures)
+returns c =
+    no-room (c .before .before .before .before .before .pre .0) (c .before .before .before .before .before .pre .2) (c .before .before .before .before .before .pre .1) _
+    (c .before .before .is-full .ensures) (c .before .if1 .taken) (c .unopened .ensures)
 
 under-requires : tie.Need-under-requires
 under-requires c κs = search needs
 
 read-traits-requires : tie.Need-read-traits-requires
-read-traits-requires c κs = (c .before .before .before .before .before .before .pre .0, fits-under (c .before .before .before .before .before .before .pre .2) (c .before .before .before .is-full .ensures) (c .before .before .if1 .left) (c .under .ensures))
+read-traits-requires c κs = (
+  c .before .before .before .before .before .before .pre .0,
+  fits-under (c .before .before .before .before .before .before .pre .2) (c .before .before .before .is-full .ensures) (c .before .before .if1 .left)
+      (c .under .ensures),
+)
 
 enum-known-refusal : tie.Need-enum-known-refusal
 enum-known-refusal c = search needs
@@ -69,13 +79,16 @@ returns-2 c =
     let at-read-traits = c .before .before .before .before .before .before in
     let at-if = at-read-traits .before .before .before in
     let top = at-if .before .before .before .before in
-    traits-refused (top .pre .0) (top .pre .2) (top .pre .1) _ (at-if .before .is-full .ensures) (at-if .if1 .left) (at-read-traits .before .under .ensures) (at-read-traits .read-traits .ensures) (c .before .before .refusal .given .1) (c .unopened2 .ensures)
+    traits-refused (top .pre .0) (top .pre .2) (top .pre .1) _ (at-if .before .is-full .ensures) (at-if .if1 .left) (at-read-traits .before .under .ensures)
+    (at-read-traits .read-traits .ensures) (c .before .before .refusal .given .1) (c .unopened2 .ensures)
 
 same-length-2 : tie.Need-same-length-2
 same-length-2 c = search needs
 
 returns-3 : tie.Need-returns-3
-returns-3 c = ending-refused (traits (c .before .before .before .before)) _ _ (c .before .before .before .before .read-ending .ensures) (c .before .before .refusal2 .given .1) (c .unopened3 .ensures)
+returns-3 c =
+    ending-refused (traits (c .before .before .before .before)) _ _ (c .before .before .before .before .read-ending .ensures) (c .before .before .refusal2 .given .1)
+    (c .unopened3 .ensures)
 
 same-length-3 : tie.Need-same-length-3
 same-length-3 c = search needs

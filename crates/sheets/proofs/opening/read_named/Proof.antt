@@ -30,7 +30,8 @@ unopened-requires c κs = search needs
 returns : tie.Need-returns
 returns c =
     let top = c .before .before .before .before .before .before .before in
-    too-deep _ (top .pre .1) (top .pre .2) (top .pre .3) _ (no-less _ _ (c .before .before .before .step .ensures) (c .before .enum-told .given .1)) (c .unopened .ensures)
+    too-deep _ (top .pre .1) (top .pre .2) (top .pre .3) _ (no-less _ _ (c .before .before .before .step .ensures) (c .before .enum-told .given .1))
+    (c .unopened .ensures)
 
 sub-mode-of : tie.Need-sub-mode-of
 sub-mode-of c = search needs
@@ -70,7 +71,8 @@ returns-2 : tie.Need-returns-2
 returns-2 c =
     let at-mode-of = c .before .before .before in
     let top = at-mode-of .before .before .before .before .before .before .before .before .before in
-    unlisted _ (top .pre .1) (top .pre .2) (top .pre .3) _ (fewer (at-mode-of .before .before .before)) (sym (c .before .enum-told2 .given .1) ∙ at-mode-of .mode-of .ensures) (c .unopened2 .ensures)
+    unlisted _ (top .pre .1) (top .pre .2) (top .pre .3) _ (fewer (at-mode-of .before .before .before))
+    (sym (c .before .enum-told2 .given .1) ∙ at-mode-of .mode-of .ensures) (c .unopened2 .ensures)
 
 same-length : tie.Need-same-length
 same-length c = search needs
@@ -80,7 +82,8 @@ returns-3 c =
     let at-enum-told = c .before .before .before .before in
     let at-inside = at-enum-told .before .before .before .before .before in
     let top = at-inside .before .before .before .before .before .before in
-    listed _ (top .pre .1) (top .pre .2) (top .pre .3) _ (fewer at-inside) (in-children _ _ (sym (at-enum-told .enum-told3 .given .1) ∙ at-enum-told .before .before .mode-of .ensures)) (c .before .before .read-marker .ensures)
+    listed _ (top .pre .1) (top .pre .2) (top .pre .3) _ (fewer at-inside)
+    (in-children _ _ (sym (at-enum-told .enum-told3 .given .1) ∙ at-enum-told .before .before .mode-of .ensures)) (c .before .before .read-marker .ensures)
 
 same-length-2 : tie.Need-same-length-2
 same-length-2 c = search needs
@@ -90,7 +93,8 @@ returns-4 c =
     let at-enum-told = c .before .before .before .before in
     let at-inside = at-enum-told .before .before .before .before .before in
     let top = at-inside .before .before .before .before .before .before in
-    listed _ (top .pre .1) (top .pre .2) (top .pre .3) _ (fewer at-inside) (in-content _ _ (sym (at-enum-told .enum-told4 .given .1) ∙ at-enum-told .before .before .mode-of .ensures)) (c .before .before .read-marker2 .ensures)
+    listed _ (top .pre .1) (top .pre .2) (top .pre .3) _ (fewer at-inside)
+    (in-content _ _ (sym (at-enum-told .enum-told4 .given .1) ∙ at-enum-told .before .before .mode-of .ensures)) (c .before .before .read-marker2 .ensures)
 
 pub read-named-spec : {M : Type 1} → statement M
 read-named-spec =

@@ -17,10 +17,14 @@ enum-known-to c = search needs
 read-named-requires : tie.Need-read-named-requires
 read-named-requires c κs =
     let top = c .before .before .before .before .before .before .before .before in
-    let name = name-ends (top .pre .1) _ (c .before .before .before .before .read-head .ensures) (c .before .before .to .given .1) in (top .pre .0, name .0, name .1, top .pre .2)
+    let name =
+    name-ends (top .pre .1) _ (c .before .before .before .before .read-head .ensures) (c .before .before .to .given .1) in
+    (top .pre .0, name .0, name .1, top .pre .2)
 
 returns : tie.Need-returns
-returns c = head-refused (c .before .before .before .before .before .before .before .pre .1) _ (c .before .before .before .read-head .ensures) _ (c .before .before .before .before .before .before .before .pre .2) _ (c .before .refusal .given .1) refl
+returns c =
+    head-refused (c .before .before .before .before .before .before .before .pre .1) _ (c .before .before .before .read-head .ensures) _
+    (c .before .before .before .before .before .before .before .pre .2) _ (c .before .refusal .given .1) refl
 
 same-length : tie.Need-same-length
 same-length c = search needs

@@ -88,7 +88,9 @@ returns-3 : tie.Need-returns-3
 returns-3 c = search needs
 
 array-share-prefix-sheet : tie.Need-array-share-prefix-sheet
-array-share-prefix-sheet c = bytes-fit _ _ _ _ (c .before .before .before .before .before .before .before .before .before .before .before .before .before .before .before .before .read .ensures) (c .before .before .before .before .before .before .before .before .before .before .before .before .before .n .given .1)
+array-share-prefix-sheet c =
+    bytes-fit _ _ _ _ (c .before .before .before .before .before .before .before .before .before .before .before .before .before .before .before .before .read .ensures)
+    (c .before .before .before .before .before .before .before .before .before .before .before .before .before .n .given .1)
 
 slice-aggregate-view : tie.Need-slice-aggregate-view
 slice-aggregate-view c = sym (length-take-le _ _ (array-share-prefix-sheet (c .before)))

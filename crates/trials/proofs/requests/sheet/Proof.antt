@@ -91,13 +91,18 @@ returns-4 : tie.Need-returns-4
 returns-4 c = search needs
 
 array-share-prefix-table : tie.Need-array-share-prefix-table
-array-share-prefix-table c = bytes-fit _ _ _ _ (c .before .before .before .before .before .before .before .before .before .before .before .before .before .before .before .before .before .read .ensures) (c .before .before .before .before .before .before .before .before .before .before .before .before .before .before .t .given .1)
+array-share-prefix-table c =
+    bytes-fit _ _ _ _
+    (c .before .before .before .before .before .before .before .before .before .before .before .before .before .before .before .before .before .read .ensures)
+    (c .before .before .before .before .before .before .before .before .before .before .before .before .before .before .t .given .1)
 
 slice-aggregate-read-lent : tie.Need-slice-aggregate-read-lent
 slice-aggregate-read-lent c = sym (length-take-le _ _ (array-share-prefix-table (c .before)))
 
 array-share-prefix-sheet : tie.Need-array-share-prefix-sheet
-array-share-prefix-sheet c = bytes-fit _ _ _ _ (c .before .before .before .before .before .before .before .before .before .before .before .read2 .ensures) (c .before .before .before .before .before .before .before .before .n .given .1)
+array-share-prefix-sheet c =
+    bytes-fit _ _ _ _ (c .before .before .before .before .before .before .before .before .before .before .before .read2 .ensures)
+    (c .before .before .before .before .before .before .before .before .n .given .1)
 
 slice-aggregate-read-lent-2 : tie.Need-slice-aggregate-read-lent-2
 slice-aggregate-read-lent-2 c = sym (length-take-le _ _ (array-share-prefix-sheet (c .before)))

@@ -26,7 +26,11 @@ shared-slice-read-if1 : tie.Need-shared-slice-read-if1 Inv-loop μ-loop
 shared-slice-read-if1 c = search needs
 
 returns : tie.Need-returns Inv-loop μ-loop
-returns c = (sym (stops inWord _ _ (c .before .before .loop-test .taken) (ap not (eq-eqb _ space (c .if1 .taken)))) ∙ c .before .before .before .loop .inv .2, omega arith, omega arith)
+returns c = (
+  sym (stops inWord _ _ (c .before .before .loop-test .taken) (ap not (eq-eqb _ space (c .if1 .taken)))) ∙ c .before .before .before .loop .inv .2,
+  omega arith,
+  omega arith,
+)
 
 add-i : tie.Need-add-i Inv-loop μ-loop
 add-i c = omega arith
@@ -35,7 +39,11 @@ loop-less : tie.Need-loop-less Inv-loop μ-loop
 loop-less c = omega arith
 
 loop-again : tie.Need-loop-again Inv-loop μ-loop
-loop-again c = (omega arith, omega arith, sym (goes-on inWord _ _ (c .before .before .loop-test .taken) (ap not (ne-eqb _ space (c .if1 .left)))) ∙ c .before .before .before .loop .inv .2)
+loop-again c = (
+  omega arith,
+  omega arith,
+  sym (goes-on inWord _ _ (c .before .before .loop-test .taken) (ap not (ne-eqb _ space (c .if1 .left)))) ∙ c .before .before .before .loop .inv .2,
+)
 
 returns-2 : tie.Need-returns-2 Inv-loop μ-loop
 returns-2 c = (sym (cut-off inWord _ _ (c .loop-test .left)) ∙ c .before .loop .inv .2, omega arith, omega arith)

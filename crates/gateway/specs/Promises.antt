@@ -1,0 +1,20 @@
+-- What the functions for C promise: their contracts cite it, and so do the theorems that there is one answer only.
+-- Document 01, the answers of "Order", and "One answer only".
+use Prim.Native.Nat.{ℕ}
+use mathlib.Core.Path.{_≡_}
+use mathlib.Core.List.{List}
+use Rattle.paper.specs.Modes.{readTable}
+use Rattle.paper.specs.Reading.{reading}
+use Rattle.gateway.specs.Answers.{threeOf, viewOf}
+
+-- `cdx_table` writes this answer for a table
+abbrev pub TellsTable : List ℕ → List ℕ → Type 0
+TellsTable table answer = answer ≡ threeOf (readTable table)
+
+-- `cdx_sheet` leaves these cells, of which so many are lent, and writes this answer
+abbrev pub TellsSheet : List ℕ → List ℕ → ℕ → List ℕ → List ℕ → Type 0
+TellsSheet table sheet lent cells answer = (cells ≡ reading table sheet lent .cells) × (answer ≡ threeOf (reading table sheet lent .answer))
+
+-- `cdx_view` writes this answer for an entry
+abbrev pub TellsView : List ℕ → List ℕ → ℕ → List ℕ → Type 0
+TellsView sheet cells entry answer = answer ≡ viewOf sheet cells entry
