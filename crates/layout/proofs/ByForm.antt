@@ -40,25 +40,28 @@ module _ (quote : ℕ) (w spelling : List ℕ) (e : spelling ≡ take (length w 
 
 -- ---- the form of a word is none of a string or a character
 
-form-large : (k : Kind) → 3 ≤ formOf k
-form-large Kind.boolean = omega arith
-form-large Kind.integer = omega arith
-form-large Kind.decimal = omega arith
-form-large Kind.scientific = omega arith
-form-large Kind.fraction = omega arith
-form-large Kind.pascal = omega arith
-form-large Kind.camel = omega arith
-form-large Kind.uuid = omega arith
-form-large Kind.iri = omega arith
+form-between : (k : Kind) → (3 ≤ formOf k) × (formOf k ≤ 11)
+form-between Kind.boolean = (omega arith, omega arith)
+form-between Kind.integer = (omega arith, omega arith)
+form-between Kind.decimal = (omega arith, omega arith)
+form-between Kind.scientific = (omega arith, omega arith)
+form-between Kind.fraction = (omega arith, omega arith)
+form-between Kind.pascal = (omega arith, omega arith)
+form-between Kind.camel = (omega arith, omega arith)
+form-between Kind.uuid = (omega arith, omega arith)
+form-between Kind.iri = (omega arith, omega arith)
 
-word-large : (w : List ℕ) → 1 ≤ wordForm w → 3 ≤ wordForm w
-word-large w h = byKind kinds w (λ k f e. rw (word-form w, e) (form-large k)) (λ e. absurd (omega (arith, word-form w)))
+word-between : (w : List ℕ) → 1 ≤ wordForm w → (3 ≤ wordForm w) × (wordForm w ≤ 11)
+word-between w h = byKind kinds w (λ k f e. rw (word-form w, e) (form-between k)) (λ e. absurd (omega (arith, word-form w)))
+
+pub word-range : (also : List ℕ) (form : ℕ) (w : List ℕ) → leafRule also (word form w) ≡ true → (3 ≤ form) × (form ≤ 11)
+word-range also form w r =
+    let k = word-rule also form w r in
+    let l = word-between w (omega arith) in
+    (omega arith, omega arith)
 
 word-short : {X : Type 0} (also : List ℕ) (form : ℕ) (w : List ℕ) → form < 3 → leafRule also (word form w) ≡ true → X
-word-short also form w s r =
-    let k = word-rule also form w r in
-    let l = word-large w (omega arith) in
-    absurd (omega arith)
+word-short also form w s r = let l = word-range also form w r in absurd (omega arith)
 
 -- ---- leaves
 

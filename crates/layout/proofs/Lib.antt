@@ -5,3 +5,5 @@ pub mod Ticks
 pub mod Parts
 pub mod ByForm
 pub mod Standing
+pub mod Listing
+pub mod Marking
