@@ -3,6 +3,7 @@
 pub mod backticks;
 pub mod items;
 pub mod leaves;
+pub mod markers;
 pub mod page;
 pub mod quoted;
 pub mod spaced;
