@@ -18,17 +18,6 @@ pub const LIMIT: usize = 1024;
 // The parent of what stands at the top.
 pub const TOP: u32 = 4294967295;
 
-// The kinds of entries.
-pub const CONCEPT: u32 = 1;
-
-pub const TRAIT: u32 = 2;
-
-pub const ITEM: u32 = 3;
-
-pub const ANNOTATION: u32 = 4;
-
-pub const CONTENT: u32 = 5;
-
 pub struct Entry {
     pub kind: u32,
     pub form: u32,

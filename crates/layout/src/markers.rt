@@ -8,8 +8,8 @@ use crate::page::put_byte;
 use crate::page::put_tabs;
 use crate::spans::part;
 use entries::CELLS;
-use entries::ITEM;
-use entries::TRAIT;
+use paper::forms;
+use paper::kinds;
 use entries::get;
 use values::nesting::Nesting;
 ghost use mathlib.Core.Path.{_≡_};
@@ -42,7 +42,7 @@ fn past_items(cells: &[u32], n: usize) -> usize
     ensures { λ r. ⌜ (n ≤ r) × (kindAt (now (cells .entry)) r ≡ 3 → ⊥) × ((j : ℕ) → n ≤ j → j < r → kindAt (now (cells .entry)) j ≡ 3) ⌝ }
 {
     let mut i = n;
-    while kind_of(cells, i) == ITEM {
+    while kind_of(cells, i) == kinds::ITEM {
         i += 1;
     }
     i
@@ -52,15 +52,15 @@ fn past_items(cells: &[u32], n: usize) -> usize
 fn has_three(cells: &[u32], n: usize) -> bool
     ensures { λ r. ⌜ ((parent at : ℕ) (ts : List Trait) → Stand (now (cells .entry)) n (traitEntries parent n at ts) → Ends (now (cells .entry)) (n + traitsSize ts) → r ≡ not (leb (length ts) 2)) ⌝ }
 {
-    if kind_of(cells, n) != TRAIT {
+    if kind_of(cells, n) != kinds::TRAIT {
         return false;
     }
     let second = past_items(cells, n + 1);
-    if kind_of(cells, second) != TRAIT {
+    if kind_of(cells, second) != kinds::TRAIT {
         return false;
     }
     let third = past_items(cells, second + 1);
-    kind_of(cells, third) == TRAIT
+    kind_of(cells, third) == kinds::TRAIT
 }
 
 // Puts the trait of entry n: name, "=", value.
@@ -116,7 +116,7 @@ fn put_traits(
     let mut to = at;
     let mut next = n;
     let mut slash = false;
-    while kind_of(cells, next) == TRAIT {
+    while kind_of(cells, next) == kinds::TRAIT {
         let own = get(cells, next);
         slash = ends_in_slash(spelling_of(s, own));
         let name = put_lead(out, to, below, depth);
@@ -174,7 +174,7 @@ pub fn put_marker(
     let head = put(out, at, name);
     let below = has_three(cells, n + 1);
     let traits = put_traits(out, head, s, cells, n + 1, below, depth);
-    let closed = own.form == 1;
+    let closed = own.form == forms::SELF_CLOSED;
     let end = put_break(out, traits.at, below, closed || traits.slash, depth);
     Walk {
         at: put_end(out, end, closed),
