@@ -1,9 +1,13 @@
 pub mod Putting
 pub mod Spelling
+pub mod Plainly
 pub mod Collapsing
 pub mod Ticks
 pub mod Parts
 pub mod ByForm
 pub mod Standing
 pub mod Listing
+pub mod TraitParts
+pub mod Three
+pub mod Slashes
 pub mod Marking
