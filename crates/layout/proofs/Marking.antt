@@ -20,7 +20,7 @@ use Rattle.paper.proofs.Lists.{both, all-head}
 use Rattle.paper.proofs.Sizes.{traits-size}
 use Rattle.entries.specs.Laid.{entryAt}
 use Rattle.layout.specs.Page.{page, Puts}
-use Rattle.layout.specs.Standing.{Stand, Ends, kindAt, OfTrait, OfTraits, OfConcept}
+use Rattle.layout.specs.Standing.{Stand, Ends, kindAt, OfTraits, OfConcept}
 use Rattle.layout.specs.Marking.{traitSense, endingOf, isSelf, leadOnto, traitsPrint, breakOnto}
 use Rattle.layout.specs.Wholes.{TraitPut, TraitsPut}
 use Rattle.layout.proofs.Parts.{part-is}

@@ -1,13 +1,12 @@
 -- Bytes put on a page: what fits, what does not, and one step behind another. Over plain lists. Assumes nothing.
 use Prim.Native.Nat.{ℕ, suc, _+_, _-_, _≤_, _<_, _/_, _%_}
-use mathlib.Core.Path.{_≡_, refl, sym, ap, _∙_}
+use mathlib.Core.Path.{_≡_, sym, ap, _∙_}
 use mathlib.Core.List.{List, [], _∷_, _++_}
 use native.Mathlib.Numerals.{add-one}
 use native.Mathlib.Nat.{add-zero}
 use native.Mathlib.Omega.{arith}
 use borrow.Author.Tests.{lt-leb, lt-ltb, le-ltb}
-use lib.Dec.{leb}
-use lib.ListN.{length, length-append, replicate, length-set, set, getD, drop, drop-of-length-le}
+use lib.ListN.{length, length-append, replicate, set, getD, drop, drop-of-length-le}
 use lib.Seq.{sets, length-sets, drop-cons}
 use mathlib.Core.Bool.{Bool, true, false}
 use Rattle.paper.specs.Found.{pick}

@@ -1,9 +1,9 @@
 -- Spellings between backticks: the byte that stands at a place, and what is left to put behind it.
 -- Document 01, "Values", backtick, and "Canonical form". Assumes nothing.
-use Prim.Native.Nat.{ℕ, suc, _+_, _≤_, _<_}
+use Prim.Native.Nat.{ℕ, _+_, _≤_, _<_}
 use mathlib.Core.Path.{_≡_, refl, sym, ap, _∙_}
-use mathlib.Core.Bool.{Bool, true, false, not, _&&_}
-use mathlib.Core.List.{List, [], _∷_, _++_}
+use mathlib.Core.Bool.{Bool, true, false, not}
+use mathlib.Core.List.{List, [], _∷_}
 use native.Mathlib.Omega.{arith}
 use lib.ListN.{length, drop, getD, length-drop}
 use lib.Seq.{drop-drop, getD-drop}
@@ -11,12 +11,12 @@ use lib.Dec.{eqb}
 use borrow.Author.Tests.{eqb-true}
 use Rattle.paper.specs.Found.{pick}
 use Rattle.paper.specs.Bytes.{byte, bytes, space, isWhite, startsWith}
-use Rattle.paper.specs.Values.{Piece, direct, escaped, four, braces, pieceOnto, piecesOnto, pieceMeans, piecesMean, letterMeans, backtickRule, collapse, collapseOn, collapseGap}
+use Rattle.paper.specs.Values.{Piece, direct, escaped, four, braces, pieceOnto, piecesOnto, pieceMeans, piecesMean, letterMeans, backtickRule, collapse, collapseOn}
 use Rattle.paper.specs.Canonical.{byteOnto, bytesOnto}
-use Rattle.paper.proofs.Tests.{true-false, split}
+use Rattle.paper.proofs.Tests.{true-false}
 use Rattle.paper.proofs.Lists.{both, starts-is}
 use Rattle.paper.proofs.Pieces.{piece-longer}
-use Rattle.text.proofs.Places.{here, front-behind}
+use Rattle.text.proofs.Places.{here}
 use Rattle.layout.specs.Page.{page, Puts}
 use Rattle.layout.specs.Ticks.{First}
 use Rattle.layout.proofs.Collapsing.{left, Behind, white-left, word-left, none-left}

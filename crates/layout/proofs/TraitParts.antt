@@ -8,7 +8,7 @@ use lib.ListN.{length, take, drop, length-append}
 use lib.Seq.{drop-drop, drop-append-seam}
 use lib.Dec.{leb}
 use borrow.Author.Tests.{leb-true}
-use Rattle.paper.specs.Bytes.{byte, bytes, isWhite, all, isLower}
+use Rattle.paper.specs.Bytes.{byte, isWhite, all, isLower}
 use Rattle.paper.specs.Names.{nameLimit, nameRule}
 use Rattle.paper.specs.Values.{valueOnto, spelling, valueRule, listDepth}
 use Rattle.paper.specs.Tree.{Trait}

@@ -1,5 +1,5 @@
 -- The invariant: what is left to put is what the pieces that are left stand for, collapsed. The measure is what is left of the spelling. Assumes nothing.
-use Prim.Native.Nat.{ℕ, _≤_, _-_, _<_}
+use Prim.Native.Nat.{_-_}
 use mathlib.Core.List.{List, []}
 use mathlib.Core.Bool.{true, false}
 use mathlib.Core.Path.{_≡_, refl, sym, _∙_}

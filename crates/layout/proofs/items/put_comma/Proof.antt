@@ -1,5 +1,4 @@
 -- A comma and a space where items are left, else nothing. Assumes nothing.
-use native.Mathlib.Omega.{arith}
 use borrow.Author.Needs.{needs}
 use Rattle.layout.proofs.Listing.{comma-put, comma-none}
 use Rattle.layout.proofs.items.put_comma.Statement.{statement}

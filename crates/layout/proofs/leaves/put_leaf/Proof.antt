@@ -1,6 +1,5 @@
 -- By the form; words other than UUIDs are copied. Assumes nothing.
 use mathlib.Core.Path.{sym, _∙_}
-use native.Mathlib.Omega.{arith}
 use borrow.Author.Needs.{needs}
 use Rattle.layout.proofs.ByForm.{character-there, uuid-there, word-there}
 use Rattle.layout.proofs.leaves.put_leaf.Statement.{statement}

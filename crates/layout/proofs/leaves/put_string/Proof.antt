@@ -1,6 +1,5 @@
 -- By the first byte: a backtick string or a quoted one. Assumes nothing.
 use mathlib.Core.Path.{sym, _∙_}
-use native.Mathlib.Omega.{arith}
 use borrow.Author.Needs.{needs}
 use Rattle.paper.specs.Bytes.{byte}
 use Rattle.layout.proofs.ByForm.{ticked-put, string-there, backtick-there}

@@ -1,5 +1,4 @@
 -- By the last byte. Assumes nothing.
-use native.Mathlib.Omega.{arith}
 use borrow.Author.Needs.{needs}
 use Rattle.layout.proofs.Slashes.{slash-none, slash-last}
 use Rattle.layout.proofs.markers.ends_in_slash.Statement.{statement}

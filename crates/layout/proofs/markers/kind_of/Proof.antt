@@ -1,6 +1,5 @@
 -- The kind of the entry that is read. Assumes nothing.
 use mathlib.Core.Path.{ap}
-use native.Mathlib.Omega.{arith}
 use borrow.Author.Needs.{needs}
 use Rattle.paper.specs.Entries.{Entry}
 use Rattle.layout.proofs.markers.kind_of.Statement.{statement}

@@ -1,5 +1,4 @@
 -- A line end and tabs, a space, or nothing. Assumes nothing.
-use native.Mathlib.Omega.{arith}
 use borrow.Author.Needs.{needs}
 use Rattle.layout.proofs.Marking.{break-line, break-space, break-none}
 use Rattle.layout.proofs.markers.put_break.Statement.{statement}

@@ -1,5 +1,4 @@
 -- "/>" or ">", and the line end. Assumes nothing.
-use native.Mathlib.Omega.{arith}
 use borrow.Author.Needs.{needs}
 use Rattle.layout.proofs.Marking.{end-self, end-block}
 use Rattle.layout.proofs.markers.put_end.Statement.{statement}

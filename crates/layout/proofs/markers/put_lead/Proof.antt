@@ -1,5 +1,4 @@
 -- A line end and tabs, or a space. Assumes nothing.
-use native.Mathlib.Omega.{arith}
 use borrow.Author.Needs.{needs}
 use Rattle.layout.proofs.Marking.{lead-line, lead-space}
 use Rattle.layout.proofs.markers.put_lead.Statement.{statement}

@@ -1,5 +1,4 @@
 -- Name and "=" as they stand, then the value. Assumes nothing.
-use native.Mathlib.Omega.{arith}
 use borrow.Author.Needs.{needs}
 use Rattle.entries.specs.Laid.{entryOf}
 use Rattle.layout.proofs.TraitParts.{trait-put}

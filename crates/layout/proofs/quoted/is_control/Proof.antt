@@ -1,5 +1,4 @@
 -- By the range and the one byte behind it. Assumes nothing.
-use borrow.Author.Needs.{needs}
 use borrow.Author.Tests.{lt-ltb, le-ltb}
 use Rattle.layout.proofs.quoted.is_control.Statement.{statement}
 use Rattle.layout.proofs.quoted.is_control.Tie as tie

@@ -1,5 +1,4 @@
 -- By the two bytes that take a backslash. Assumes nothing.
-use borrow.Author.Needs.{needs}
 use borrow.Author.Tests.{eq-eqb, ne-eqb}
 use Rattle.layout.proofs.quoted.is_marked.Statement.{statement}
 use Rattle.layout.proofs.quoted.is_marked.Tie as tie

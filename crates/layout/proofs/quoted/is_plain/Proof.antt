@@ -1,6 +1,5 @@
 -- A byte that neither takes a backslash nor is a control. Assumes nothing.
 use mathlib.Core.Path.{sym, _∙_}
-use native.Mathlib.Omega.{arith}
 use borrow.Author.Needs.{needs}
 use Rattle.layout.proofs.Plainly.{plain-marked, plain-control}
 use Rattle.layout.proofs.quoted.is_plain.Statement.{statement}

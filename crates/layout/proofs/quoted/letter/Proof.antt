@@ -1,5 +1,4 @@
 -- By the definition's cases. Assumes nothing.
-use borrow.Author.Needs.{needs}
 use borrow.Author.Tests.{ne-eqb}
 use Rattle.paper.specs.Values.{letterMeans}
 use Rattle.layout.proofs.quoted.letter.Statement.{statement}

@@ -1,9 +1,5 @@
 -- The fixed bytes and the hex digits, one behind the other. Assumes nothing.
-use mathlib.Core.List.{_∷_, _++_}
-use borrow.Author.Tests.{lt-ltb, le-ltb}
 use borrow.Author.Needs.{needs}
-use Rattle.paper.specs.Bytes.{byte, bytes}
-use Rattle.paper.specs.Canonical.{hexOnto, hexLetter}
 use Rattle.layout.proofs.Putting.{control-one, control-two}
 use Rattle.layout.proofs.quoted.put_control.Statement.{statement}
 use Rattle.layout.proofs.quoted.put_control.Tie as tie

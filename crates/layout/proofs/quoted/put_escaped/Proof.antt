@@ -1,10 +1,8 @@
 -- By the definition's cases, in its order. Assumes nothing.
 use mathlib.Core.Path.{sym, _∙_}
 use mathlib.Core.List.{_∷_}
-use native.Mathlib.Omega.{arith}
-use borrow.Author.Tests.{eqb-true, not-false, ne-eqb}
+use borrow.Author.Tests.{ne-eqb}
 use borrow.Author.Needs.{needs}
-use Rattle.paper.specs.Canonical.{byteOnto}
 use Rattle.layout.proofs.Putting.{puts-as, puts-then}
 use Rattle.layout.proofs.Spelling.{byte-marked, byte-lf, byte-cr, byte-tab, byte-control, byte-direct}
 use Rattle.layout.proofs.quoted.put_escaped.Statement.{statement}

@@ -1,8 +1,6 @@
 -- By how many bytes the scalar value takes. Assumes nothing.
 use native.Mathlib.Omega.{arith}
 use borrow.Author.Needs.{needs}
-use Rattle.paper.specs.Bytes.{encode}
-use Rattle.paper.specs.Canonical.{bytesOnto}
 use Rattle.layout.proofs.Spelling.{bytes-one, bytes-more, encode-one, encode-two, encode-three, encode-four}
 use Rattle.layout.proofs.quoted.put_scalar.Statement.{statement}
 use Rattle.layout.proofs.quoted.put_scalar.Tie as tie

@@ -1,9 +1,9 @@
 -- The digits that stand there are those of the piece. Assumes nothing.
-use Prim.Native.Nat.{_+_, _-_, min}
+use Prim.Native.Nat.{_-_}
 use native.Mathlib.Omega.{arith}
-use lib.ListN.{length, drop, length-drop}
+use lib.ListN.{drop, length-drop}
 use borrow.Author.Needs.{needs}
-use Rattle.paper.specs.Bytes.{isHex, lengthIn}
+use Rattle.paper.specs.Bytes.{isHex}
 use Rattle.paper.proofs.Lists.{length-in}
 use Rattle.values.proofs.Escaping.{few-digits}
 use Rattle.layout.proofs.Spelling.{digits-put}

@@ -1,7 +1,7 @@
 -- The invariant: what is left to put is what is left of the bytes, collapsed. The measure is what is left of the bytes. Assumes nothing.
-use Prim.Native.Nat.{ℕ, _≤_, _-_, _<_}
+use Prim.Native.Nat.{ℕ, _-_}
 use mathlib.Core.Path.{_≡_, refl, sym, ap, _∙_}
-use mathlib.Core.List.{List, [], _++_}
+use mathlib.Core.List.{List, _++_}
 use native.Mathlib.Omega.{arith}
 use lib.ListN.{length, drop}
 use borrow.Author.Needs.{needs}

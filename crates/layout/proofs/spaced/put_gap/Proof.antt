@@ -1,5 +1,4 @@
 -- A space where there is a gap, else nothing. Assumes nothing.
-use mathlib.Core.Path.{refl}
 use borrow.Author.Needs.{needs}
 use Rattle.layout.proofs.Putting.{gap-put, gap-none}
 use Rattle.layout.proofs.spaced.put_gap.Statement.{statement}
