@@ -1,7 +1,7 @@
 // Values: strings, characters, backticks, words and lists, and entering the items of lists.
 // Document 01, "The grammar", Values; "Entries".
 pub mod entering;
-mod escapes;
+pub mod escapes;
 pub mod forms;
 mod iris;
 pub mod leaves;

@@ -1,0 +1,6 @@
+// Canonical form of a sheet.
+// Document 01, "Canonical form".
+pub mod items;
+pub mod page;
+pub mod quoted;
+pub mod spaced;
