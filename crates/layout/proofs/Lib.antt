@@ -4,3 +4,4 @@ pub mod Collapsing
 pub mod Standing
 pub mod Sequences
 pub mod LineTexts
+pub mod NoteLaws

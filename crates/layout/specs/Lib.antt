@@ -2,3 +2,4 @@
 pub mod Page
 pub mod Standing
 pub mod Texts
+pub mod Walking

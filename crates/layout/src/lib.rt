@@ -2,6 +2,7 @@
 // Document 01, "Canonical form".
 pub mod content;
 pub mod items;
+pub mod notes;
 pub mod page;
 pub mod quoted;
 pub mod spaced;
