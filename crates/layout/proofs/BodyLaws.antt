@@ -24,6 +24,14 @@ use Rattle.layout.specs.Standing.{Stand, kindAt, Ends, OfConcept, OfBody
 use Rattle.layout.specs.Walking.{OfNotes, Keeps, KeepsBody, printRest}
 use Rattle.layout.proofs.Standing.{stand-entry, stand-front, stand-back}
 
+-- ---- an empty line, where there is one
+
+pub between-put : (between : Bool) → between ≡ true → {out after : List ℕ} {at to : ℕ} → Puts out at (λ next. lf ∷ next) after to → Puts out at (λ next. pick between (lf ∷ next) next) after to
+between-put between e h = record { same = λ next. rw e (h .same next) }
+
+pub between-none : (between : Bool) → between ≡ false → {out : List ℕ} {at : ℕ} → Puts out at (λ next. pick between (lf ∷ next) next) out at
+between-none between e = record { same = λ next. rw e }
+
 -- ---- no trait stands where a body begins, if none stands behind it
 
 kind-ends : (cells : List ℕ) (n : ℕ) (e : Entry) → entryAt cells n ≡ e → (e .kind ≡ 2 → ⊥) → (e .kind ≡ 3 → ⊥) → Ends cells n
@@ -189,7 +197,7 @@ module _ (m : Modes) (s cells : List ℕ) (depth deep whole : ℕ) (out₀ : Lis
             let p = notes (so-far .parent) (one .notes-at) (one .notes) (one .of-notes) no-note in
             omega (arith, p .0, so-far .few, one .count)
 
-        pub element-on : (end : ℕ) {after : List ℕ} {past : ℕ} → ConceptPut s cells n depth deep more noted end after past → BodyLeft (left - (n - next + 1)) end true after past
+        pub element-on : (end : ℕ) {after : List ℕ} {past : ℕ} → ConceptPut s cells n depth deep more noted end after past → BodyLeft (left - (n - next) - 1) end true after past
         element-on end {after} {past} concept =
             let p = notes (so-far .parent) (one .notes-at) (one .notes) (one .of-notes) no-note in
             let here : n ≡ next + length (one .notes) = p .0 in

@@ -5,3 +5,5 @@ pub mod Standing
 pub mod Sequences
 pub mod LineTexts
 pub mod NoteLaws
+pub mod BodyLaws
+pub mod ConceptLaws

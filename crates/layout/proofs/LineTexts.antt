@@ -11,15 +11,22 @@ use borrow.Author.Tests.{not-true, eqb-true}
 use Rattle.paper.specs.Found.{pick}
 use Rattle.paper.specs.Bytes.{isBlank, isLineEnd, all, startsIn, startsWith, lengthIn, front, behind, lf, cr, tab, space}
 use Rattle.paper.specs.Tree.{LineEnd, LF, CRLF, Blank, Line, blank, text}
-use Rattle.paper.specs.Grammar.{lineEndOnto, blankOnto, tabsOnto, lineOnto, linesOnto, lineRule}
+use Rattle.paper.specs.Grammar.{lineEndOnto, blankOnto, tabsOnto, closingOnto, lineOnto, linesOnto, lineRule}
+use Rattle.paper.specs.Entries.{Entry, unnamed}
+use Rattle.paper.specs.Reading.{isTab}
 use Rattle.paper.specs.Canonical.{lineSense, printLine, printLines}
 use Rattle.paper.proofs.Tests.{split, true-false, either}
 use Rattle.paper.proofs.Lists.{both, all-head, all-cons, all-weaken, all-append, all-nil, front-all, front-of, front-length, behind-of}
-use Rattle.paper.proofs.Lines.{all-tabs}
+use Rattle.paper.proofs.Lines.{all-tabs, tabs-length}
+use Rattle.paper.proofs.Fronts.{lines-front, past-front, front-append}
 use Rattle.text.proofs.Places.{front-behind}
 use Rattle.text.proofs.Stretch.{Stretch, front-at, behind-at}
+use Rattle.entries.specs.Laid.{entryAt}
 use Rattle.layout.specs.Page.{page, Puts}
 use Rattle.layout.specs.Texts.{inked}
+use Rattle.layout.specs.Walking.{OfContent}
+use Rattle.layout.proofs.Standing.{stand-entry}
+use Rattle.layout.proofs.Parts.{part-is}
 use Rattle.layout.proofs.Sequences.{Sequence, Left, left-all, left-on, left-over}
 
 -- ---- text that is blanks only, and other text
@@ -193,3 +200,27 @@ module _ (t tabs : ℕ) (w : List ℕ) {out₀ : List ℕ} {at : ℕ} (ls : List
     pub lines-over : length w ≤ i → Puts out₀ at (printLines tabs (map lineSense ls)) out to
     unfolding lineRun
     lines-over h = left-over (lineRun t tabs) w out₀ at ls i out to so-far h
+
+-- ---- Content
+
+pub no-tabs : (s : List ℕ) (at : ℕ) → length s ≤ at → 0 ≡ lengthIn isTab (drop at s)
+unfolding lengthIn
+no-tabs s at h = rw (drop-of-length-le s h)
+
+module _ (s cells : List ℕ) (n place t : ℕ) (ls : List Line) (of : OfContent s cells n place t ls) (own : Entry) (is : own ≡ entryAt cells n) where
+  content-entry : own ≡ unnamed 5 0 (of .parent) 0 place (place + length (linesOnto t ls []))
+  content-entry = is ∙ stand-entry cells n _ [] (of .stand)
+
+  pub content-lines : take (own .end - own .start) (drop (own .start) s) ≡ linesOnto t ls []
+  content-lines =
+      ap (λ (e : Entry). take (e .end - e .start) (drop (e .start) s)) content-entry
+      ∙ part-is s place (place + length (linesOnto t ls [])) (linesOnto t ls []) (tabsOnto t (closingOnto (of .name) (of .after)))
+      (of .spelt ∙ front-append (linesOnto t ls) (lines-front t ls) (tabsOnto t (closingOnto (of .name) (of .after)))) refl
+
+  pub content-tabs : (tabs cut : ℕ) → tabs ≡ lengthIn isTab (drop (own .end) s) → cut ≡ tabs + 1 → cut ≡ suc t
+  unfolding startsIn
+  content-tabs tabs cut e f =
+      let end : drop (own .end) s ≡ tabsOnto t (closingOnto (of .name) (of .after)) =
+          ap (λ (e : Entry). drop (e .end) s) content-entry ∙ past-front s place (linesOnto t ls) (tabsOnto t (closingOnto (of .name) (of .after))) (lines-front t ls) (of .spelt) in
+      let many : tabs ≡ t = e ∙ ap (lengthIn isTab) end ∙ tabs-length t (closingOnto (of .name) (of .after)) refl in
+      omega arith

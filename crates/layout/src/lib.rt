@@ -1,5 +1,6 @@
 // Canonical form of a sheet.
 // Document 01, "Canonical form".
+pub mod concepts;
 pub mod content;
 pub mod items;
 pub mod notes;
