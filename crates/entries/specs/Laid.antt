@@ -1,11 +1,14 @@
--- Entries laid into cells from a number on.
+-- Entries laid into cells from a number on, and the entry that stands at a number.
 -- Document 01, "Entries".
-use Prim.Native.Nat.{ℕ, _+_, _*_, _≤_}
+use Prim.Native.Nat.{ℕ, suc, _+_, _*_, _≤_}
 use mathlib.Core.List.{List}
 use lib.ListN.{length}
 use lib.Seq.{sets}
+use lib.Dec.{leb}
 use Rattle.paper.specs.Limits.{entryLimit}
-use Rattle.paper.specs.Entries.{Entry, entryCells, allCells}
+use Rattle.paper.specs.Found.{pick}
+use Rattle.paper.specs.Entries.{Entry, entryCells, allCells, unnamed}
+use Rattle.paper.specs.View.{cellOf}
 use Rattle.entries.specs.declared.Entry.{Entry as Written}
 use Rattle.entries.specs.declared.Slot.{Slot}
 
@@ -26,6 +29,23 @@ entryOf e =
 -- the cells with these entries in them, the first of which has number n
 unfoldable pub lay : List ℕ → ℕ → List Entry → List ℕ
 lay cells n es = sets cells (n * entryCells) (allCells es)
+
+-- entry number n, or one of zeros where it does not lie wholly in the cells
+abbrev pub cellsAt : List ℕ → ℕ → Entry
+cellsAt cells n =
+    record {
+      kind = cellOf cells n 0;
+      form = cellOf cells n 1;
+      parent = cellOf cells n 2;
+      count = cellOf cells n 3;
+      nameStart = cellOf cells n 4;
+      nameEnd = cellOf cells n 5;
+      start = cellOf cells n 6;
+      end = cellOf cells n 7;
+    }
+
+unfoldable pub entryAt : List ℕ → ℕ → Entry
+entryAt cells n = pick (leb (suc n * entryCells) (length cells)) (cellsAt cells n) (unnamed 0 0 0 0 0 0)
 
 -- the slot so many entries on, and the one behind the next entry for those that it is the parent of
 abbrev pub slotAfter : Slot → ℕ → Slot

@@ -6,9 +6,9 @@ ghost use Prim.Native.Nat.{suc, _+_, _-_, _*_, _^_, _≤_, _<_};
 ghost use lib.ListN.{length, replicate};
 ghost use lib.Seq.{sets};
 ghost use lib.Dec.{leb};
-ghost use Rattle.paper.specs.Entries.{unnamed};
+ghost use Rattle.paper.specs.Entries.{entryCells, unnamed};
 ghost use Rattle.paper.specs.Reading.{roomOf};
-ghost use Rattle.entries.specs.Laid.{entryOf, lay, slotAfter, slotUnder};
+ghost use Rattle.entries.specs.Laid.{entryOf, entryAt, lay, slotAfter, slotUnder};
 
 // An entry is so many cells, and a sheet has at most so many entries.
 pub const CELLS: usize = 8;
@@ -17,17 +17,6 @@ pub const LIMIT: usize = 1024;
 
 // The parent of what stands at the top.
 pub const TOP: u32 = 4294967295;
-
-// The kinds of entries.
-pub const CONCEPT: u32 = 1;
-
-pub const TRAIT: u32 = 2;
-
-pub const ITEM: u32 = 3;
-
-pub const ANNOTATION: u32 = 4;
-
-pub const CONTENT: u32 = 5;
 
 pub struct Entry {
     pub kind: u32,
@@ -66,7 +55,7 @@ pub fn nameless(kind: u32, form: u32, parent: u32, count: u32, start: u32, end: 
 
 // Writes entry number `n`.
 pub fn put(cells: &mut [u32], n: usize, e: Entry)
-    requires { ⌜ suc n * 8 ≤ length (now cells) ⌝ }
+    requires { ⌜ suc n * entryCells ≤ length (now cells) ⌝ }
     ensures { λ _. ⌜ now (cells .exit) ≡ lay (now (cells .entry)) n (entryOf e ∷ []) ⌝ }
 {
     let at = n * CELLS;
@@ -78,6 +67,26 @@ pub fn put(cells: &mut [u32], n: usize, e: Entry)
     cells[at + 5] = e.name_end;
     cells[at + 6] = e.start;
     cells[at + 7] = e.end;
+}
+
+// Entry number `n`, or one of kind 0 where it does not lie wholly in the cells.
+pub fn get(cells: &[u32], n: usize) -> Entry
+    ensures { λ r. ⌜ entryOf r ≡ entryAt (now (cells .entry)) n ⌝ }
+{
+    if cells.len() / CELLS <= n {
+        return nameless(0, 0, 0, 0, 0, 0);
+    }
+    let at = n * CELLS;
+    Entry {
+        kind: cells[at],
+        form: cells[at + 1],
+        parent: cells[at + 2],
+        count: cells[at + 3],
+        name_start: cells[at + 4],
+        name_end: cells[at + 5],
+        start: cells[at + 6],
+        end: cells[at + 7],
+    }
 }
 
 // Sets the cells from `at` on to zero.

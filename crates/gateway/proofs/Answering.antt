@@ -1,18 +1,17 @@
 -- The numbers of an answer are small; and what a view answers by what the second call does. Over plain lists. Assumes nothing.
-use Prim.Native.Nat.{ℕ, suc, _+_, _*_, _≤_}
+use Prim.Native.Nat.{ℕ}
 use mathlib.Core.Path.{_≡_, sym, ap, _∙_}
 use mathlib.Core.List.{List, [], _∷_}
-use mathlib.Core.Bool.{Bool, true, _&&_}
+use mathlib.Core.Bool.{true}
 use native.Mathlib.Omega.{arith}
-use lib.Dec.{leb}
-use borrow.Author.Tests.{leb-true}
-use lib.ListN.{length, getD}
 use Rattle.paper.specs.Answer.{Told}
 use Rattle.paper.specs.Modes.{readTable}
+use Rattle.paper.specs.Entries.{Entry}
 use Rattle.paper.specs.View.{viewable, viewAnswer}
 use Rattle.paper.specs.Reading.{Reading, reading}
 use Rattle.paper.proofs.Tests.{split}
-use Rattle.paper.proofs.Lists.{both}
+use Rattle.entries.specs.Laid.{entryAt}
+use Rattle.entries.proofs.Getting.{at-viewed}
 use Rattle.gateway.specs.Answers.{Few, viewOf}
 use Rattle.paper.proofs.TableSizes.{table-small}
 use Rattle.paper.proofs.Exactly.{reading-small}
@@ -43,17 +42,6 @@ module _ (s cells : List ℕ) (n : ℕ) (told : Told) (asked : told ≡ viewAnsw
     unfolding viewAnswer
     can-view = split (viewable s cells n) (λ v. v) (λ v. let z : 17 ≡ 0 = sym (is-told ∙ rw v) ∙ h in absurd (omega arith))
 
-    -- the entry lies wholly in the cells
-    pub in-cells : n * 8 + 8 ≤ length cells
-    unfolding viewable
-    in-cells = omega (arith, leb-true (8 * suc n) (length cells) (both whole _ (both (whole && _) _ (both (whole && _ && _) _ can-view .0) .0) .0))
-      where
-        whole : Bool
-        whole = leb (8 * suc n) (length cells)
-
-    pub view-told : 0 ∷ getD cells (n * 8 + 6) 0 ∷ getD cells (n * 8 + 7) 0 ∷ [] ≡ viewOf s cells n
+    pub view-told : (e : Entry) → e ≡ entryAt cells n → 0 ∷ e .start ∷ e .end ∷ [] ≡ viewOf s cells n
     unfolding viewOf
-    view-told =
-        let a : n * 8 + 6 ≡ 8 * n + 6 = omega arith in
-        let b : n * 8 + 7 ≡ 8 * n + 7 = omega arith in
-        rw (can-view, viewOf, a, b)
+    view-told e got = rw (can-view, viewOf, got, at-viewed cells n s can-view)

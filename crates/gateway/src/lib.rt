@@ -1,6 +1,6 @@
 // The C interface: the public functions for programs that are not written in Rattle.
 // Document 01, "Refusal numbers" and the answers of "Order"; include/cdx.h declares these functions for C.
-use entries::CELLS;
+use entries::get;
 use paper::Answer;
 use sheets::read;
 use sheets::view_answer;
@@ -38,8 +38,8 @@ pub extern "C" fn cdx_view(sheet: &[u8], cells: &[u32], entry: u64, answer: &mut
         *answer = [number, 0, 0];
         return;
     }
-    let at = entry as usize * CELLS;
-    *answer = [0, cells[at + 6], cells[at + 7]];
+    let laid = get(cells, entry as usize);
+    *answer = [0, laid.start, laid.end];
 }
 
 // Writes an answer's number, place and count. They are small enough for an answer's cells.

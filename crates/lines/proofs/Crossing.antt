@@ -13,7 +13,7 @@ use Rattle.paper.specs.Answer.{numberOf}
 use Rattle.paper.specs.declared.Refusal.{Refusal}
 use Rattle.paper.specs.declared.Refusal.the-variants.{Cut}
 use Rattle.paper.specs.Found.{Found, found, fault, andThen}
-use Rattle.paper.specs.Entries.{Entry}
+use Rattle.paper.specs.Entries.{Entry, entryCells}
 use Rattle.paper.proofs.Finds.{Reads}
 use Rattle.text.proofs.Places.{place-back}
 use Rattle.text.proofs.Answers.{FaultAt, Tells, found-to, fault-to}
@@ -94,7 +94,7 @@ module _ {A : Type 0} (size own : A → ℕ) (s : List ℕ) (r : Part) where
 -- ---- the same with entries: a fault says nothing of the cells
 
 -- an entry is left: its cells are there
-pub room-left : (cells : List ℕ) (slot : Slot) (o : Bool) → Fits cells slot → o ≡ leb (slot .room) (slot .next) → o ≡ false → suc (slot .next) * 8 ≤ length cells
+pub room-left : (cells : List ℕ) (slot : Slot) (o : Bool) → Fits cells slot → o ≡ leb (slot .room) (slot .next) → o ≡ false → suc (slot .next) * entryCells ≤ length cells
 room-left cells slot o h asked f = omega (arith, leb-false (slot .room) (slot .next) (sym asked ∙ f), h .held)
 
 module _ {A : Type 0} (size own : A → ℕ) (of : A → List Entry) (s cells : List ℕ) (n : ℕ) (x : Found A) (r : Part) (after : List ℕ) where

@@ -5,11 +5,12 @@ use crate::part::cut;
 use crate::part::line_rest;
 use crate::part::past;
 use crate::part::refused;
-use entries::ANNOTATION;
 use entries::Slot;
 use entries::nameless;
 use entries::put;
 use paper::Refusal;
+use paper::forms;
+use paper::kinds;
 use text::classes::is_line_end;
 use text::parts::starts_with;
 use text::runs;
@@ -90,7 +91,14 @@ fn read_one(s: &[u8], at: usize, cells: &mut [u32], slot: Slot) -> Part
     put(
         cells,
         n,
-        nameless(ANNOTATION, 0, slot.parent, 0, at as u32, (end - 1) as u32),
+        nameless(
+            kinds::ANNOTATION,
+            forms::NONE,
+            slot.parent,
+            0,
+            at as u32,
+            (end - 1) as u32,
+        ),
     );
     Part::Read {
         end: next,

@@ -6,11 +6,12 @@ use crate::part::cut;
 use crate::part::line_end;
 use crate::part::line_rest;
 use crate::part::refused;
-use entries::CONTENT;
 use entries::Slot;
 use entries::nameless;
 use entries::put;
 use paper::Refusal;
+use paper::forms;
+use paper::kinds;
 use text::classes::is_line_end;
 use text::parts::starts_with;
 use text::runs;
@@ -122,7 +123,14 @@ pub fn read_content(
     put(
         cells,
         n,
-        nameless(CONTENT, 0, slot.parent, 0, start as u32, i as u32),
+        nameless(
+            kinds::CONTENT,
+            forms::NONE,
+            slot.parent,
+            0,
+            start as u32,
+            i as u32,
+        ),
     );
     Part::Read {
         end: i + tabs + 3 + (to - from),

@@ -33,7 +33,7 @@ pub mod Laid
 pub mod Meant
 pub mod Again
 pub mod Quiet
-pub mod Forms
+pub mod FormPieces
 pub mod Written
 pub mod Kept
 pub mod Clean

@@ -1,5 +1,8 @@
 // The words that public functions answer with: document 01, "Refusal numbers" and "Order".
 // What each case is in the paper's numbers is stated once, in specs/Answer.antt.
+pub mod forms;
+pub mod kinds;
+
 ghost use mathlib.Core.Path.{_≡_};
 ghost use Rattle.paper.specs.Answer.{numberOf, told};
 

@@ -17,7 +17,7 @@ use Rattle.paper.specs.Modes.{Modes, modeTable, readTable}
 use Rattle.paper.specs.Limits.{sheetLimit, conceptLimit}
 use Rattle.paper.specs.Tree.{Blank, Sheet}
 use Rattle.paper.specs.Grammar.{blanksOnto}
-use Rattle.paper.specs.Entries.{noParent, sheetSize, entries, filled, allCells}
+use Rattle.paper.specs.Entries.{noParent, entryCells, sheetSize, entries, filled, allCells}
 use Rattle.paper.specs.Reading.{blankLines, isTab, tabsOnly, annotations, conceptOf, lastBlanks, sheetTree, roomOf, sheetOf, Reading, reading, boundsOf}
 use Rattle.paper.proofs.Told.{number-positive}
 use Rattle.paper.proofs.Tests.{split}
@@ -304,19 +304,19 @@ module _ (table s cells : List ℕ) where
       go (fault n left) f = rw (f, reading) (ap₂ answers (rw (readTable, f) at e) (z ∙ all-zero cells))
 
   module _ (r : Answer) (mid : List ℕ) (count : ℕ) (g : Reads s cells (sheet (modesOf table) s cells) (told r) mid) (same : length mid ≡ length cells) (n : count ≡ told r .count) where
-    pub count-fits : count * 8 ≤ length mid
+    pub count-fits : count * entryCells ≤ length mid
     count-fits = go (sheet (modesOf table) s cells) (finds-fits (modesOf table) (roomOf (length cells)) s) (g .says)
       where
-        go : (x : Found Sheet) → Finds (λ t left. length (entries t) ≤ roomOf (length cells)) x → told r ≡ toldOf s x → count * 8 ≤ length mid
+        go : (x : Found Sheet) → Finds (λ t left. length (entries t) ≤ roomOf (length cells)) x → told r ≡ toldOf s x → count * entryCells ≤ length mid
         go (found t left) h e = omega (arith, h, ap (λ (a : Told). a .count) e)
         go (fault k left) h e = omega (arith, ap (λ (a : Told). a .count) e)
 
-    pub sheet-done : (after : List ℕ) → Valid table → after ≡ sets mid (count * 8) (replicate (length mid - count * 8) 0) → answers (told r) after ≡ reading table s (length cells)
+    pub sheet-done : (after : List ℕ) → Valid table → after ≡ sets mid (count * entryCells) (replicate (length mid - count * entryCells) 0) → answers (told r) after ≡ reading table s (length cells)
     unfolding reading
     sheet-done after v z = go (sheet (modesOf table) s cells) refl (g .says)
       where
         cleared : (t : Sheet) → mid ≡ lay cells 0 (entries t) → count ≡ length (entries t)
-            → sets mid (count * 8) (replicate (length mid - count * 8) 0) ≡ sets (lay cells 0 (entries t)) (length (entries t) * 8) (replicate (length cells - length (entries t) * 8) 0)
+            → sets mid (count * entryCells) (replicate (length mid - count * entryCells) 0) ≡ sets (lay cells 0 (entries t)) (length (entries t) * entryCells) (replicate (length cells - length (entries t) * entryCells) 0)
         cleared t l many = rw (same, l, many)
 
         go : (x : Found Sheet) → sheet (modesOf table) s cells ≡ x → told r ≡ toldOf s x → answers (told r) after ≡ reading table s (length cells)
@@ -325,4 +325,4 @@ module _ (table s cells : List ℕ) where
             rw (v, reading, f) (ap₂ answers e (z ∙ cleared t (g .laid t left f) many ∙ lay-filled cells (entries t) (omega (arith, count-fits))))
         go (fault k left) f e =
             let none : count ≡ 0 = n ∙ ap (λ (a : Told). a .count) e in
-            rw (v, reading, f) (ap₂ answers e (z ∙ ap (λ (k : ℕ). sets mid (k * 8) (replicate (length mid - k * 8) 0)) none ∙ all-zero mid ∙ ap (λ (k : ℕ). replicate k 0) same))
+            rw (v, reading, f) (ap₂ answers e (z ∙ ap (λ (k : ℕ). sets mid (k * entryCells) (replicate (length mid - k * entryCells) 0)) none ∙ all-zero mid ∙ ap (λ (k : ℕ). replicate k 0) same))

@@ -1,61 +1,51 @@
 -- The part of an entry: a law for each way out of what finds its span, and what is viewed and answered by that.
 -- Over plain lists. Assumes nothing.
-use Prim.Native.Nat.{ℕ, suc, _+_, _-_, _*_, _/_, _≤_, _<_}
+use Prim.Native.Nat.{ℕ, suc, _-_, _*_, _≤_, _<_}
 use mathlib.Core.Path.{_≡_, sym}
-use mathlib.Core.Bool.{true, false, not, _&&_}
+use mathlib.Core.Bool.{Bool, true, false, not, _&&_}
 use mathlib.Core.List.{List, []}
 use mathlib.Core.Logic.{_⊎_, inl, inr}
 use native.Mathlib.Omega.{arith}
-use lib.ListN.{length, take, drop, getD}
+use lib.ListN.{length, take, drop}
 use lib.Dec.{leb, eqb}
-use borrow.Author.Tests.{leb-true, le-leb, lt-leb, eq-eqb, ne-eqb}
+use borrow.Author.Tests.{leb-true, leb-false, le-leb, lt-leb, eq-eqb, ne-eqb}
 use Rattle.paper.specs.Answer.{accepted, refused}
+use Rattle.paper.specs.Found.{pick}
+use Rattle.paper.specs.Entries.{Entry, entryCells}
 use Rattle.paper.specs.View.{cellOf, spanStart, spanEnd, viewable, viewed, viewAnswer}
 use Rattle.paper.proofs.Tests.{split}
 use Rattle.paper.proofs.Lists.{both}
+use Rattle.entries.specs.Laid.{entryAt}
+use Rattle.entries.proofs.Getting.{at-cells, at-none}
 use Rattle.sheets.specs.declared.Span.{Span}
 use Rattle.sheets.specs.declared.Span.the-variants.{Part, Nowhere}
 use Rattle.sheets.specs.Sheets.{spanOf}
 
--- ---- the span, by the places of the cells
+-- ---- the span, by the entry
 
-module _ (s cells : List ℕ) (n : ℕ) where
-  abbrev kind : ℕ
-  kind = getD cells (n * 8) 0
+-- it has a kind, and its span lies in the sheet and is not reversed
+abbrev stands : List ℕ → Entry → Bool
+stands s e = not (eqb (e .kind) 0) && leb (e .start) (e .end) && leb (e .end) (length s)
 
-  abbrev from : ℕ
-  from = getD cells (n * 8 + 6) 0
-
-  abbrev to : ℕ
-  to = getD cells (n * 8 + 7) 0
-
-  -- the entry lies not wholly in the cells
-  pub span-none : length cells / 8 ≤ n → Nowhere ≡ spanOf s cells n
+module _ (s cells : List ℕ) (n : ℕ) (e : Entry) (got : e ≡ entryAt cells n) where
+  span-is : spanOf s cells n ≡ pick (stands s e) (Part (e .start) (e .end)) Nowhere
   unfolding viewable
-  span-none h = rw (lt-leb (8 * suc n) (length cells) (omega (arith, h)))
+  span-is =
+      split (leb (entryCells * suc n) (length cells))
+      (λ w. rw (got, at-cells cells n (omega (arith, leb-true (entryCells * suc n) (length cells) w)), w))
+      (λ w. rw (got, at-none cells n (omega (arith, leb-false (entryCells * suc n) (length cells) w)), w))
 
-  module _ (h : n < length cells / 8) where
-    starts : spanStart cells n ≡ from
-    starts = let e : 8 * n + 6 ≡ n * 8 + 6 = omega arith in rw e
+  -- it has no kind, or its span is reversed or ends outside
+  pub span-off : (e .kind ≡ 0) ⊎ (e .end < e .start) ⊎ (length s < e .end) → Nowhere ≡ spanOf s cells n
+  span-off (inl k) = rw (span-is, eq-eqb (e .kind) 0 k)
+  span-off (inr (inl l)) = split (eqb (e .kind) 0) (λ k. rw (span-is, k)) (λ k. rw (span-is, k, lt-leb (e .start) (e .end) l))
+  span-off (inr (inr o)) =
+      split (eqb (e .kind) 0)
+      (λ k. rw (span-is, k))
+      (λ k. split (leb (e .start) (e .end)) (λ l. rw (span-is, k, l, lt-leb (e .end) (length s) o)) (λ l. rw (span-is, k, l)))
 
-    ends : spanEnd cells n ≡ to
-    ends = let e : 8 * n + 7 ≡ n * 8 + 7 = omega arith in rw e
-
-    tests : viewable s cells n ≡ (not (eqb kind 0) && leb from to && leb to (length s))
-    unfolding viewable
-    tests =
-        let e : 8 * n + 0 ≡ n * 8 = omega arith in
-        rw (le-leb (8 * suc n) (length cells) (omega (arith, h)), e, starts, ends)
-
-    -- it has no kind, or its span is reversed or ends outside
-    pub span-off : (kind ≡ 0) ⊎ (to < from) ⊎ (length s < to) → Nowhere ≡ spanOf s cells n
-    span-off (inl e) = rw (tests, eq-eqb kind 0 e)
-    span-off (inr (inl e)) = split (eqb kind 0) (λ k. rw (tests, k)) (λ k. rw (tests, k, lt-leb from to e))
-    span-off (inr (inr e)) =
-        split (eqb kind 0) (λ k. rw (tests, k)) (λ k. split (leb from to) (λ l. rw (tests, k, l, lt-leb to (length s) e)) (λ l. rw (tests, k, l)))
-
-    pub span-part : (kind ≡ 0 → ⊥) → from ≤ to → to ≤ length s → Part from to ≡ spanOf s cells n
-    span-part k l e = rw (tests, ne-eqb kind 0 k, le-leb from to l, le-leb to (length s) e, starts, ends)
+  pub span-part : (e .kind ≡ 0 → ⊥) → e .start ≤ e .end → e .end ≤ length s → Part (e .start) (e .end) ≡ spanOf s cells n
+  span-part k l o = rw (span-is, ne-eqb (e .kind) 0 k, le-leb (e .start) (e .end) l, le-leb (e .end) (length s) o)
 
 -- ---- what is viewed and answered, by the span
 
@@ -87,7 +77,7 @@ module _ (s cells : List ℕ) (n : ℕ) where
     pub part-inside : (start ≤ end) × (end ≤ length s)
     unfolding viewable
     part-inside =
-        let kept = leb (8 * suc n) (length cells) && not (eqb (cellOf cells n 0) 0) in
+        let kept = leb (entryCells * suc n) (length cells) && not (eqb (cellOf cells n 0) 0) in
         let a = both (kept && leb (spanStart cells n) (spanEnd cells n)) (leb (spanEnd cells n) (length s)) seen in
         let b = both kept (leb (spanStart cells n) (spanEnd cells n)) (a .0) in
         (omega (arith, leb-true (spanStart cells n) (spanEnd cells n) (b .1), starts-at, ends-at), omega (arith, leb-true (spanEnd cells n) (length s) (a .1), ends-at))

@@ -1,10 +1,7 @@
 // Concepts and children: the Concept reader and the reader of a children body call each other, and siblings go round in a loop.
 // Document 01, "The grammar", Lines, Markers and Content, and "Entries".
-use crate::opening::CHILDREN;
-use crate::opening::CLOSED;
 use crate::opening::Opening;
 use crate::opening::read_opening;
-use entries::CONCEPT;
 use entries::Entry;
 use entries::Slot;
 use entries::put;
@@ -17,6 +14,8 @@ use lines::part::Part;
 use lines::part::line_rest;
 use lines::part::past;
 use lines::part::refused;
+use paper::forms;
+use paper::kinds;
 use text::parts::starts_with;
 use text::runs;
 use text::runs::Class;
@@ -89,7 +88,7 @@ fn end_concept(
         cells,
         n,
         Entry {
-            kind: CONCEPT,
+            kind: kinds::CONCEPT,
             form,
             parent: slot.parent,
             count: (own + count) as u32,
@@ -123,8 +122,8 @@ fn read_inside(
     ensures { λ r. ⌜ ((k : Marker) → k .name ≡ part (now (s .entry)) from to → Makes insideSize insideCount (bodyOfConcept (slot .parent) (slot .next) tabs at) (now (s .entry)) (now (cells .entry)) (slot .next) (insideOf form (modesOf (now (table .entry))) (nesting .left) (slot .room - slot .next) tabs k (drop at (now (s .entry)))) r (now (cells .exit))) ⌝ }
 {
     match form {
-        CLOSED => past(at),
-        CHILDREN => read_block(table, s, at, from, to, nesting, cells, slot),
+        forms::SELF_CLOSED => past(at),
+        forms::CHILDREN => read_block(table, s, at, from, to, nesting, cells, slot),
         _ => read_content(s, at, tabs, from, to, cells, slot),
     }
 }

@@ -8,6 +8,7 @@ use concepts::read_annotated;
 use entries::CELLS;
 use entries::Slot;
 use entries::TOP;
+use entries::get;
 use entries::room;
 use entries::zero_from;
 use lines::blank::blank_lines;
@@ -182,13 +183,10 @@ pub fn view_answer(sheet: &[u8], cells: &[u32], entry: usize) -> Answer
 fn span_of(sheet: &[u8], cells: &[u32], entry: usize) -> Span
     ensures { λ r. ⌜ r ≡ spanOf (now (sheet .entry)) (now (cells .entry)) entry ⌝ }
 {
-    if cells.len() / CELLS <= entry {
-        return Span::Nowhere;
-    }
-    let at = entry * CELLS;
-    let start = cells[at + 6] as usize;
-    let end = cells[at + 7] as usize;
-    if cells[at] == 0 || end < start || sheet.len() < end {
+    let laid = get(cells, entry);
+    let start = laid.start as usize;
+    let end = laid.end as usize;
+    if laid.kind == 0 || end < start || sheet.len() < end {
         return Span::Nowhere;
     }
     Span::Part { start, end }

@@ -11,6 +11,7 @@ use lines::part::name_end;
 use modes::mode_of;
 use paper::Mode;
 use paper::Refusal;
+use paper::forms;
 use text::runs;
 use text::runs::Class;
 use values::nesting::Deeper;
@@ -24,13 +25,6 @@ ghost use Rattle.modes.specs.Table.{Valid, modesOf};
 ghost use Rattle.entries.specs.Laid.{Fits};
 ghost use Rattle.lines.specs.Parts.{seen, passed, In, part};
 ghost use Rattle.sheets.specs.Opening.{headOf, markedOf, namedOf, heldOf, blockForm, Opens};
-
-// The forms of Concepts.
-pub const CLOSED: u32 = 1;
-
-pub const CHILDREN: u32 = 2;
-
-pub const CONTENT: u32 = 3;
 
 // What an opening marker says: the Concept's form, where its name and the marker itself end, how many entries its traits made,
 // how many of them are traits, and how many Concepts may still be opened inside. Or it is refused.
@@ -107,8 +101,8 @@ fn read_named(
     };
     match mode_of(table, &s[start..to]) {
         Mode::Absent => unopened(Refusal::Unlisted, start),
-        Mode::Children => read_marker(s, start, to, CHILDREN, inside, cells, slot),
-        Mode::Content => read_marker(s, start, to, CONTENT, inside, cells, slot),
+        Mode::Children => read_marker(s, start, to, forms::CHILDREN, inside, cells, slot),
+        Mode::Content => read_marker(s, start, to, forms::CONTENT, inside, cells, slot),
     }
 }
 
@@ -133,7 +127,7 @@ fn read_marker(
         Part::Read { end, made, own } => match read_ending(s, runs::end(s, end, Class::White)) {
             Ending::Refused { refusal, place } => unopened(refusal, place),
             Ending::Closed(end) => Opening::Opened {
-                form: CLOSED,
+                form: forms::SELF_CLOSED,
                 to,
                 end,
                 made,

@@ -2,7 +2,6 @@
 // Document 01, "The grammar", Markers and Values, and "Entries"; refusals 4, 6, 7, 9, 10 and 11.
 use entries::Entry;
 use entries::Slot;
-use entries::TRAIT;
 use entries::put;
 use lines::part::Part;
 use lines::part::Whose;
@@ -12,6 +11,7 @@ use lines::part::name_end;
 use lines::part::past;
 use lines::part::refused;
 use paper::Refusal;
+use paper::kinds;
 use text::classes::is_one_of;
 use text::runs;
 use text::runs::Class;
@@ -83,7 +83,7 @@ fn enter_trait(s: &[u8], from: usize, to: usize, cells: &mut [u32], slot: Slot) 
                 cells,
                 n,
                 Entry {
-                    kind: TRAIT,
+                    kind: kinds::TRAIT,
                     form,
                     parent: slot.parent,
                     count: own as u32,

@@ -10,7 +10,7 @@ use borrow.Author.Tests.{leb-true, leb-false}
 use Rattle.paper.specs.Bytes.{bytes, isWhite, startsWith}
 use Rattle.paper.specs.Values.{listEnders, list}
 use Rattle.paper.specs.ReadingValues.{valueOf, itemAnd}
-use Rattle.paper.specs.Entries.{Entry, unnamed}
+use Rattle.paper.specs.Entries.{Entry, entryCells, unnamed}
 use Rattle.entries.specs.Laid.{lay, slotAfter, slotUnder}
 use Rattle.entries.specs.declared.Slot.{Slot}
 use Rattle.values.specs.declared.entering.Entered.{Entered}
@@ -98,7 +98,7 @@ pub record Far (s : List ℕ) (at lists : ℕ) (slot : Slot) (i made own end ins
   pub own-in : own ≤ made
 
 module _ {s : List ℕ} {at lists : ℕ} {start : List ℕ} {slot : Slot} {i made own : ℕ} {cells : List ℕ} {next : Slot} {item : Entered} {mid : List ℕ} (h : Turned s at lists start slot i made own cells next item mid) where
-  pub put-room : suc (next .next) * 8 ≤ length mid
+  pub put-room : suc (next .next) * entryCells ≤ length mid
   put-room = omega (arith, h .same, h .room, number (h .turn), h .turn .kept, h .turn .stands .fits .held)
 
   -- no entry is left inside the item

@@ -1,14 +1,14 @@
 // Entering the items of a value that was read whole.
 // Document 01, "Entries": list items in depth-first order; refusal 11.
-use crate::forms::LIST;
 use crate::leaves::read_leaf;
 use crate::nesting::Deeper;
 use crate::nesting::Nesting;
 use crate::read::Read;
-use entries::ITEM;
 use entries::Slot;
 use entries::nameless;
 use entries::put;
+use paper::forms;
+use paper::kinds;
 use text::parts::starts_with;
 use text::runs;
 use text::runs::Class;
@@ -54,7 +54,7 @@ pub fn enter(
     };
     if starts_with(s, at, b"[]") {
         return Entered::Items {
-            form: LIST,
+            form: forms::LIST,
             end: at + 2,
             made: 0,
             own: 0,
@@ -105,13 +105,20 @@ fn enter_items(s: &[u8], at: usize, nesting: Nesting, cells: &mut [u32], slot: S
         put(
             cells,
             n,
-            nameless(ITEM, form, slot.parent, count as u32, i as u32, end as u32),
+            nameless(
+                kinds::ITEM,
+                form,
+                slot.parent,
+                count as u32,
+                i as u32,
+                end as u32,
+            ),
         );
         made += 1 + inside;
         own += 1;
         if !starts_with(s, end, b",") {
             return Entered::Items {
-                form: LIST,
+                form: forms::LIST,
                 end: end + 1,
                 made,
                 own,

@@ -1,8 +1,8 @@
 // Escapes in strings and characters: where one ends, or its refusal.
 // Document 01, "The grammar", Values: strings and characters; an escape is refused at its backslash.
-use crate::forms;
 use crate::read;
 use crate::read::Read;
+use paper::forms;
 use text::classes;
 use text::parts::starts_with;
 use text::runs;

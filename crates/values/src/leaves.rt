@@ -1,10 +1,10 @@
 // Values that are no lists, by their first byte.
 // Document 01, "The grammar", Values.
-use crate::forms;
 use crate::quoted;
 use crate::read;
 use crate::read::Read;
 use crate::words;
+use paper::forms;
 ghost use Prim.Native.Nat.{_≤_};
 ghost use lib.ListN.{length, drop};
 ghost use Rattle.paper.specs.Values.{leafForm};

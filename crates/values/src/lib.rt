@@ -2,7 +2,6 @@
 // Document 01, "The grammar", Values; "Entries".
 pub mod entering;
 pub mod escapes;
-pub mod forms;
 mod iris;
 pub mod leaves;
 pub mod lists;

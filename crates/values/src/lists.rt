@@ -1,6 +1,5 @@
 // Values of every kind, lists among them, and a trait's whole value.
 // Document 01, "The grammar", Values, and refusals 6, 9 and 10 of "Refusal numbers" and "Order".
-use crate::forms::LIST;
 use crate::leaves::read_leaf;
 use crate::nesting::Deeper;
 use crate::nesting::Nesting;
@@ -8,6 +7,7 @@ use crate::read::Read;
 use crate::read::cut;
 use crate::read::no_value;
 use paper::Refusal;
+use paper::forms;
 use paper::number;
 use text::parts::starts_with;
 use text::runs;
@@ -51,7 +51,7 @@ pub fn read_value(s: &[u8], at: usize, nesting: Nesting, in_list: bool) -> Read
     };
     if starts_with(s, at, b"[]") {
         return Read::Found {
-            form: LIST,
+            form: forms::LIST,
             end: at + 2,
         };
     }
@@ -75,7 +75,7 @@ fn read_items(s: &[u8], at: usize, nesting: Nesting) -> Read
         match s[end] {
             b']' => {
                 return Read::Found {
-                    form: LIST,
+                    form: forms::LIST,
                     end: end + 1,
                 };
             }

@@ -1,12 +1,13 @@
 // Numbers: the form of a word that is one.
 // Document 01, "The grammar", Values, Numbers; 001 §12.
-use crate::forms;
+use paper::forms;
 use text::classes;
 use text::runs;
 use text::runs::Class;
 ghost use mathlib.Core.Path.{_≡_};
 ghost use Prim.Native.Nat.{_≤_};
 ghost use lib.ListN.{length};
+ghost use Rattle.paper.specs.Found.{pick};
 ghost use Rattle.paper.specs.Values.{isCount, isInteger};
 ghost use Rattle.values.specs.Kinds.{signLength, countLength, integerLength, numberForm, pointForm};
 
@@ -24,8 +25,8 @@ pub fn number_form(w: &[u8]) -> u32
     let rest = size + 1;
     match w[size] {
         b'.' => point_form(&w[rest..]),
-        b'e' | b'E' => forms::only_if(is_integer(&w[rest..]), forms::SCIENTIFIC),
-        b'/' => forms::only_if(is_count(&w[rest..]), forms::FRACTION),
+        b'e' | b'E' => only_if(is_integer(&w[rest..]), forms::SCIENTIFIC),
+        b'/' => only_if(is_count(&w[rest..]), forms::FRACTION),
         _ => forms::NONE,
     }
 }
@@ -43,7 +44,7 @@ fn point_form(w: &[u8]) -> u32
     }
     let rest = size + 1;
     match w[size] {
-        b'e' | b'E' => forms::only_if(is_integer(&w[rest..]), forms::SCIENTIFIC),
+        b'e' | b'E' => only_if(is_integer(&w[rest..]), forms::SCIENTIFIC),
         _ => forms::NONE,
     }
 }
@@ -101,4 +102,11 @@ fn count_length(w: &[u8]) -> usize
         return 0;
     }
     size
+}
+
+// The form where a word is of its kind, else none.
+pub fn only_if(fits: bool, form: u32) -> u32
+    ensures { λ r. ⌜ r ≡ pick fits form 0 ⌝ }
+{
+    if fits { form } else { forms::NONE }
 }

@@ -1,9 +1,9 @@
 // Values between quotes: strings, characters and backticks.
 // Document 01, "The grammar", Values. `at` is behind the opening quote.
 use crate::escapes::escape_end;
-use crate::forms;
 use crate::read;
 use crate::read::Read;
+use paper::forms;
 use text::parts::starts_with;
 use text::utf8::Cursor;
 use text::utf8::Step;

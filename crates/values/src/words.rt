@@ -1,8 +1,9 @@
 // Words: where one ends, and its form.
 // Document 01, "The grammar", Values: true and false, "$" and "~", UUIDs, numbers and IRIs.
-use crate::forms;
 use crate::iris::is_iri;
 use crate::numbers::number_form;
+use crate::numbers::only_if;
+use paper::forms;
 use text::classes;
 use text::parts::same;
 use text::parts::starts_with;
@@ -52,8 +53,8 @@ pub fn word_form(w: &[u8]) -> u32
         return forms::NONE;
     }
     match w[0] {
-        b'$' => forms::only_if(is_token(w, b'A', b'Z'), forms::PASCAL),
-        b'~' => forms::only_if(is_token(w, b'a', b'z'), forms::CAMEL),
+        b'$' => only_if(is_token(w, b'A', b'Z'), forms::PASCAL),
+        b'~' => only_if(is_token(w, b'a', b'z'), forms::CAMEL),
         b'A'..=b'Z' | b'a'..=b'z' => lettered_form(w),
         b'0'..=b'9' | b'+' | b'-' => numeral_form(w),
         _ => forms::NONE,
@@ -73,7 +74,7 @@ fn lettered_form(w: &[u8]) -> u32
     if is_uuid(w) {
         return forms::UUID;
     }
-    forms::only_if(is_iri(w), forms::IRI)
+    only_if(is_iri(w), forms::IRI)
 }
 
 // The form of a word that begins with a digit or a sign.

@@ -2,6 +2,7 @@
 use Prim.Native.Nat.{_*_, _≤_}
 use native.Mathlib.Omega.{arith}
 use lib.ListN.{length}
+use Rattle.paper.specs.Entries.{entryCells}
 use borrow.Author.Needs.{needs}
 use Rattle.modes.proofs.Tables.{accepted-valid}
 use Rattle.sheets.proofs.SheetLaws.{table-refused, count-fits, sheet-done}
@@ -9,7 +10,7 @@ use Rattle.sheets.proofs.read.Statement.{statement}
 use Rattle.sheets.proofs.read.Tie as tie
 
 -- the entries fit the cells
-fits : (c : tie.After-count) → c .count .result * 8 ≤ length (c .before .before .before .before .read-under .last .1 .1 .0)
+fits : (c : tie.After-count) → c .count .result * entryCells ≤ length (c .before .before .before .before .read-under .last .1 .1 .0)
 fits c =
     let at-read-under = c .before .before .before .before in
     let top = at-read-under .before .before .before .before .before .before .before .before in
