@@ -29,20 +29,20 @@ left true true l = collapseGap l
 abbrev pub Behind : Bool → Bool → Type 0
 Behind begun gap = gap ≡ true → begun ≡ true
 
-white-left : (begun gap : Bool) (b : ℕ) (l : List ℕ) → isWhite b ≡ true → left begun gap (b ∷ l) ≡ left begun begun l
+pub white-left : (begun gap : Bool) (b : ℕ) (l : List ℕ) → isWhite b ≡ true → left begun gap (b ∷ l) ≡ left begun begun l
 unfolding collapse
 white-left false gap b l e = rw (e, collapse)
 white-left true false b l e = rw (e, collapseOn)
 white-left true true b l e = rw (e, collapseGap)
 
-word-left : (begun gap : Bool) (b : ℕ) (l : List ℕ) → isWhite b ≡ false → Behind begun gap → left begun gap (b ∷ l) ≡ pick gap (space ∷ b ∷ collapseOn l) (b ∷ collapseOn l)
+pub word-left : (begun gap : Bool) (b : ℕ) (l : List ℕ) → isWhite b ≡ false → Behind begun gap → left begun gap (b ∷ l) ≡ pick gap (space ∷ b ∷ collapseOn l) (b ∷ collapseOn l)
 unfolding collapse
 word-left false false b l e h = rw (e, collapse)
 word-left false true b l e h = true-false (sym (h refl))
 word-left true false b l e h = rw (e, collapseOn)
 word-left true true b l e h = rw (e, collapseGap)
 
-none-left : (begun gap : Bool) → left begun gap [] ≡ []
+pub none-left : (begun gap : Bool) → left begun gap [] ≡ []
 unfolding collapse
 none-left false gap = refl
 none-left true false = refl

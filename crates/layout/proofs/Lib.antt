@@ -1,8 +1,13 @@
 pub mod Putting
+pub mod Sequences
 pub mod Spelling
 pub mod Collapsing
+pub mod Ticks
+pub mod Parts
+pub mod ByForm
 pub mod Standing
-pub mod Sequences
+pub mod Listing
+pub mod Marking
 pub mod LineTexts
 pub mod NoteLaws
 pub mod BodyLaws

@@ -1,28 +1,85 @@
-// The entries of a value: its own and those of its items.
-// Document 01, "Entries": list items in depth-first order.
+// The value of a trait or of a list item, with all that it holds.
+// Document 01, "Canonical form": list items: comma and one space.
+use crate::leaves::put_leaf;
+use crate::page::put;
+use crate::page::put_byte;
+use crate::spans::part;
 use entries::CELLS;
+use entries::Entry;
+use entries::get;
+use paper::forms;
 ghost use mathlib.Core.Path.{_≡_};
-ghost use mathlib.Core.List.{_∷_};
-ghost use Prim.Native.Nat.{ℕ, _+_, _≤_};
-ghost use Rattle.paper.specs.Values.{Value, listDepth};
-ghost use Rattle.paper.specs.Entries.{Entry, itemsOf, itemSize, itemEntries};
-ghost use Rattle.layout.specs.Standing.{Stand};
+ghost use mathlib.Core.Bool.{true};
+ghost use mathlib.Core.List.{List, _∷_};
+ghost use Prim.Native.Nat.{ℕ, _+_, _-_, _≤_};
+ghost use lib.ListN.{take, drop};
+ghost use lib.Dec.{ltb};
+ghost use Rattle.paper.specs.Found.{pick};
+ghost use Rattle.paper.specs.Bytes.{byte, space};
+ghost use Rattle.paper.specs.Values.{Value, valueRule, listDepth};
+ghost use Rattle.paper.specs.Entries.{itemSize};
+ghost use Rattle.paper.specs.Canonical.{valueSense, printValue};
+ghost use Rattle.layout.specs.Page.{Puts};
+ghost use Rattle.layout.specs.Standing.{Ahead, OfValue};
 
-// Behind the entries of the value of entry n, where so many lists stand in one another at most.
-pub fn value_end(cells: &[u32], n: usize, lists: usize) -> usize
-    ensures { λ r. ⌜ ((v : Value) (at : ℕ) (e : Entry) → e .count ≡ itemsOf v → listDepth v ≤ lists → Stand (now (cells .entry)) n (e ∷ itemEntries n (n + 1) at v) → r ≡ n + 1 + itemSize v) ⌝ }
+// Where the page goes on, and the number of the entry that comes next.
+pub struct Walk {
+    pub at: usize,
+    pub next: usize,
+}
+
+// The brackets around the items of a list.
+const OPENS: u8 = b'[';
+
+const CLOSES: u8 = b']';
+
+// The spelling that an entry's span names.
+pub fn spelling_of(s: &[u8], own: Entry) -> &[u8]
+    ensures { λ r. ⌜ now r ≡ take (own .end - own .start) (drop (own .start) (now (s .entry))) ⌝ }
+{
+    part(s, own.start as usize, own.end as usize)
+}
+
+// Puts what stands between two items, where there are items left.
+fn put_comma(out: &mut [u8], at: usize, left: u32) -> usize
+    ensures { λ r. ⌜ Puts (now (out .entry)) at (λ next. pick (ltb 0 left) (byte "," ∷ space ∷ next) next) (now (out .exit)) r ⌝ }
+{
+    if 0 < left {
+        return put(out, at, b", ");
+    }
+    at
+}
+
+// Puts the value of entry n, in which at most so many lists stand in one another.
+pub fn put_value(out: &mut [u8], at: usize, s: &[u8], cells: &[u32], n: usize, lists: usize) -> Walk
+    ensures { λ r. ⌜ Ahead (now (cells .entry)) n (r .next) × ((also : List ℕ) (v : Value) → OfValue (now (s .entry)) (now (cells .entry)) n v → valueRule also v ≡ true → listDepth v ≤ lists → (r .next ≡ n + 1 + itemSize v) × Puts (now (out .entry)) at (printValue (valueSense v)) (now (out .exit)) (r .at)) ⌝ }
 {
     if cells.len() / CELLS <= n {
-        return n;
+        return Walk { at, next: n };
     }
-    let mut next = n + 1;
+    let own = get(cells, n);
+    let form = own.form;
+    if form != forms::LIST {
+        let w = spelling_of(s, own);
+        return Walk {
+            at: put_leaf(out, at, form, w),
+            next: n + 1,
+        };
+    }
     if lists == 0 {
-        return next;
+        return Walk { at, next: n + 1 };
     }
-    let mut left = cells[n * CELLS + 3];
+    let mut to = put_byte(out, at, OPENS);
+    let mut next = n + 1;
+    let mut left = own.count;
     while 0 < left {
-        next = value_end(cells, next, lists - 1);
+        let item = put_value(out, to, s, cells, next, lists - 1);
+        next = item.next;
         left -= 1;
+        to = put_comma(out, item.at, left);
     }
-    next
+    Walk {
+        at: put_byte(out, to, CLOSES),
+        next,
+    }
 }

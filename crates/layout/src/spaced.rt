@@ -12,7 +12,7 @@ ghost use Rattle.paper.specs.Canonical.{lower};
 ghost use Rattle.layout.specs.Page.{Puts};
 
 // Puts a space where there is a gap.
-fn put_gap(out: &mut [u8], at: usize, gap: bool) -> usize
+pub fn put_gap(out: &mut [u8], at: usize, gap: bool) -> usize
     ensures { λ r. ⌜ Puts (now (out .entry)) at (λ next. pick gap (space ∷ next) next) (now (out .exit)) r ⌝ }
 {
     if gap {
