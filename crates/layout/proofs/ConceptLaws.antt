@@ -1,7 +1,7 @@
 -- A Concept: its marker, what stands inside, and its closing marker, put one behind the other. Document 01, "Canonical form". Assumes nothing.
 use Prim.Native.Nat.{ℕ, suc, _+_, _-_, _*_, _≤_, _<_}
 use mathlib.Core.Path.{_≡_, refl, sym, ap, _∙_}
-use mathlib.Core.Bool.{Bool, true, false, _&&_}
+use mathlib.Core.Bool.{Bool, true, false, not, _&&_}
 use mathlib.Core.List.{List, [], _∷_, _++_, map}
 use native.Mathlib.Omega.{arith}
 use lib.ListN.{length, take, drop, length-append}
@@ -14,7 +14,7 @@ use Rattle.paper.specs.Modes.{Modes}
 use Rattle.paper.specs.Values.{Value, leaf, emptyList, list, More, close, comma}
 use Rattle.paper.specs.Tree.{Blank, Trait, Marker, Line, Concept, selfClosed, children, content, Body, block, self}
 use Rattle.paper.specs.Grammar.{blankOnto, tabsOnto, markerOnto, traitOnto, traitsOnto, endingOnto, closingOnto, linesOnto, conceptOnto, bodyOnto, blankRule, markerRule, opensBlock, inMode, lineRule, conceptRule, bodyRule}
-use Rattle.paper.specs.declared.Mode.the-variants.{Children, Content}
+use Rattle.paper.specs.declared.Mode.the-variants.{Children, Content, Absent}
 use Rattle.paper.specs.Limits.{listLimit, markerFits, conceptFits, bodyFits, conceptDepth, bodyDepth}
 use Rattle.paper.specs.Entries.{Entry, unnamed, valueWidth, itemSize, itemEntries, moreEntries, traitSize, traitValue, traitEntry, traitEntries, traitsSize, conceptSize, conceptCount, bodySize, bodyCount, markerOf, conceptForm, markerName, bodyStart, conceptEntry, insideEntries, bodyEntries}
 use Rattle.paper.specs.Canonical.{MarkerSense, markerSense, lineSense, conceptSense, bodySense, printMarker, printLines, printConcept, printBody}
@@ -25,7 +25,8 @@ use Rattle.paper.proofs.Fronts.{marker-front, blank-front, past-front, past-byt
 use Rattle.entries.specs.Laid.{entryAt}
 use Rattle.layout.specs.Page.{page, Puts}
 use Rattle.layout.specs.Standing.{Stand, Ends, OfConcept, OfBody}
-use Rattle.layout.specs.Walking.{OfContent, Keeps, KeepsBody, endingOf, traitsIn, Elements}
+use Rattle.layout.specs.Marking.{endingOf}
+use Rattle.layout.specs.Walking.{OfContent, Keeps, KeepsBody, traitsIn, Elements}
 use Rattle.layout.proofs.Standing.{stand-entry, stand-front, stand-back}
 use Rattle.layout.proofs.Parts.{part-is}
 use Rattle.layout.proofs.BodyLaws.{own-entry, ConceptPut}
@@ -126,7 +127,7 @@ some-depth (content k rest lines) = omega arith
 -- the marker of entry n was put with its line end; the elements of the body from entry n on were
 abbrev pub MarkerPut : List ℕ → List ℕ → ℕ → ℕ → List ℕ → ℕ → ℕ → List ℕ → ℕ → Type 0
 MarkerPut s cells n depth out at next after to =
-    (m : Modes) (parent place tabs : ℕ) (c : Concept) → OfConcept s cells n parent place tabs c → conceptRule m c ≡ true → conceptFits nameLimit listLimit c ≡ true
+    (parent place tabs : ℕ) (c : Concept) → OfConcept s cells n parent place tabs c → markerRule (markerOf c) ≡ true → markerFits nameLimit listLimit (markerOf c) ≡ true
     → (next ≡ n + 1 + traitsSize (markerOf c .traits)) × Puts out at (λ t. printMarker depth (markerSense (markerOf c)) (endingOf c) (lf ∷ t)) after to
 
 abbrev pub BodyPut : List ℕ → List ℕ → ℕ → ℕ → ℕ → ℕ → List ℕ → ℕ → ℕ → List ℕ → ℕ → Type 0
@@ -207,9 +208,10 @@ form-is s cells n parent place tabs c of own is = ap (λ (e : Entry). e .form) (
 module _ (s cells : List ℕ) (n depth left : ℕ) {out mid marked : List ℕ} {at start next end : ℕ} (tabbed : Puts out at (tabsOnto depth) mid start) (marker : MarkerPut s cells n depth mid start next marked end) (own : Entry) (is : own ≡ entryAt cells n) where
   closed-one : (m : Modes) (parent place tabs : ℕ) (k : Marker) → OfConcept s cells n parent place tabs (selfClosed k) → Keeps m left (selfClosed k)
       → (next ≡ n + conceptSize (selfClosed k)) × Puts out at (λ t. tabsOnto depth (printConcept depth (conceptSense (selfClosed k)) (lf ∷ t))) marked end
-  unfolding conceptSize conceptSense printConcept
+  unfolding conceptSize conceptSense printConcept conceptRule conceptFits
   closed-one m parent place tabs k of keeps =
-      let p = marker m parent place tabs (selfClosed k) of (keeps .rule) (keeps .within) in
+      let r = both (markerRule k) (not (inMode Absent m (k .name))) (keeps .rule) in
+      let p = marker parent place tabs (selfClosed k) of (r .0) (keeps .within) in
       (omega (arith, p .0), record { same = λ t. tabbed .same (printMarker depth (markerSense k) self (lf ∷ t)) ∙ p .1 .same t })
 
   pub closed-put : (own .form ≡ 2 → ⊥) → (own .form ≡ 3 → ⊥) → ConceptPut s cells n depth left out at next marked end
@@ -224,10 +226,10 @@ module _ (s cells : List ℕ) (n depth left : ℕ) {out mid marked : List ℕ} {
     module _ {behind : ℕ} (content′ : (place t : ℕ) (ls : List Line) → OfContent s cells next place t ls → all lineRule ls ≡ true → (behind ≡ next + 1) × Puts marked end (printLines deeper (map lineSense ls)) inner last) where
       content-one : (m : Modes) (parent place tabs : ℕ) (k : Marker) (rest : Blank) (lines : List Line) → OfConcept s cells n parent place tabs (content k rest lines) → Keeps m left (content k rest lines)
           → (behind ≡ n + conceptSize (content k rest lines)) × Puts out at (λ t. tabsOnto depth (printConcept depth (conceptSense (content k rest lines)) (lf ∷ t))) after to
-      unfolding conceptSize conceptSense printConcept conceptRule
+      unfolding conceptSize conceptSense printConcept conceptRule conceptFits
       content-one m parent place tabs k rest lines of keeps =
-          let p = marker m parent place tabs (content k rest lines) of (keeps .rule) (keeps .within) in
           let r = block-parts (markerRule k) (opensBlock k) (inMode Content m (k .name)) (blankRule rest) (all lineRule lines) (keeps .rule) in
+          let p = marker parent place tabs (content k rest lines) of (r .0) (keeps .within) in
           let q = content′ (bodyStart place k rest) tabs lines (rw (p .0) (content-of s cells n parent place tabs k rest lines of)) (r .4) in
           let close = named-put s cells n parent place tabs (content k rest lines) of own is name named depth closing in (
             omega (arith, p .0, q .0),
@@ -254,9 +256,9 @@ module _ (s cells : List ℕ) (n depth left : ℕ) {out mid marked : List ℕ} {
           → (behind ≡ n + conceptSize (children k rest body back)) × Puts out at (λ t. tabsOnto depth (printConcept depth (conceptSense (children k rest body back)) (lf ∷ t))) after to
       unfolding conceptSize conceptSense printConcept conceptRule conceptFits conceptDepth
       children-one m parent place tabs k rest body back of keeps =
-          let p = marker m parent place tabs (children k rest body back) of (keeps .rule) (keeps .within) in
           let r = block-parts (markerRule k) (opensBlock k) (inMode Children m (k .name)) (blankRule rest) (bodyRule m body) (keeps .rule) in
           let w = both (markerFits nameLimit listLimit k) (bodyFits nameLimit listLimit body) (keeps .within) in
+          let p = marker parent place tabs (children k rest body back) of (r .0) (w .0) in
           let there = traits-there s cells n parent place tabs k rest body back of in
           let far : next ≡ n + length (front s cells n parent place tabs k rest body back of) = p .0 ∙ sym (size s cells n parent place tabs k rest body back of) in
           let count = ap (λ (e : Entry). e .count) (own-entry s cells n parent place tabs (children k rest body back) of) in

@@ -12,3 +12,4 @@ pub mod LineTexts
 pub mod NoteLaws
 pub mod BodyLaws
 pub mod ConceptLaws
+pub mod WriteLaws

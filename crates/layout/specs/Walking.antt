@@ -9,10 +9,10 @@ use lib.Dec.{eqb}
 use Rattle.paper.specs.Found.{pick}
 use Rattle.paper.specs.Names.{nameLimit}
 use Rattle.paper.specs.Modes.{Modes}
-use Rattle.paper.specs.Tree.{Annotation, Line, Concept, selfClosed, children, content, Body, Ending, block, self}
-use Rattle.paper.specs.Grammar.{tabsOnto, annotationsOnto, closingOnto, linesOnto, conceptRule, bodyRule}
-use Rattle.paper.specs.Limits.{listLimit, conceptFits, bodyFits, conceptDepth, bodyDepth}
-use Rattle.paper.specs.Entries.{Entry, unnamed, annotationEntries}
+use Rattle.paper.specs.Tree.{Annotation, Line, Concept, Body, Sheet}
+use Rattle.paper.specs.Grammar.{tabsOnto, annotationsOnto, closingOnto, linesOnto, sheetOnto, conceptRule, bodyRule}
+use Rattle.paper.specs.Limits.{listLimit, conceptLimit, conceptFits, bodyFits, conceptDepth, bodyDepth}
+use Rattle.paper.specs.Entries.{Entry, unnamed, annotationEntries, allCells, entries}
 use Rattle.paper.specs.Canonical.{BodySense, printBody, printMore}
 use Rattle.entries.specs.Laid.{entryAt}
 use Rattle.layout.specs.Standing.{Stand}
@@ -42,6 +42,12 @@ pub record KeepsBody (m : Modes) (left : ℕ) (body : Body) : Type 0 where
   pub within : bodyFits nameLimit listLimit body ≡ true
   pub deep : bodyDepth body ≤ left
 
+-- a sheet that reads to this tree, and its entries' cells
+pub record OfSheet (m : Modes) (s cells : List ℕ) (t : Sheet) : Type 0 where
+  pub covers : sheetOnto t [] ≡ s
+  pub keeps : Keeps m conceptLimit (t .root)
+  pub are : cells ≡ allCells (entries t)
+
 -- how many of these entries are traits
 unfoldable pub traitsIn : List Entry → ℕ
 traitsIn [] = 0
@@ -53,12 +59,6 @@ Traits cells from to count = (es : List Entry) → Stand cells from es → to �
 
 abbrev pub Elements : List ℕ → ℕ → ℕ → ℕ → Type 0
 Elements cells n next count = (es : List Entry) → Stand cells n es → next ≡ n + length es → count ≡ entryAt cells n .count - traitsIn es
-
--- how a Concept's marker ends
-abbrev pub endingOf : Concept → Ending
-endingOf (selfClosed k) = self
-endingOf (children k rest body back) = block
-endingOf (content k rest lines) = block
 
 -- the elements that are left of a body: the first of them, or those behind another
 abbrev pub printRest : Bool → ℕ → BodySense → List ℕ → List ℕ

@@ -15,23 +15,40 @@ use paper::kinds;
 use text::nesting::Deeper;
 use text::nesting::Nesting;
 ghost use mathlib.Core.Path.{_≡_};
-ghost use mathlib.Core.List.{_∷_};
+ghost use mathlib.Core.List.{[], _∷_};
 ghost use Prim.Native.Nat.{ℕ, _+_, _-_, _≤_};
 ghost use lib.ListN.{take, drop};
 ghost use Rattle.paper.specs.Found.{pick};
 ghost use Rattle.paper.specs.Bytes.{lf};
 ghost use Rattle.paper.specs.Modes.{Modes};
 ghost use Rattle.paper.specs.Limits.{conceptLimit};
-ghost use Rattle.paper.specs.Tree.{Concept, Body};
+ghost use Rattle.paper.specs.Tree.{Concept, Body, Sheet};
 ghost use Rattle.paper.specs.Grammar.{tabsOnto, closingOnto};
 ghost use Rattle.paper.specs.Entries.{conceptSize, bodySize, bodyCount};
-ghost use Rattle.paper.specs.Canonical.{conceptSense, bodySense, printConcept, printBody};
-ghost use Rattle.layout.specs.Page.{Puts};
+ghost use Rattle.paper.specs.Canonical.{conceptSense, bodySense, printConcept, printBody, canonical};
+ghost use Rattle.layout.specs.Page.{page, Puts};
 ghost use Rattle.layout.specs.Standing.{Ends, OfConcept, OfBody};
-ghost use Rattle.layout.specs.Walking.{Keeps, KeepsBody, Traits, Elements};
+ghost use Rattle.layout.specs.Walking.{Keeps, KeepsBody, OfSheet, Traits, Elements};
+
+// Puts the canonical form of the sheet that has just these entries, from the first byte on.
+pub fn put_sheet(out: &mut [u8], s: &[u8], cells: &[u32]) -> usize
+    ensures { λ r. ⌜ ((m : Modes) (t : Sheet) → OfSheet m (now (s .entry)) (now (cells .entry)) t → page (now (out .entry)) 0 (canonical t) ≡ page (now (out .exit)) r []) ⌝ }
+{
+    let notes = put_notes(out, 0, s, cells, 0, 0);
+    let root = put_concept(
+        out,
+        notes.at,
+        s,
+        cells,
+        notes.next,
+        0,
+        Nesting::new(Nesting::CONCEPTS),
+    );
+    root.at
+}
 
 // Puts the Concept of entry n at this depth, with its line end.
-pub fn put_concept(
+fn put_concept(
     out: &mut [u8],
     at: usize,
     s: &[u8],
