@@ -76,16 +76,26 @@ unfolding bodyCount bodySize bodySense bodyEntries bodyOnto bodyRule bodyFits bo
 first m s cells left n parent at done of keeps none h = absurd (omega arith)
 first m s cells left n parent at (blankLine b body) of keeps none h =
     let f =
-        first m s cells left n parent (at + length (blankOnto b [])) body
-        (record { after = of .after; spelt = past-front s at (blankOnto b) (bodyOnto body (of .after)) (blank-front b) (of .spelt); stand = of .stand })
-        (record { rule = both (blankRule b) (bodyRule m body) (keeps .rule) .1; within = keeps .within; deep = keeps .deep })
-        none h in
+    first m s cells left n parent (at + length (blankOnto b [])) body
+    (record { after = of .after; spelt = past-front s at (blankOnto b) (bodyOnto body (of .after)) (blank-front b) (of .spelt); stand = of .stand })
+    (record { rule = both (blankRule b) (bodyRule m body) (keeps .rule) .1; within = keeps .within; deep = keeps .deep })
+    none h in
     record {
-      notes = f .notes; tabs = f .tabs; it = f .it; behind = f .behind;
-      notes-at = f .notes-at; at = f .at; behind-at = f .behind-at;
-      of-notes = f .of-notes; of = f .of; of-behind = f .of-behind;
-      keeps = f .keeps; keeps-behind = f .keeps-behind;
-      count = f .count; size = f .size; sense = f .sense;
+      notes = f .notes;
+      tabs = f .tabs;
+      it = f .it;
+      behind = f .behind;
+      notes-at = f .notes-at;
+      at = f .at;
+      behind-at = f .behind-at;
+      of-notes = f .of-notes;
+      of = f .of;
+      of-behind = f .of-behind;
+      keeps = f .keeps;
+      keeps-behind = f .keeps-behind;
+      count = f .count;
+      size = f .size;
+      sense = f .sense;
     }
 first m s cells left n parent at (element notes tabs c rest body) of keeps none h =
     let start = at + length (annotationsOnto notes []) + tabs in
@@ -98,8 +108,8 @@ first m s cells left n parent at (element notes tabs c rest body) of keeps none 
     let later = bodyOnto body (of .after) in
     let mark = past-front s at (annotationsOnto notes) (tabsOnto tabs (conceptOnto tabs c (blankOnto rest later))) (notes-front notes) (of .spelt) in
     let spelt : drop start s ≡ conceptOnto tabs c (blankOnto rest later) =
-        ap (λ (k : ℕ). drop (at + length (annotationsOnto notes []) + k) s) (sym (length-replicate tabs tab))
-        ∙ past-bytes s (at + length (annotationsOnto notes [])) (replicate tabs tab) (conceptOnto tabs c (blankOnto rest later)) mark in
+    ap (λ (k : ℕ). drop (at + length (annotationsOnto notes []) + k) s) (sym (length-replicate tabs tab))
+    ∙ past-bytes s (at + length (annotationsOnto notes [])) (replicate tabs tab) (conceptOnto tabs c (blankOnto rest later)) mark in
     let past = past-front s start (conceptOnto tabs c) (blankOnto rest later) (whole-front (conceptOnto tabs c) (concept-ends c tabs)) spelt in
     let size : n + length noted ≡ own = ap (λ (k : ℕ). n + k) (notes-size notes parent at) in
     let stands : Stand cells own concepts = rw size at (stand-back cells n noted concepts (of .stand)) in
@@ -107,11 +117,11 @@ first m s cells left n parent at (element notes tabs c rest body) of keeps none 
     let r = element-parts (all annotationRule notes) (conceptRule m c) (blankRule rest) (bodyRule m body) (keeps .rule) in
     let w = both (conceptFits nameLimit listLimit c) (bodyFits nameLimit listLimit body) (keeps .within) in
     let of-behind : OfBody s cells (own + conceptSize c) parent end body =
-        record {
-          after = of .after;
-          spelt = past-front s (start + conceptWidth tabs c) (blankOnto rest) later (blank-front rest) past;
-          stand = rw more at (stand-back cells own (conceptEntry parent start tabs c ∷ inside) others stands);
-        } in
+    record {
+      after = of .after;
+      spelt = past-front s (start + conceptWidth tabs c) (blankOnto rest) later (blank-front rest) past;
+      stand = rw more at (stand-back cells own (conceptEntry parent start tabs c ∷ inside) others stands);
+    } in
     let whole : n + (length notes + conceptSize c + bodySize body) ≡ own + conceptSize c + bodySize body = omega arith in
     record {
       notes = notes;

@@ -53,6 +53,7 @@ traits-append (e ∷ a) b = go (eqb (e .kind) 2) (traits-append a b)
 -- no item is a trait
 mutual
   unfolding traitsIn itemEntries
+
   items-none : (v : Value) (parent next at : ℕ) → traitsIn (itemEntries parent next at v) ≡ 0
   items-none (leaf v) parent next at = refl
   items-none emptyList parent next at = refl

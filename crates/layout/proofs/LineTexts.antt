@@ -221,6 +221,6 @@ module _ (s cells : List ℕ) (n place t : ℕ) (ls : List Line) (of : OfContent
   unfolding startsIn
   content-tabs tabs cut e f =
       let end : drop (own .end) s ≡ tabsOnto t (closingOnto (of .name) (of .after)) =
-          ap (λ (e : Entry). drop (e .end) s) content-entry ∙ past-front s place (linesOnto t ls) (tabsOnto t (closingOnto (of .name) (of .after))) (lines-front t ls) (of .spelt) in
+      ap (λ (e : Entry). drop (e .end) s) content-entry ∙ past-front s place (linesOnto t ls) (tabsOnto t (closingOnto (of .name) (of .after))) (lines-front t ls) (of .spelt) in
       let many : tabs ≡ t = e ∙ ap (lengthIn isTab) end ∙ tabs-length t (closingOnto (of .name) (of .after)) refl in
       omega arith

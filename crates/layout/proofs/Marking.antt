@@ -5,11 +5,11 @@ use mathlib.Core.Bool.{Bool, true, false, not, _&&_, _||_}
 use mathlib.Core.List.{List, [], _∷_, _++_, map, append-assoc, append-nil}
 use native.Mathlib.Nat.{add-zero}
 use native.Mathlib.Omega.{arith}
-use lib.ListN.{length, take, drop, length-append, length-map}
+use lib.ListN.{length, take, drop, getD, length-append, length-map}
 use lib.Seq.{drop-drop, drop-append-seam}
 use lib.Dec.{leb, eqb}
 use borrow.Author.Tests.{leb-true, lt-leb, eq-eqb, ne-eqb}
-use Rattle.paper.specs.Bytes.{byte, lf, space, isUpper, isWhite, all}
+use Rattle.paper.specs.Bytes.{byte, bytes, lf, space, isUpper, isWhite, all}
 use Rattle.paper.specs.Names.{nameLimit, nameRule}
 use Rattle.paper.specs.Values.{Piece, piecesOnto, Leaf, string, character, backtick, word, leafOnto, Value, leaf, emptyList, list, More, close, comma, valueOnto, moreOnto, spelling, valueRule, listDepth, endsInSlash}
 use Rattle.paper.specs.Tree.{Trait, Marker, Concept, selfClosed, children, content, Body, done, blankLine, element, Annotation, Ending, block, self}
@@ -17,7 +17,7 @@ use Rattle.paper.specs.Grammar.{traitOnto, traitsOnto, markerOnto, endingOnto, 
 use Rattle.paper.specs.Limits.{listLimit, traitFits, markerFits}
 use Rattle.paper.specs.Entries.{Entry, unnamed, itemEntries, moreEntries, itemSize, moreSize, valueWidth, traitSize, traitsSize, traitName, traitValue, traitEntry, traitEntries, annotationEntries, conceptSize, bodySize, conceptCount, conceptForm, conceptEntry, markerOf, markerName, bodyStart, insideEntries, bodyEntries}
 use Rattle.paper.specs.Canonical.{TraitSense, MarkerSense, lower, leafSense, valueSense, markerSense, printValue, printTrait, printBeside, printBelow, printMarker, senseInSlash, lastInSlash, spaced}
-use Rattle.paper.proofs.Tests.{true-false, split, in-range}
+use Rattle.paper.proofs.Tests.{true-false, split, in-range, upTo}
 use Rattle.paper.proofs.Lists.{both, all-head, all-append}
 use Rattle.paper.proofs.Pieces.{pieces-append}
 use Rattle.paper.proofs.ReadValues.{value-append}
@@ -477,3 +477,59 @@ module _ (s cells : List ℕ) (n depth : ℕ) (e : Entry) (g : e ≡ entryAt cel
               ∙ p₁ .same (traitsPrint below depth (map traitSense (k .traits)) y) ∙ got .2 .same y ∙ p₃ .same (endingOnto (endingOf c) (lf ∷ x)) ∙ p₄ (endingOf c) ends .same x;
         },
       )
+
+-- ---- the last byte
+
+pub slash-none : (w : List ℕ) → length w ≡ 0 → false ≡ endsInSlash w
+unfolding endsInSlash
+slash-none [] h = refl
+slash-none (b ∷ w) h = absurd (omega arith)
+
+pub slash-last : (w : List ℕ) → (length w ≡ 0 → ⊥) → eqb (getD w (length w - 1) 0) (byte "/") ≡ endsInSlash w
+unfolding endsInSlash
+slash-last [] h = absurd (h refl)
+slash-last (b ∷ []) h = refl
+slash-last (b ∷ c ∷ w) h =
+    let z : length (b ∷ c ∷ w) - 1 ≡ suc (length (c ∷ w) - 1) = omega arith in
+    rw z (slash-last (c ∷ w) (λ q. absurd (omega arith)))
+
+-- ---- a walk over list items
+
+pub items-step : (cells : List ℕ) (n i : ℕ) → kindAt cells i ≡ 3 → ((j : ℕ) → n ≤ j → j < i → kindAt cells j ≡ 3) → (j : ℕ) → n ≤ j → j < i + 1 → kindAt cells j ≡ 3
+items-step cells n i k f j a b = upTo (suc j) i (λ h. f j a (omega arith)) (λ h. let q : j ≡ i = omega arith in ap (kindAt cells) q ∙ k)
+
+-- ---- before a trait, and before and at the end
+
+module _ (below : Bool) (depth : ℕ) where
+  pub lead-line : below ≡ true → {out mid after : List ℕ} {at to end : ℕ} → Puts out at (λ x. bytes "\n\t" ++ x) mid to → Puts mid to (tabsOnto depth) after end → Puts out at (leadOnto below depth) after end
+  lead-line b h k = record { same = λ x. rw b (h .same (tabsOnto depth x) ∙ k .same x) }
+
+  pub lead-space : below ≡ false → {out after : List ℕ} {at to : ℕ} → Puts out at (λ x. space ∷ x) after to → Puts out at (leadOnto below depth) after to
+  lead-space b h = record { same = λ x. rw b (h .same x) }
+
+  module _ (sp : Bool) where
+    pub break-line : below ≡ true → {out mid after : List ℕ} {at to end : ℕ} → Puts out at (λ x. lf ∷ x) mid to → Puts mid to (tabsOnto depth) after end → Puts out at (breakOnto below sp depth) after end
+    break-line b h k = record { same = λ x. rw b (h .same (tabsOnto depth x) ∙ k .same x) }
+
+    pub break-space : below ≡ false → sp ≡ true → {out after : List ℕ} {at to : ℕ} → Puts out at (λ x. space ∷ x) after to → Puts out at (breakOnto below sp depth) after to
+    break-space b s h = record { same = λ x. rw (b, s) (h .same x) }
+
+    pub break-none : below ≡ false → sp ≡ false → {out : List ℕ} {at : ℕ} → Puts out at (breakOnto below sp depth) out at
+    break-none b s = record { same = λ x. rw (b, s) }
+
+module _ {out after : List ℕ} {at to : ℕ} (closed : Bool) where
+  pub end-self : closed ≡ true → Puts out at (λ x. bytes "/>\n" ++ x) after to → (e : Ending) → closed ≡ isSelf e → Puts out at (λ x. endingOnto e (lf ∷ x)) after to
+  end-self c h block q = true-false (sym c ∙ q)
+  end-self c h self q = record { same = h .same }
+
+  pub end-block : closed ≡ false → Puts out at (λ x. bytes ">\n" ++ x) after to → (e : Ending) → closed ≡ isSelf e → Puts out at (λ x. endingOnto e (lf ∷ x)) after to
+  end-block c h block q = record { same = h .same }
+  end-block c h self q = true-false (sym q ∙ c)
+
+-- ---- one or the other
+
+pub or-yes : (a b : Bool) → a ≡ true → a ≡ a || b
+or-yes a b e = rw e
+
+pub or-no : (a b : Bool) → a ≡ false → b ≡ a || b
+or-no a b e = rw e

@@ -55,11 +55,11 @@ module _ (s cells : List ℕ) (depth whole : ℕ) (out₀ : List ℕ) (at : ℕ)
         let rest = blankOnto (a .rest) (annotationsOnto more (of .after)) in
         let tabs = replicate (a .tabs) tab in
         let mark : drop (place + a .tabs) s ≡ byte "[" ∷ (a .text ++ (byte "]" ∷ rest)) =
-            ap (λ (n : ℕ). drop (place + n) s) (sym (length-replicate (a .tabs) tab)) ∙ past-bytes s place tabs (byte "[" ∷ (a .text ++ (byte "]" ∷ rest))) (of .spelt) in
+        ap (λ (n : ℕ). drop (place + n) s) (sym (length-replicate (a .tabs) tab)) ∙ past-bytes s place tabs (byte "[" ∷ (a .text ++ (byte "]" ∷ rest))) (of .spelt) in
         let start : drop (place + a .tabs + 1) s ≡ a .text ++ (byte "]" ∷ rest) = past-bytes s (place + a .tabs) (byte "[" ∷ []) (a .text ++ (byte "]" ∷ rest)) mark in
         let says : text ≡ a .text =
-            t ∙ ap (λ (x : Entry). take (x .end - x .start) (drop (x .start) s)) entry
-            ∙ part-is s (place + a .tabs + 1) (place + a .tabs + 1 + length (a .text)) (a .text) (byte "]" ∷ rest) start refl in
+        t ∙ ap (λ (x : Entry). take (x .end - x .start) (drop (x .start) s)) entry
+        ∙ part-is s (place + a .tabs + 1) (place + a .tabs + 1 + length (a .text)) (a .text) (byte "]" ∷ rest) start refl in
         record {
           parent = parent;
           place = place + length (annotationOnto a []);

@@ -25,7 +25,14 @@ ghost use Rattle.layout.specs.Texts.{inked};
 ghost use Rattle.layout.specs.Walking.{OfContent};
 
 // Puts the lines of the Content of entry n, with their text at so many tabs. The closing line behind them has the tabs of their marker.
-pub fn put_content(out: &mut [u8], at: usize, s: &[u8], cells: &[u32], n: usize, tabs: usize) -> Walk
+pub fn put_content(
+    out: &mut [u8],
+    at: usize,
+    s: &[u8],
+    cells: &[u32],
+    n: usize,
+    tabs: usize,
+) -> Walk
     ensures { λ r. ⌜ ((place t : ℕ) (ls : List Line) → OfContent (now (s .entry)) (now (cells .entry)) n place t ls → all lineRule ls ≡ true → (r .next ≡ n + 1) × Puts (now (out .entry)) at (printLines tabs (map lineSense ls)) (now (out .exit)) (r .at)) ⌝ }
 {
     if cells.len() / CELLS <= n {

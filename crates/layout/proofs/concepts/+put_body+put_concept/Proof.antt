@@ -91,7 +91,7 @@ put-body-same-length t c = omega arith
 put-body-returns : (t : ℕ) → put-body-lts.Need-returns (put-body-calls t) (put-body-at t) put-body.Post put-body-Inv-loop put-body-μ-loop
 put-body-returns t c =
     λ m parent place body of keeps ends few.
-      absurd (element-there m _ _ _ _ _ _ _ body ends (c .before .before .before .before .before .before .before .before .before .before .before .loop .inv .1 m parent place body of keeps ends few) (c .before .before .before .before .before .before .before .before .before .before .loop-test .taken) _ (c .before .before .before .before .before .before .before .before .put-between .ensures) (c .before .before .before .before .put-notes .ensures .1) (c .if1 .taken))
+    absurd (element-there m _ _ _ _ _ _ _ body ends (c .before .before .before .before .before .before .before .before .before .before .before .loop .inv .1 m parent place body of keeps ends few) (c .before .before .before .before .before .before .before .before .before .before .loop-test .taken) _ (c .before .before .before .before .before .before .before .before .put-between .ensures) (c .before .before .before .before .put-notes .ensures .1) (c .if1 .taken))
 
 -- src/concepts.rt:104:13
 put-body-put-concept-requires : (t : ℕ) → put-body-lts.Need-put-concept-requires (put-body-calls t) (put-body-at t) put-body.Post put-body-Inv-loop put-body-μ-loop
@@ -111,9 +111,11 @@ put-body-loop-less t c = omega arith
 
 -- src/concepts.rt:97:5
 put-body-loop-again : (t : ℕ) → put-body-lts.Need-loop-again (put-body-calls t) (put-body-at t) put-body.Post put-body-Inv-loop put-body-μ-loop
-put-body-loop-again t c =
-    (omega arith, λ m parent place body of keeps ends few.
-      element-on m _ _ _ _ _ _ _ body ends (c .before .before .before .before .before .before .before .before .before .before .before .before .before .before .before .loop .inv .1 m parent place body of keeps ends few) (c .before .before .before .before .before .before .before .before .before .before .before .before .before .before .loop-test .taken) _ (c .before .before .before .before .before .before .before .before .before .before .before .before .put-between .ensures) (c .before .before .before .before .before .before .before .before .put-notes .ensures .1) _ (c .before .before .put-concept .ensures))
+put-body-loop-again t c = (
+  omega arith,
+  λ m parent place body of keeps ends few.
+      element-on m _ _ _ _ _ _ _ body ends (c .before .before .before .before .before .before .before .before .before .before .before .before .before .before .before .loop .inv .1 m parent place body of keeps ends few) (c .before .before .before .before .before .before .before .before .before .before .before .before .before .before .loop-test .taken) _ (c .before .before .before .before .before .before .before .before .before .before .before .before .put-between .ensures) (c .before .before .before .before .before .before .before .before .put-notes .ensures .1) _ (c .before .before .put-concept .ensures),
+)
 
 -- src/concepts.rt:80:1
 put-body-same-length-2 : (t : ℕ) → put-body-lts.Need-same-length-2 (put-body-calls t) (put-body-at t) put-body.Post put-body-Inv-loop put-body-μ-loop
@@ -179,7 +181,7 @@ put-concept-same-length t c = omega (arith, c .before .before .before .before .b
 put-concept-returns-2 : (t : ℕ) → put-concept-lts.Need-returns-2 (put-concept-calls t) (put-concept-at t) put-concept.Post
 put-concept-returns-2 t c =
     children-put _ _ (c .before .before .before .before .before .before .before .before .before .before .before .before .before .before .before .before .before .before .before .before .before .before .before .before .before .before .before .before .args .n) (c .before .before .before .before .before .before .before .before .before .before .before .before .before .before .before .before .before .before .before .before .before .before .before .before .before .before .before .before .args .depth) (c .before .before .before .before .before .before .before .before .before .before .before .before .before .before .before .before .before .before .before .before .before .before .before .before .before .before .before .before .args .nesting .left) (c .before .before .before .before .before .before .before .before .before .before .before .before .before .before .before .before .before .before .before .put-tabs .ensures) (c .before .before .before .before .before .before .before .before .before .before .before .before .before .before .before .put-marker .ensures) (entryOf (c .before .before .before .before .before .before .before .before .before .before .before .before .get .result)) (c .before .before .before .before .before .before .before .before .before .before .before .before .get .ensures)
-      _ (add-one (c .before .before .before .before .before .before .before .before .before .before .before .before .before .before .before .before .before .before .before .before .before .before .before .before .before .before .before .before .args .depth)) _ (c .before .before .before .name-of .ensures) (c .before .before .put-closing .ensures) _ (c .before .before .before .before .before .before .before .before .before .count-elements .ensures) _ (one-less _ _ (c .before .before .before .before .before .before .before .before .before .before .before .before .before .before .before .before .before .before .before .before .before .before .before .before .step .ensures) _ (c .before .before .before .before .before .before .before .before .before .before .before .before .before .before .before .before .before .before .before .before .before .before .inside .given .1)) (c .before .before .before .before .before .before .before .put-body .ensures) (c .before .before .before .before .before .before .before .before .before .before .if1 .taken)
+    _ (add-one (c .before .before .before .before .before .before .before .before .before .before .before .before .before .before .before .before .before .before .before .before .before .before .before .before .before .before .before .before .args .depth)) _ (c .before .before .before .name-of .ensures) (c .before .before .put-closing .ensures) _ (c .before .before .before .before .before .before .before .before .before .count-elements .ensures) _ (one-less _ _ (c .before .before .before .before .before .before .before .before .before .before .before .before .before .before .before .before .before .before .before .before .before .before .before .before .step .ensures) _ (c .before .before .before .before .before .before .before .before .before .before .before .before .before .before .before .before .before .before .before .before .before .before .inside .given .1)) (c .before .before .before .before .before .before .before .put-body .ensures) (c .before .before .before .before .before .before .before .before .before .before .if1 .taken)
 
 -- src/concepts.rt:70:72
 put-concept-add-put-content : (t : ℕ) → put-concept-lts.Need-add-put-content (put-concept-calls t) (put-concept-at t) put-concept.Post
@@ -205,7 +207,7 @@ put-concept-same-length-2 t c = omega (arith, c .before .before .before .before 
 put-concept-returns-3 : (t : ℕ) → put-concept-lts.Need-returns-3 (put-concept-calls t) (put-concept-at t) put-concept.Post
 put-concept-returns-3 t c =
     content-put _ _ (c .before .before .before .before .before .before .before .before .before .before .before .before .before .before .before .before .before .before .before .before .before .before .before .before .before .before .before .before .before .args .n) (c .before .before .before .before .before .before .before .before .before .before .before .before .before .before .before .before .before .before .before .before .before .before .before .before .before .before .before .before .before .args .depth) (c .before .before .before .before .before .before .before .before .before .before .before .before .before .before .before .before .before .before .before .before .before .before .before .before .before .before .before .before .before .args .nesting .left) (c .before .before .before .before .before .before .before .before .before .before .before .before .before .before .before .before .before .before .before .before .put-tabs .ensures) (c .before .before .before .before .before .before .before .before .before .before .before .before .before .before .before .before .put-marker .ensures) (entryOf (c .before .before .before .before .before .before .before .before .before .before .before .before .before .get .result)) (c .before .before .before .before .before .before .before .before .before .before .before .before .before .get .ensures)
-      _ (add-one (c .before .before .before .before .before .before .before .before .before .before .before .before .before .before .before .before .before .before .before .before .before .before .before .before .before .before .before .before .before .args .depth)) _ (c .before .before .before .name-of2 .ensures) (c .before .before .put-closing2 .ensures) (c .before .before .before .before .before .before .before .put-content .ensures) (c .before .before .before .before .before .before .before .before .before .if2 .taken)
+    _ (add-one (c .before .before .before .before .before .before .before .before .before .before .before .before .before .before .before .before .before .before .before .before .before .before .before .before .before .before .before .before .before .args .depth)) _ (c .before .before .before .name-of2 .ensures) (c .before .before .put-closing2 .ensures) (c .before .before .before .before .before .before .before .put-content .ensures) (c .before .before .before .before .before .before .before .before .before .if2 .taken)
 
 -- src/concepts.rt:34:1
 put-concept-same-length-3 : (t : ℕ) → put-concept-lts.Need-same-length-3 (put-concept-calls t) (put-concept-at t) put-concept.Post

@@ -63,9 +63,12 @@ loop-less c = let h = is-inside (c .before .before .before .before .before .befo
 
 -- src/notes.rt:28:5
 loop-again : tie.Need-loop-again Inv-loop μ-loop
-loop-again c =
-    (omega arith, omega (arith, c .before .before .before .before .before .before .before .before .loop .inv .1), λ parent place notes of none. notes-on _ _ _ _ _ _ notes (c .before .before .before .before .before .before .before .before .loop .inv .2 parent place notes of none) none
-      (sym (ap (λ (e : Entry). e .kind) (c .before .before .before .before .before .before .before .get .ensures)) ∙ c .before .before .before .before .before .if1 .left) (entryOf (c .before .before .before .before .before .before .before .get .result)) (c .before .before .before .before .before .before .before .get .ensures) _ (c .before .before .before .spelling-of .ensures) (c .before .before .put-note .ensures))
+loop-again c = (
+  omega arith,
+  omega (arith, c .before .before .before .before .before .before .before .before .loop .inv .1),
+  λ parent place notes of none. notes-on _ _ _ _ _ _ notes (c .before .before .before .before .before .before .before .before .loop .inv .2 parent place notes of none) none
+      (sym (ap (λ (e : Entry). e .kind) (c .before .before .before .before .before .before .before .get .ensures)) ∙ c .before .before .before .before .before .if1 .left) (entryOf (c .before .before .before .before .before .before .before .get .result)) (c .before .before .before .before .before .before .before .get .ensures) _ (c .before .before .before .spelling-of .ensures) (c .before .before .put-note .ensures),
+)
 
 pub put-notes-spec : {M : Type 1} → statement M
 put-notes-spec =
