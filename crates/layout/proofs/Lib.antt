@@ -13,3 +13,4 @@ pub mod NoteLaws
 pub mod BodyLaws
 pub mod ConceptLaws
 pub mod WriteLaws
+pub mod OneAnswer

@@ -1,6 +1,6 @@
 -- A whole sheet put on a page, and the page written to room that is lent or not at all. Document 01, "Canonical form" and refusal 12. Assumes nothing.
 use Prim.Native.Nat.{ℕ, suc, _+_, _-_, _*_, _≤_, _<_, min}
-use mathlib.Core.Path.{_≡_, refl, sym, ap, _∙_}
+use mathlib.Core.Path.{_≡_, refl, sym, ap, ap₂, _∙_}
 use mathlib.Core.Bool.{Bool, true, false, _&&_}
 use mathlib.Core.List.{List, [], _∷_, _++_, map, append-nil}
 use native.Mathlib.Omega.{arith}
@@ -155,13 +155,23 @@ module _ (m : Modes) (s cells : List ℕ) (t : Sheet) (of : OfSheet m s cells t)
 
 -- ---- a form that is laid out on a page, written or not
 
+pub blank-page : length (replicate {A = ℕ} sheetLimit 0) ≡ sheetLimit
+blank-page = length-replicate {A = ℕ} sheetLimit 0
+
+form-fits : (lent : ℕ) (out w : List ℕ) → length w ≤ min (length out) sheetLimit → writeForm lent out w ≡ writtenAt lent out 0 w
+unfolding writeForm
+form-fits lent out w h = rw (le-leb (length w) (min (length out) sheetLimit) h, writeForm)
+
+form-not : (lent : ℕ) (out w : List ℕ) → min (length out) sheetLimit < length w → writeForm lent out w ≡ notWritten lent out 12 0
+unfolding writeForm
+form-not lent out w h = rw (lt-leb (length w) (min (length out) sheetLimit) h, writeForm)
+
 module _ (form₀ form w out : List ℕ) (end lent : ℕ) (e : page form₀ 0 w ≡ page form end []) (l : length form ≡ length form₀) (limit : length form₀ ≡ sheetLimit) where
   abbrev Written : Answer → List ℕ → Type 0
   Written r after = record { answer = told r; out = after; cells = replicate lent 0 } ≡ writeForm lent out w
 
   unwritten : min (length out) sheetLimit < length w → Written (Refused NoRoom 0) out
-  unfolding writeForm
-  unwritten h = rw (lt-leb (length w) (min (length out) sheetLimit) h)
+  unwritten h = sym (form-not lent out w h)
 
   pub too-long : sheetLimit < end → Written (Refused NoRoom 0) out
   too-long h = unwritten (omega (arith, page-short form₀ form w 0 end e l (omega arith)))
@@ -179,13 +189,12 @@ module _ (form₀ form w out : List ℕ) (end lent : ℕ) (e : page form₀ 0 w 
         ap (λ (n : ℕ). take n form) size ∙ page-front form₀ form w (omega arith) (laid .0)
 
     pub form-written : end ≤ length out → (after : List ℕ) (to : ℕ) → Puts out 0 (λ next. take end form ++ next) after to → length after ≡ length out → Written (Accepted 0 end) after
-    unfolding writeForm
     form-written k after to p same =
         let fits : length w ≤ min (length out) sheetLimit = omega (arith, laid .1) in
         let room : 0 + length w ≤ length out = omega arith in
         let put : page out 0 w ≡ page after to [] = ap (page out 0) (sym (append-nil w) ∙ ap (λ (v : List ℕ). v ++ []) (sym is-form)) ∙ p .same [] in
         let stored : after ≡ w ++ drop (0 + length w) out = page-done out after w 0 to put room same .0 ∙ sets-eq w out 0 room in
-        rw (le-leb (length w) (min (length out) sheetLimit) fits, stored, laid .1)
+        ap₂ (λ (n : ℕ) (o : List ℕ). record { answer = accepted 0 n; out = o; cells = replicate lent 0 }) (laid .1) stored ∙ sym (form-fits lent out w fits)
 
 -- ---- writing
 

@@ -8,7 +8,7 @@ use Rattle.paper.specs.Modes.{Modes}
 use Rattle.paper.specs.Tree.{Concept, Body}
 use Rattle.paper.specs.Entries.{bodySize, bodyCount}
 use Rattle.entries.specs.Laid.{entryOf}
-use Rattle.text.proofs.Deepening.{one-less, no-less}
+use Rattle.values.proofs.Deepening.{one-less, no-less}
 use Rattle.layout.specs.Standing.{Ends, OfBody}
 use Rattle.layout.specs.Walking.{KeepsBody}
 use Rattle.layout.proofs.BodyLaws.{BodyLeft, body-all, element-there, element-on, body-over}
@@ -180,7 +180,7 @@ put-concept-same-length t c = omega (arith, c .before .before .before .before .b
 -- src/concepts.rt:64:9
 put-concept-returns-2 : (t : ℕ) → put-concept-lts.Need-returns-2 (put-concept-calls t) (put-concept-at t) put-concept.Post
 put-concept-returns-2 t c =
-    children-put _ _ (c .before .before .before .before .before .before .before .before .before .before .before .before .before .before .before .before .before .before .before .before .before .before .before .before .before .before .before .before .args .n) (c .before .before .before .before .before .before .before .before .before .before .before .before .before .before .before .before .before .before .before .before .before .before .before .before .before .before .before .before .args .depth) (c .before .before .before .before .before .before .before .before .before .before .before .before .before .before .before .before .before .before .before .before .before .before .before .before .before .before .before .before .args .nesting .left) (c .before .before .before .before .before .before .before .before .before .before .before .before .before .before .before .before .before .before .before .put-tabs .ensures) (c .before .before .before .before .before .before .before .before .before .before .before .before .before .before .before .put-marker .ensures) (entryOf (c .before .before .before .before .before .before .before .before .before .before .before .before .get .result)) (c .before .before .before .before .before .before .before .before .before .before .before .before .get .ensures)
+    children-put _ _ (c .before .before .before .before .before .before .before .before .before .before .before .before .before .before .before .before .before .before .before .before .before .before .before .before .before .before .before .before .args .n) (c .before .before .before .before .before .before .before .before .before .before .before .before .before .before .before .before .before .before .before .before .before .before .before .before .before .before .before .before .args .depth) (c .before .before .before .before .before .before .before .before .before .before .before .before .before .before .before .before .before .before .before .before .before .before .before .before .before .before .before .before .args .nesting .left) (c .before .before .before .before .before .before .before .before .before .before .before .before .before .before .before .before .before .before .before .put-tabs .ensures) (c .before .before .before .before .before .before .before .before .before .before .before .before .before .before .before .put-marker .ensures .1) (entryOf (c .before .before .before .before .before .before .before .before .before .before .before .before .get .result)) (c .before .before .before .before .before .before .before .before .before .before .before .before .get .ensures)
     _ (add-one (c .before .before .before .before .before .before .before .before .before .before .before .before .before .before .before .before .before .before .before .before .before .before .before .before .before .before .before .before .args .depth)) _ (c .before .before .before .name-of .ensures) (c .before .before .put-closing .ensures) _ (c .before .before .before .before .before .before .before .before .before .count-elements .ensures) _ (one-less _ _ (c .before .before .before .before .before .before .before .before .before .before .before .before .before .before .before .before .before .before .before .before .before .before .before .before .step .ensures) _ (c .before .before .before .before .before .before .before .before .before .before .before .before .before .before .before .before .before .before .before .before .before .before .inside .given .1)) (c .before .before .before .before .before .before .before .put-body .ensures) (c .before .before .before .before .before .before .before .before .before .before .if1 .taken)
 
 -- src/concepts.rt:70:72
@@ -206,7 +206,7 @@ put-concept-same-length-2 t c = omega (arith, c .before .before .before .before 
 -- src/concepts.rt:71:9
 put-concept-returns-3 : (t : ℕ) → put-concept-lts.Need-returns-3 (put-concept-calls t) (put-concept-at t) put-concept.Post
 put-concept-returns-3 t c =
-    content-put _ _ (c .before .before .before .before .before .before .before .before .before .before .before .before .before .before .before .before .before .before .before .before .before .before .before .before .before .before .before .before .before .args .n) (c .before .before .before .before .before .before .before .before .before .before .before .before .before .before .before .before .before .before .before .before .before .before .before .before .before .before .before .before .before .args .depth) (c .before .before .before .before .before .before .before .before .before .before .before .before .before .before .before .before .before .before .before .before .before .before .before .before .before .before .before .before .before .args .nesting .left) (c .before .before .before .before .before .before .before .before .before .before .before .before .before .before .before .before .before .before .before .before .put-tabs .ensures) (c .before .before .before .before .before .before .before .before .before .before .before .before .before .before .before .before .put-marker .ensures) (entryOf (c .before .before .before .before .before .before .before .before .before .before .before .before .before .get .result)) (c .before .before .before .before .before .before .before .before .before .before .before .before .before .get .ensures)
+    content-put _ _ (c .before .before .before .before .before .before .before .before .before .before .before .before .before .before .before .before .before .before .before .before .before .before .before .before .before .before .before .before .before .args .n) (c .before .before .before .before .before .before .before .before .before .before .before .before .before .before .before .before .before .before .before .before .before .before .before .before .before .before .before .before .before .args .depth) (c .before .before .before .before .before .before .before .before .before .before .before .before .before .before .before .before .before .before .before .before .before .before .before .before .before .before .before .before .before .args .nesting .left) (c .before .before .before .before .before .before .before .before .before .before .before .before .before .before .before .before .before .before .before .before .put-tabs .ensures) (c .before .before .before .before .before .before .before .before .before .before .before .before .before .before .before .before .put-marker .ensures .1) (entryOf (c .before .before .before .before .before .before .before .before .before .before .before .before .before .get .result)) (c .before .before .before .before .before .before .before .before .before .before .before .before .before .get .ensures)
     _ (add-one (c .before .before .before .before .before .before .before .before .before .before .before .before .before .before .before .before .before .before .before .before .before .before .before .before .before .before .before .before .before .args .depth)) _ (c .before .before .before .name-of2 .ensures) (c .before .before .put-closing2 .ensures) (c .before .before .before .before .before .before .before .put-content .ensures) (c .before .before .before .before .before .before .before .before .before .if2 .taken)
 
 -- src/concepts.rt:34:1
@@ -215,7 +215,7 @@ put-concept-same-length-3 t c = omega arith
 
 -- src/concepts.rt:34:1
 put-concept-returns-4 : (t : ℕ) → put-concept-lts.Need-returns-4 (put-concept-calls t) (put-concept-at t) put-concept.Post
-put-concept-returns-4 t c = closed-put _ _ (c .before .before .before .before .before .before .before .before .before .before .before .before .before .before .before .before .before .before .before .before .args .n) (c .before .before .before .before .before .before .before .before .before .before .before .before .before .before .before .before .before .before .before .before .args .depth) (c .before .before .before .before .before .before .before .before .before .before .before .before .before .before .before .before .before .before .before .before .args .nesting .left) (c .before .before .before .before .before .before .before .before .before .before .before .put-tabs .ensures) (c .before .before .before .before .before .before .before .put-marker .ensures) (entryOf (c .before .before .before .before .get .result)) (c .before .before .before .before .get .ensures) (c .before .before .if1 .left) (c .if2 .left)
+put-concept-returns-4 t c = closed-put _ _ (c .before .before .before .before .before .before .before .before .before .before .before .before .before .before .before .before .before .before .before .before .args .n) (c .before .before .before .before .before .before .before .before .before .before .before .before .before .before .before .before .before .before .before .before .args .depth) (c .before .before .before .before .before .before .before .before .before .before .before .before .before .before .before .before .before .before .before .before .args .nesting .left) (c .before .before .before .before .before .before .before .before .before .before .before .put-tabs .ensures) (c .before .before .before .before .before .before .before .put-marker .ensures .1) (entryOf (c .before .before .before .before .get .result)) (c .before .before .before .before .get .ensures) (c .before .before .if1 .left) (c .if2 .left)
 
 pub +put-body+put-concept-spec : {M : Type 1} → statement M
 +put-body+put-concept-spec = close μ-put-body μ-put-concept (λ t. put-body-lts.spec (put-body-calls t)
