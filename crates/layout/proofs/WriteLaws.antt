@@ -216,6 +216,10 @@ refused-through table s out lent r why place is after e = go (begin table s lent
         absurd (number-positive why (ap (λ (x : Told). x .number) (sym (ap told is) ∙ q)))
     go (unread n at) b h = passed table s out lent (told r) after n at b (e ∙ h .is)
 
+-- a refusal counts nothing
+pub none-counted : (r : Answer) (why : Refusal) (place : ℕ) → r ≡ Refused why place → 0 ≡ told r .count
+none-counted r why place e = rw e
+
 -- the cells of entries that were laid from the first on
 laid-front : (cells mid : List ℕ) (es : List Entry) (count : ℕ) → count ≡ length es → length es * entryCells ≤ length cells → mid ≡ lay cells 0 es → take (count * entryCells) mid ≡ allCells es
 unfolding lay

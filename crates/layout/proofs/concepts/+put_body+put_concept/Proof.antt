@@ -28,7 +28,7 @@ use Rattle.layout.proofs.concepts.put_between.Reads as put-between-read
 use Rattle.layout.proofs.concepts.put_closing.Reads as put-closing-reads
 use Rattle.layout.proofs.content.put_content.Reads as put-content-reads
 use Rattle.layout.proofs.markers.put_marker.Reads as put-marker-reads
-use Rattle.text.proofs.nesting.Nesting.step.Reads as step-reads
+use Rattle.values.proofs.nesting.Nesting.step.Reads as step-reads
 use Rattle.layout.proofs.notes.put_notes.Reads as put-notes-reads
 use Rattle.layout.proofs.page.put_tabs.Reads as put-tabs-reads
 use Rattle.layout.proofs.concepts.+put_body+put_concept.{statement}
