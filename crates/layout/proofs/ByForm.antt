@@ -2,7 +2,7 @@
 use Prim.Native.Nat.{ℕ, _-_, _≤_, _<_}
 use mathlib.Core.Path.{_≡_, sym, ap, _∙_}
 use mathlib.Core.Bool.{true, false}
-use mathlib.Core.List.{List, [], _∷_, _++_, map, append-nil}
+use mathlib.Core.List.{List, [], _∷_, _++_, map, append-nil, append-assoc}
 use native.Mathlib.Omega.{arith}
 use lib.ListN.{length, take, drop, length-append}
 use lib.Seq.{take-append-seam}
@@ -15,7 +15,9 @@ use Rattle.paper.proofs.Lists.{both}
 use Rattle.paper.proofs.Pieces.{pieces-append}
 use Rattle.paper.proofs.WordKinds.{Kind, formOf, kinds, byKind, word-form}
 use Rattle.paper.proofs.Leaves.{word-rule}
-use Rattle.layout.specs.Page.{Puts}
+use Rattle.layout.specs.Page.{page, Puts}
+use Rattle.layout.specs.Quoting.{isPlain}
+use Rattle.layout.proofs.Plainly.{plain-pieces}
 
 -- ---- between two quotes
 
@@ -25,18 +27,34 @@ inner-is w q ps e =
     let n : length w - 2 ≡ length (piecesOnto ps []) = omega (arith, ap length f, length-append (piecesOnto ps []) (q ∷ [])) in
     ap (λ (k : ℕ). take k (drop 1 w)) n ∙ ap (λ (l : List ℕ). take (length (piecesOnto ps [])) (drop 1 l)) f ∙ take-append-seam (piecesOnto ps []) (q ∷ [])
 
-module _ (quote : ℕ) (w spelling : List ℕ) (e : spelling ≡ take (length w - 2) (drop 1 w)) {out mid more after : List ℕ} {at to end last : ℕ} (h : Puts out at (λ next. quote ∷ next) mid to) (l : Puts more end (λ next. quote ∷ next) after last) where
+module _ (quote : ℕ) (w spelling : List ℕ) (e : spelling ≡ take (length w - 2) (drop 1 w)) {out mid more after : List ℕ} {at to end last : ℕ}
+    (h : Puts out at (λ next. quote ∷ next) mid to) (l : Puts more end (λ next. quote ∷ next) after last) where
   pub quoted-put : ((ps : List Piece) → spelling ≡ piecesOnto ps [] → all (pieceRule quote) ps ≡ true → Puts mid to (bytesOnto quote (piecesMean ps)) more end)
-      → (ps : List Piece) → w ≡ quote ∷ piecesOnto ps (quote ∷ []) → all (pieceRule quote) ps ≡ true → Puts out at (λ next. quote ∷ bytesOnto quote (piecesMean ps) (quote ∷ next)) after last
+      → (ps : List Piece) → w ≡ quote ∷ piecesOnto ps (quote ∷ []) → all (pieceRule quote) ps ≡ true
+      → Puts out at (λ next. quote ∷ bytesOnto quote (piecesMean ps) (quote ∷ next)) after last
   quoted-put k ps f r =
       let p = k ps (e ∙ inner-is w quote ps f) r in
       record { same = λ next. h .same (bytesOnto quote (piecesMean ps) (quote ∷ next)) ∙ p .same (quote ∷ next) ∙ l .same next }
 
-  pub ticked-put : ((ps : List Piece) → spelling ≡ piecesOnto ps [] → backtickRule false ps ≡ true → Puts mid to (bytesOnto quote (collapse (piecesMean ps))) more end)
-      → (ps : List Piece) → w ≡ byte "`" ∷ piecesOnto ps (byte "`" ∷ []) → backtickRule false ps ≡ true → Puts out at (λ next. quote ∷ bytesOnto quote (collapse (piecesMean ps)) (quote ∷ next)) after last
+  pub ticked-put : ((ps : List Piece) → spelling ≡ piecesOnto ps [] → backtickRule false ps ≡ true
+      → Puts mid to (bytesOnto quote (collapse (piecesMean ps))) more end)
+      → (ps : List Piece) → w ≡ byte "`" ∷ piecesOnto ps (byte "`" ∷ []) → backtickRule false ps ≡ true
+      → Puts out at (λ next. quote ∷ bytesOnto quote (collapse (piecesMean ps)) (quote ∷ next)) after last
   ticked-put k ps f r =
       let p = k ps (e ∙ inner-is w (byte "`") ps f) r in
       record { same = λ next. h .same (bytesOnto quote (collapse (piecesMean ps)) (quote ∷ next)) ∙ p .same (quote ∷ next) ∙ l .same next }
+
+-- every byte between the quotes stands for itself: copied with them
+pub plain-put : (quote : ℕ) (w spelling : List ℕ) → spelling ≡ take (length w - 2) (drop 1 w) → all (isPlain quote) spelling ≡ true
+    → {out after : List ℕ} {at to : ℕ} → Puts out at (λ next. w ++ next) after to
+    → (ps : List Piece) → w ≡ quote ∷ piecesOnto ps (quote ∷ []) → Puts out at (λ next. quote ∷ bytesOnto quote (piecesMean ps) (quote ∷ next)) after to
+plain-put quote w spelling e a {out} {at = at} p ps f =
+    let pieces = piecesOnto ps [] in
+    let q = plain-pieces quote ps (rw (e ∙ inner-is w quote ps f) at a) in
+    let whole : w ≡ quote ∷ (pieces ++ (quote ∷ [])) = f ∙ ap (λ (l : List ℕ). quote ∷ l) (pieces-append ps (quote ∷ [])) in
+    let said : (x : List ℕ) → quote ∷ bytesOnto quote (piecesMean ps) (quote ∷ x) ≡ w ++ x =
+    λ x. ap (λ (l : List ℕ). quote ∷ l) (q (quote ∷ x) ∙ sym (append-assoc pieces (quote ∷ []) x)) ∙ sym (ap (λ (l : List ℕ). l ++ x) whole) in
+    record { same = λ x. ap (page out at) (said x) ∙ p .same x }
 
 -- ---- the form of a word is none of a string or a character
 
@@ -67,7 +85,8 @@ word-short also form w s r = let l = word-range also form w r in absurd (omega a
 
 module _ (also w : List ℕ) {out after : List ℕ} {at to : ℕ} where
   pub string-there : startsWith (bytes "`") (drop 0 w) ≡ false
-      → ((ps : List Piece) → w ≡ byte "\"" ∷ piecesOnto ps (byte "\"" ∷ []) → all (pieceRule (byte "\"")) ps ≡ true → Puts out at (λ next. byte "\"" ∷ bytesOnto (byte "\"") (piecesMean ps) (byte "\"" ∷ next)) after to)
+      → ((ps : List Piece) → w ≡ byte "\"" ∷ piecesOnto ps (byte "\"" ∷ []) → all (pieceRule (byte "\"")) ps ≡ true
+      → Puts out at (λ next. byte "\"" ∷ bytesOnto (byte "\"") (piecesMean ps) (byte "\"" ∷ next)) after to)
       → (v : Leaf) → w ≡ leafOnto v [] → 1 ≡ leafForm v → leafRule also v ≡ true → Puts out at (printValue (leafSense v)) after to
   unfolding leafOnto leafRule leafSense printValue startsWith
   string-there s f (string ps) e q r = f ps e r
@@ -76,7 +95,8 @@ module _ (also w : List ℕ) {out after : List ℕ} {at to : ℕ} where
   string-there s f (word form u) e q r = word-short also form u (omega arith) r
 
   pub backtick-there : startsWith (bytes "`") (drop 0 w) ≡ true
-      → ((ps : List Piece) → w ≡ byte "`" ∷ piecesOnto ps (byte "`" ∷ []) → backtickRule false ps ≡ true → Puts out at (λ next. byte "\"" ∷ bytesOnto (byte "\"") (collapse (piecesMean ps)) (byte "\"" ∷ next)) after to)
+      → ((ps : List Piece) → w ≡ byte "`" ∷ piecesOnto ps (byte "`" ∷ []) → backtickRule false ps ≡ true
+      → Puts out at (λ next. byte "\"" ∷ bytesOnto (byte "\"") (collapse (piecesMean ps)) (byte "\"" ∷ next)) after to)
       → (v : Leaf) → w ≡ leafOnto v [] → 1 ≡ leafForm v → leafRule also v ≡ true → Puts out at (printValue (leafSense v)) after to
   unfolding leafOnto leafRule leafSense printValue startsWith
   backtick-there s f (string ps) e q r = true-false (sym (rw e at s))
@@ -84,7 +104,8 @@ module _ (also w : List ℕ) {out after : List ℕ} {at to : ℕ} where
   backtick-there s f (backtick ps) e q r = f ps e r
   backtick-there s f (word form u) e q r = word-short also form u (omega arith) r
 
-  pub character-there : ((ps : List Piece) → w ≡ byte "'" ∷ piecesOnto ps (byte "'" ∷ []) → all (pieceRule (byte "'")) ps ≡ true → Puts out at (λ next. byte "'" ∷ bytesOnto (byte "'") (piecesMean ps) (byte "'" ∷ next)) after to)
+  pub character-there : ((ps : List Piece) → w ≡ byte "'" ∷ piecesOnto ps (byte "'" ∷ []) → all (pieceRule (byte "'")) ps ≡ true
+      → Puts out at (λ next. byte "'" ∷ bytesOnto (byte "'") (piecesMean ps) (byte "'" ∷ next)) after to)
       → (v : Leaf) → w ≡ leafOnto v [] → 2 ≡ leafForm v → leafRule also v ≡ true → Puts out at (printValue (leafSense v)) after to
   unfolding leafOnto leafRule leafSense printValue
   character-there f (string ps) e q r = absurd (omega arith)
@@ -92,7 +113,8 @@ module _ (also w : List ℕ) {out after : List ℕ} {at to : ℕ} where
   character-there f (backtick ps) e q r = absurd (omega arith)
   character-there f (word form u) e q r = word-short also form u (omega arith) r
 
-  pub uuid-there : Puts out at (λ next. map lower w ++ next) after to → (v : Leaf) → w ≡ leafOnto v [] → 10 ≡ leafForm v → Puts out at (printValue (leafSense v)) after to
+  pub uuid-there : Puts out at (λ next. map lower w ++ next) after to → (v : Leaf) → w ≡ leafOnto v [] → 10 ≡ leafForm v
+      → Puts out at (printValue (leafSense v)) after to
   unfolding leafOnto leafSense printValue
   uuid-there p (string ps) e q = absurd (omega arith)
   uuid-there p (character ps) e q = absurd (omega arith)

@@ -13,7 +13,8 @@ use Rattle.text.proofs.Places.{here}
 use Rattle.layout.specs.Page.{page, Puts}
 
 module _ (w : List ℕ) (i : ℕ) (out after : List ℕ) (to end : ℕ) (next : List ℕ) where
-  pub lower-on : i < length w → Puts out to (λ next. lower (getD w i 0) ∷ next) after end → page out to (map lower (drop i w) ++ next) ≡ page after end (map lower (drop (i + 1) w) ++ next)
+  pub lower-on : i < length w → Puts out to (λ next. lower (getD w i 0) ∷ next) after end
+      → page out to (map lower (drop i w) ++ next) ≡ page after end (map lower (drop (i + 1) w) ++ next)
   lower-on h p = rw (here w i h) (p .same (map lower (drop (i + 1) w) ++ next))
 
   pub lower-over : length w ≤ i → page out to (map lower (drop i w) ++ next) ≡ page out to next
@@ -35,7 +36,8 @@ white-left false gap b l e = rw (e, collapse)
 white-left true false b l e = rw (e, collapseOn)
 white-left true true b l e = rw (e, collapseGap)
 
-pub word-left : (begun gap : Bool) (b : ℕ) (l : List ℕ) → isWhite b ≡ false → Behind begun gap → left begun gap (b ∷ l) ≡ pick gap (space ∷ b ∷ collapseOn l) (b ∷ collapseOn l)
+pub word-left : (begun gap : Bool) (b : ℕ) (l : List ℕ) → isWhite b ≡ false → Behind begun gap
+    → left begun gap (b ∷ l) ≡ pick gap (space ∷ b ∷ collapseOn l) (b ∷ collapseOn l)
 unfolding collapse
 word-left false false b l e h = rw (e, collapse)
 word-left false true b l e h = true-false (sym (h refl))

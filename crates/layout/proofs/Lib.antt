@@ -1,12 +1,16 @@
 pub mod Putting
 pub mod Sequences
 pub mod Spelling
+pub mod Plainly
 pub mod Collapsing
 pub mod Ticks
 pub mod Parts
 pub mod ByForm
 pub mod Standing
 pub mod Listing
+pub mod TraitParts
+pub mod Three
+pub mod Slashes
 pub mod Marking
 pub mod LineTexts
 pub mod NoteLaws

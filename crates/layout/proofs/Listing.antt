@@ -20,13 +20,15 @@ use Rattle.text.proofs.Places.{front-behind}
 use Rattle.entries.specs.Laid.{entryAt}
 use Rattle.layout.specs.Page.{page, Puts}
 use Rattle.layout.specs.Standing.{Stand, OfValue}
+use Rattle.layout.specs.Wholes.{ValuePut}
 use Rattle.layout.proofs.Parts.{part-is}
 use Rattle.layout.proofs.ByForm.{word-range}
 use Rattle.layout.proofs.Standing.{stand-front, stand-back, stand-entry}
 
 -- ---- commas
 
-pub comma-put : (left : ℕ) → 0 < left → {out after : List ℕ} {at to : ℕ} → Puts out at (λ next. byte "," ∷ space ∷ next) after to → Puts out at (λ next. pick (ltb 0 left) (byte "," ∷ space ∷ next) next) after to
+pub comma-put : (left : ℕ) → 0 < left → {out after : List ℕ} {at to : ℕ} → Puts out at (λ next. byte "," ∷ space ∷ next) after to
+    → Puts out at (λ next. pick (ltb 0 left) (byte "," ∷ space ∷ next) next) after to
 comma-put left h p = record { same = λ next. rw (lt-ltb 0 left h) (p .same next) }
 
 pub comma-none : (left : ℕ) → left ≤ 0 → {out : List ℕ} {at : ℕ} → Puts out at (λ next. pick (ltb 0 left) (byte "," ∷ space ∷ next) next) out at
@@ -83,14 +85,17 @@ module _ (s cells : List ℕ) (n : ℕ) (e : Entry) (g : e ≡ entryAt cells n) 
 
   -- a leaf
   module _ (w : List ℕ) (q : w ≡ take (e .end - e .start) (drop (e .start) s)) (flat : e .form ≡ 12 → ⊥) {out after : List ℕ} {at to : ℕ}
-      (f : (also : List ℕ) (l : Leaf) → w ≡ leafOnto l [] → e .form ≡ leafForm l → leafRule also l ≡ true → Puts out at (printValue (leafSense l)) after to) where
-    leaf-go : (also : List ℕ) (v : Value) → e .form ≡ valueForm v → w ≡ spelling v → valueRule also v ≡ true → (n + 1 ≡ n + 1 + itemSize v) × Puts out at (printValue (valueSense v)) after to
+      (f : (also : List ℕ) (l : Leaf) → w ≡ leafOnto l [] → e .form ≡ leafForm l → leafRule also l ≡ true
+      → Puts out at (printValue (leafSense l)) after to) where
+    leaf-go : (also : List ℕ) (v : Value) → e .form ≡ valueForm v → w ≡ spelling v → valueRule also v ≡ true
+        → (n + 1 ≡ n + 1 + itemSize v) × Puts out at (printValue (valueSense v)) after to
     unfolding valueOnto valueRule valueSense itemSize
     leaf-go also (leaf l) a b r = (omega arith, f also l b a r)
     leaf-go also emptyList a b r = absurd (flat a)
     leaf-go also (list v more) a b r = absurd (flat a)
 
-    pub leaf-value : (also : List ℕ) (v : Value) → OfValue s cells n v → valueRule also v ≡ true → (n + 1 ≡ n + 1 + itemSize v) × Puts out at (printValue (valueSense v)) after to
+    pub leaf-value : (also : List ℕ) (v : Value) → OfValue s cells n v → valueRule also v ≡ true
+        → (n + 1 ≡ n + 1 + itemSize v) × Puts out at (printValue (valueSense v)) after to
     leaf-value also v o r = leaf-go also v (form-is v o) (spelling-is w q v o) r
 
   module _ (listed : e .form ≡ 12) where
@@ -105,8 +110,10 @@ module _ (s cells : List ℕ) (n : ℕ) (e : Entry) (g : e ≡ entryAt cells n) 
     deep-value also v o r d = deep-go also v (form-is v o) r d
 
     module _ (lists : ℕ) (some : 0 < lists) (out : List ℕ) (to : ℕ) where
-      first-go : (also : List ℕ) (v : Value) (own : Entry) (after : List ℕ) → e .form ≡ valueForm v → e .count ≡ itemsOf v → drop (own .start) s ≡ valueOnto v after
-          → Stand cells n (own ∷ itemEntries n (n + 1) (own .start) v) → valueRule also v ≡ true → listDepth v ≤ lists → Items s cells n (lists - 1) v out to (e .count) (n + 1) out to
+      first-go : (also : List ℕ) (v : Value) (own : Entry) (after : List ℕ) → e .form ≡ valueForm v → e .count ≡ itemsOf v
+          → drop (own .start) s ≡ valueOnto v after
+          → Stand cells n (own ∷ itemEntries n (n + 1) (own .start) v) → valueRule also v ≡ true → listDepth v ≤ lists
+          → Items s cells n (lists - 1) v out to (e .count) (n + 1) out to
       unfolding valueOnto valueRule valueSense itemsOf itemSize itemEntries listDepth printValue all
       first-go also (leaf l) own after a k t st r d = no-list also l (e .form) listed a r
       first-go also emptyList own after a k t st r d =
@@ -138,32 +145,31 @@ module _ (s cells : List ℕ) (n : ℕ) (e : Entry) (g : e ≡ entryAt cells n) 
             same = λ x. refl;
           }
 
-      pub items-first : (also : List ℕ) (v : Value) → OfValue s cells n v → valueRule also v ≡ true → listDepth v ≤ lists → Items s cells n (lists - 1) v out to (e .count) (n + 1) out to
+      pub items-first : (also : List ℕ) (v : Value) → OfValue s cells n v → valueRule also v ≡ true → listDepth v ≤ lists
+          → Items s cells n (lists - 1) v out to (e .count) (n + 1) out to
       items-first also v o r d = first-go also v (o .own) (o .after) (form-is v o) (count-is v o) (o .spelt) (o .stand) r d
 
     module _ {out mid after : List ℕ} {at to end : ℕ} (h : Puts out at (λ x. byte "[" ∷ x) mid to) where
-      list-go : (also : List ℕ) (v : Value) → e .form ≡ valueForm v → valueRule also v ≡ true → Puts mid to (λ x. printItems (heldBy v) (byte "]" ∷ x)) after end → Puts out at (printValue (valueSense v)) after end
+      list-go : (also : List ℕ) (v : Value) → e .form ≡ valueForm v → valueRule also v ≡ true
+          → Puts mid to (λ x. printItems (heldBy v) (byte "]" ∷ x)) after end → Puts out at (printValue (valueSense v)) after end
       unfolding valueRule valueSense printValue
       list-go also (leaf l) a r p = no-list also l (e .form) listed a r
       list-go also emptyList a r p = record { same = λ x. h .same (printItems none (byte "]" ∷ x)) ∙ p .same x }
       list-go also (list v more) a r p = record { same = λ x. h .same (printItems (item (valueSense v) (moreSense more)) (byte "]" ∷ x)) ∙ p .same x }
 
       -- the brackets around the items
-      pub list-put : (also : List ℕ) (v : Value) → OfValue s cells n v → valueRule also v ≡ true → Puts mid to (λ x. printItems (heldBy v) (byte "]" ∷ x)) after end → Puts out at (printValue (valueSense v)) after end
+      pub list-put : (also : List ℕ) (v : Value) → OfValue s cells n v → valueRule also v ≡ true
+          → Puts mid to (λ x. printItems (heldBy v) (byte "]" ∷ x)) after end → Puts out at (printValue (valueSense v)) after end
       list-put also v o r p = list-go also v (form-is v o) r p
 
 -- ---- item by item
 
--- what putting the value of an entry leaves
-abbrev pub Valued : List ℕ → List ℕ → ℕ → ℕ → List ℕ → ℕ → ℕ → List ℕ → ℕ → Type 0
-Valued s cells n lists out at next after to =
-    (also : List ℕ) (v : Value) → OfValue s cells n v → valueRule also v ≡ true → listDepth v ≤ lists → (next ≡ n + 1 + itemSize v) × Puts out at (printValue (valueSense v)) after to
-
 module _ (s cells : List ℕ) (n lists : ℕ) (whole : Value) (out₀ : List ℕ) (at₀ left next : ℕ) (out : List ℕ) (to : ℕ) where
-  items-go : (more : More) (at : ℕ) (after : List ℕ) → Stand cells next (moreEntries n next at more) → drop (at + 1) s ≡ drop 1 (moreOnto more after) → left ≡ moreItems more
+  items-go : (more : More) (at : ℕ) (after : List ℕ) → Stand cells next (moreEntries n next at more) → drop (at + 1) s ≡ drop 1 (moreOnto more after)
+      → left ≡ moreItems more
       → moreDepth more ≤ lists → moreRule more ≡ true → next + moreSize more ≡ n + 1 + itemSize whole
       → ((x : List ℕ) → page out₀ at₀ (printItems (heldBy whole) (byte "]" ∷ x)) ≡ page out to (printItems (moreSense more) (byte "]" ∷ x)))
-      → 0 < left → (next′ : ℕ) (mid : List ℕ) (end : ℕ) (out′ : List ℕ) (to′ : ℕ) → Valued s cells next lists out to next′ mid end
+      → 0 < left → (next′ : ℕ) (mid : List ℕ) (end : ℕ) (out′ : List ℕ) (to′ : ℕ) → ValuePut s cells next lists out to next′ mid end
       → Puts mid end (λ x. pick (ltb 0 (left - 1)) (byte "," ∷ space ∷ x) x) out′ to′ → Items s cells n lists whole out₀ at₀ (left - 1) next′ out′ to′
   unfolding moreOnto moreItems moreDepth moreRule moreSize moreEntries moreSense printItems
   items-go close at after st t l d r k m h next′ mid end out′ to′ f c = absurd (omega arith)
@@ -172,12 +178,23 @@ module _ (s cells : List ℕ) (n lists : ℕ) (whole : Value) (out₀ : List ℕ
       let own = itemEntry n start v in
       let items = itemEntries next (next + 1) start v in
       let behind = moreEntries n (next + 1 + itemSize v) (start + valueWidth v) more in
-      let there : drop start s ≡ valueOnto v (moreOnto more after) = sym (drop-drop (length white) (at + 1) s) ∙ ap (drop (length white)) t ∙ drop-append-seam white (valueOnto v (moreOnto more after)) in
+      let there : drop start s ≡ valueOnto v (moreOnto more after) = sym (drop-drop (length white) (at + 1) s) ∙ ap (drop (length white)) t
+      ∙ drop-append-seam white (valueOnto v (moreOnto more after)) in
       let ended : drop (start + valueWidth v) s ≡ moreOnto more after =
-      sym (drop-drop (valueWidth v) start s) ∙ ap (drop (valueWidth v)) (there ∙ value-append v (moreOnto more after)) ∙ drop-append-seam (spelling v) (moreOnto more after) in
+      sym (drop-drop (valueWidth v) start s) ∙ ap (drop (valueWidth v)) (there ∙ value-append v (moreOnto more after))
+      ∙ drop-append-seam (spelling v) (moreOnto more after) in
       let rules = both (all isWhite white && valueRule listEnders v) (moreRule more) r in
       let o : OfValue s cells next v =
-      record { own = own; after = moreOnto more after; form = refl; count = refl; end = refl; spelt = there; stand = stand-front cells next (own ∷ items) behind st } in
+      record {
+        own = own;
+        after = moreOnto more after;
+        form = refl;
+        count = refl;
+        end = refl;
+        spelt = there;
+        stand = stand-front cells next
+            (own ∷ items) behind st;
+      } in
       let got = f listEnders v o (both (all isWhite white) (valueRule listEnders v) (rules .0) .1) (omega arith) in
       let size = item-size v next (next + 1) start in
       let k′ : next + length (own ∷ items) ≡ next + 1 + itemSize v = omega arith in
@@ -196,13 +213,16 @@ module _ (s cells : List ℕ) (n lists : ℕ) (whole : Value) (out₀ : List ℕ
             ∙ c .same (printItems (moreSense more) (byte "]" ∷ x));
       }
 
-  pub items-on : Items s cells n lists whole out₀ at₀ left next out to → 0 < left → (next′ : ℕ) (mid : List ℕ) (end : ℕ) (out′ : List ℕ) (to′ : ℕ) → Valued s cells next lists out to next′ mid end
+  pub items-on : Items s cells n lists whole out₀ at₀ left next out to → 0 < left → (next′ : ℕ) (mid : List ℕ) (end : ℕ) (out′ : List ℕ) (to′ : ℕ)
+      → ValuePut s cells next lists out to next′ mid end
       → Puts mid end (λ x. pick (ltb 0 (left - 1)) (byte "," ∷ space ∷ x) x) out′ to′ → Items s cells n lists whole out₀ at₀ (left - 1) next′ out′ to′
-  items-on i h next′ mid end out′ to′ f c = items-go (i .more) (i .at) (i .after) (i .stand) (i .spelt) (i .few) (i .flat) (i .rule) (i .total) (i .same) h next′ mid end out′ to′ f c
+  items-on i h next′ mid end out′ to′ f c = items-go (i .more) (i .at) (i .after) (i .stand) (i .spelt) (i .few) (i .flat) (i .rule) (i .total)
+      (i .same) h next′ mid end out′ to′ f c
 
   items-none : (more : More) → left ≡ moreItems more → next + moreSize more ≡ n + 1 + itemSize whole
       → ((x : List ℕ) → page out₀ at₀ (printItems (heldBy whole) (byte "]" ∷ x)) ≡ page out to (printItems (moreSense more) (byte "]" ∷ x)))
-      → left ≤ 0 → {after : List ℕ} {end : ℕ} → Puts out to (λ x. byte "]" ∷ x) after end → (next ≡ n + 1 + itemSize whole) × Puts out₀ at₀ (λ x. printItems (heldBy whole) (byte "]" ∷ x)) after end
+      → left ≤ 0 → {after : List ℕ} {end : ℕ} → Puts out to (λ x. byte "]" ∷ x) after end
+      → (next ≡ n + 1 + itemSize whole) × Puts out₀ at₀ (λ x. printItems (heldBy whole) (byte "]" ∷ x)) after end
   unfolding moreItems moreSize moreSense printItems
   items-none close l t m h p = (omega arith, record { same = λ x. m x ∙ p .same x })
   items-none (comma white v more) l t m h p = absurd (omega arith)

@@ -14,7 +14,8 @@ module _ (s : List ℕ) (from to : ℕ) where
   part-past h = rw (drop-of-length-le s h) (sym (take-nil (to - from)))
 
   pub part-rest : length s ≤ to → take (length s - from) (drop from s) ≡ take (to - from) (drop from s)
-  part-rest h = take-all (length s - from) (drop from s) (omega (arith, length-drop from s)) ∙ sym (take-all (to - from) (drop from s) (omega (arith, length-drop from s)))
+  part-rest h = take-all (length s - from) (drop from s) (omega (arith, length-drop from s))
+      ∙ sym (take-all (to - from) (drop from s) (omega (arith, length-drop from s)))
 
   -- a part whose bytes are known
   pub part-is : (w after : List ℕ) → drop from s ≡ w ++ after → to ≡ from + length w → take (to - from) (drop from s) ≡ w

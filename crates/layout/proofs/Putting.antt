@@ -47,7 +47,8 @@ stored out after at to w e f =
     }
 
 -- a turn of the loop that copies, and its end
-pub copies-more : (out part : List ℕ) (at i : ℕ) → i < length part → sets (set out (at + i) (getD part i 0)) (at + (i + 1)) (drop (i + 1) part) ≡ sets out (at + i) (drop i part)
+pub copies-more : (out part : List ℕ) (at i : ℕ) → i < length part
+    → sets (set out (at + i) (getD part i 0)) (at + (i + 1)) (drop (i + 1) part) ≡ sets out (at + i) (drop i part)
 copies-more out part at i h =
     let e : at + suc i ≡ suc (at + i) = omega arith in
     rw (add-one i, drop-cons part i 0 h, e)
@@ -55,7 +56,8 @@ copies-more out part at i h =
 pub copies-end : (out part : List ℕ) (at i : ℕ) → length part ≤ i → sets out (at + i) (drop i part) ≡ out
 copies-end out part at i h = rw (drop-of-length-le part h)
 
-pub tabs-more : (out : List ℕ) (at n i : ℕ) → i < n → sets (set out (at + i) tab) (at + (i + 1)) (replicate (n - (i + 1)) tab) ≡ sets out (at + i) (replicate (n - i) tab)
+pub tabs-more : (out : List ℕ) (at n i : ℕ) → i < n → sets (set out (at + i) tab) (at + (i + 1)) (replicate (n - (i + 1)) tab)
+    ≡ sets out (at + i) (replicate (n - i) tab)
 tabs-more out at n i h =
     let e : at + (i + 1) ≡ suc (at + i) = omega arith in
     let left : n - i ≡ suc (n - (i + 1)) = omega arith in
@@ -66,7 +68,8 @@ tabs-end out at n i h = let left : n - i ≡ 0 = omega arith in rw left
 
 -- ---- one step behind another
 
-pub puts-then : {out mid after : List ℕ} {at to end : ℕ} (f g : List ℕ → List ℕ) → Puts out at f mid to → Puts mid to g after end → Puts out at (λ next. f (g next)) after end
+pub puts-then : {out mid after : List ℕ} {at to end : ℕ} (f g : List ℕ → List ℕ) → Puts out at f mid to → Puts mid to g after end
+    → Puts out at (λ next. f (g next)) after end
 puts-then f g h k = record { same = λ next. h .same (g next) ∙ k .same next }
 
 pub puts-as : {out after : List ℕ} {at to : ℕ} (f g : List ℕ → List ℕ) → ((next : List ℕ) → f next ≡ g next) → Puts out at g after to → Puts out at f after to
@@ -83,15 +86,20 @@ module _ (b : ℕ) where
       record { same = λ next. rw (lt-ltb b 16 s, ← e) (h .same (x ∷ byte "}" ∷ next) ∙ k .same (byte "}" ∷ next) ∙ l .same next) }
 
   pub control-two : 16 ≤ b → (x y : ℕ) → x ≡ hexLetter (b / 16) → y ≡ hexLetter (b % 16) → {out mid more most after : List ℕ} {at to end past last : ℕ}
-      → Puts out at (λ next. bytes "\\u{" ++ next) mid to → Puts mid to (λ next. x ∷ next) more end → Puts more end (λ next. y ∷ next) most past → Puts most past (λ next. byte "}" ∷ next) after last
+      → Puts out at (λ next. bytes "\\u{" ++ next) mid to → Puts mid to (λ next. x ∷ next) more end → Puts more end (λ next. y ∷ next) most past
+      → Puts most past (λ next. byte "}" ∷ next) after last
       → Puts out at (λ next. byte "\\" ∷ byte "u" ∷ byte "{" ∷ hexOnto b (byte "}" ∷ next)) after last
   unfolding hexOnto
   control-two s x y e f h k j l =
-      record { same = λ next. rw (le-ltb b 16 s, ← e, ← f) (h .same (x ∷ y ∷ byte "}" ∷ next) ∙ k .same (y ∷ byte "}" ∷ next) ∙ j .same (byte "}" ∷ next) ∙ l .same next) }
+      record {
+        same = λ next. rw (le-ltb b 16 s, ← e, ← f) (h .same (x ∷ y ∷ byte "}" ∷ next) ∙ k .same (y ∷ byte "}" ∷ next) ∙ j .same (byte "}" ∷ next)
+            ∙ l .same next);
+      }
 
 -- ---- a space, where there is a gap
 
-pub gap-put : (gap : Bool) → gap ≡ true → {out after : List ℕ} {at to : ℕ} → Puts out at (λ next. space ∷ next) after to → Puts out at (λ next. pick gap (space ∷ next) next) after to
+pub gap-put : (gap : Bool) → gap ≡ true → {out after : List ℕ} {at to : ℕ} → Puts out at (λ next. space ∷ next) after to
+    → Puts out at (λ next. pick gap (space ∷ next) next) after to
 gap-put gap e h = record { same = λ next. rw e (h .same next) }
 
 pub gap-none : (gap : Bool) → gap ≡ false → {out : List ℕ} {at : ℕ} → Puts out at (λ next. pick gap (space ∷ next) next) out at

@@ -49,24 +49,41 @@ module _ (w : List ℕ) (at : ℕ) where
       let l : drop (at + 2) w ≡ piecesOnto qs [] = cc in
       let two : at + 1 + 1 ≡ at + 2 = omega arith in
       let g : getD w (at + 1) 0 ≡ byte "`" = sym (getD-drop at w 1 0) ∙ ap (λ (x : List ℕ). getD x 1 0) f in
-      record { rest = qs; after = false; means = rw (t, g); left = ap (λ (k : ℕ). drop k w) two ∙ l; rule = both (eqb b (byte "`")) (backtickRule false qs) r .1 }
+      record {
+        rest = qs;
+        after = false;
+        means = rw (t, g);
+        left = ap (λ (k : ℕ). drop k w) two
+            ∙ l;
+        rule = both (eqb b (byte "`")) (backtickRule false qs) r .1;
+      }
   tick-of f after (four digits ∷ qs) e r = true-false (sym r)
   tick-of f after (braces digits ∷ qs) e r = true-false (sym r)
 
   -- an escaped backtick
-  pub first-tick : startsWith (bytes "\\`") (drop at w) ≡ true → (after : Bool) (ps : List Piece) → drop at w ≡ piecesOnto ps [] → backtickRule after ps ≡ true → First w (at + 1) ps
+  pub first-tick : startsWith (bytes "\\`") (drop at w) ≡ true → (after : Bool) (ps : List Piece) → drop at w ≡ piecesOnto ps []
+      → backtickRule after ps ≡ true → First w (at + 1) ps
   first-tick s after ps e r =
-      let front : drop at w ≡ byte "\\" ∷ byte "`" ∷ drop (at + 2) w = starts-is (bytes "\\`") (drop at w) s ∙ ap (λ (l : List ℕ). byte "\\" ∷ byte "`" ∷ l) (drop-drop 2 at w) in
+      let front : drop at w ≡ byte "\\" ∷ byte "`" ∷ drop (at + 2) w = starts-is (bytes "\\`") (drop at w) s
+      ∙ ap (λ (l : List ℕ). byte "\\" ∷ byte "`" ∷ l) (drop-drop 2 at w) in
       tick-of front after ps (sym front ∙ e) r
 
   -- any other byte stands for itself
-  pub first-self : at < length w → startsWith (bytes "\\`") (drop at w) ≡ false → (after : Bool) (ps : List Piece) → drop at w ≡ piecesOnto ps [] → backtickRule after ps ≡ true → First w at ps
+  pub first-self : at < length w → startsWith (bytes "\\`") (drop at w) ≡ false → (after : Bool) (ps : List Piece) → drop at w ≡ piecesOnto ps []
+      → backtickRule after ps ≡ true → First w at ps
   unfolding piecesOnto pieceOnto backtickRule piecesMean pieceMeans
   first-self h s after [] e r = absurd (omega (arith, ap length e, length-drop at w))
   first-self h s after (direct b ∷ qs) e r =
       let k : b ∷ piecesOnto qs [] ≡ getD w at 0 ∷ drop (at + 1) w = sym e ∙ here w at h in
       let i : b ≡ getD w at 0 = cc in
-      record { rest = qs; after = eqb b (byte "\\"); means = ap (λ (x : ℕ). x ∷ piecesMean qs) i; left = cc; rule = both (not (eqb b (byte "`"))) (backtickRule (eqb b (byte "\\")) qs) r .1 }
+      record {
+        rest = qs;
+        after = eqb b (byte "\\");
+        means = ap (λ (x : ℕ). x ∷ piecesMean qs) i;
+        left = cc;
+        rule = both (not (eqb b (byte "`")))
+            (backtickRule (eqb b (byte "\\")) qs) r .1;
+      }
   first-self h s after (escaped b ∷ qs) e r =
       let t : b ≡ byte "`" = eqb-true b (byte "`") (both (eqb b (byte "`")) (backtickRule false qs) r .0) in
       tick-there (piecesOnto qs []) (sym (rw (e, t) at s))
@@ -83,10 +100,12 @@ pub record Ticks (w out₀ : List ℕ) (at : ℕ) (ps : List Piece) (i : ℕ) (b
   pub after : Bool
   pub spelt : drop i w ≡ piecesOnto rest []
   pub rule : backtickRule after rest ≡ true
-  pub same : (next : List ℕ) → page out₀ at (bytesOnto quote (collapse (piecesMean ps)) next) ≡ page out to (bytesOnto quote (left begun gap (piecesMean rest)) next)
+  pub same : (next : List ℕ) → page out₀ at (bytesOnto quote (collapse (piecesMean ps)) next)
+      ≡ page out to (bytesOnto quote (left begun gap (piecesMean rest)) next)
 
 -- a gap's space is put as it is
-gap-bytes : (gap : Bool) (b : ℕ) (l next : List ℕ) → bytesOnto quote (pick gap (space ∷ b ∷ l) (b ∷ l)) next ≡ pick gap (space ∷ byteOnto quote b (bytesOnto quote l next)) (byteOnto quote b (bytesOnto quote l next))
+gap-bytes : (gap : Bool) (b : ℕ) (l next : List ℕ) → bytesOnto quote (pick gap (space ∷ b ∷ l) (b ∷ l)) next
+    ≡ pick gap (space ∷ byteOnto quote b (bytesOnto quote l next)) (byteOnto quote b (bytesOnto quote l next))
 unfolding bytesOnto byteOnto
 gap-bytes true b l next = refl
 gap-bytes false b l next = refl
@@ -105,11 +124,13 @@ module _ (w out₀ : List ℕ) (at : ℕ) (ps : List Piece) (i : ℕ) (begun gap
         spelt = one .left;
         rule = one .rule;
         same = λ next. t .same next
-            ∙ ap (λ (l : List ℕ). page out to (bytesOnto quote l next)) (ap (left begun gap) (one .means) ∙ white-left begun gap (getD w own 0) (piecesMean (one .rest)) e);
+            ∙ ap (λ (l : List ℕ). page out to (bytesOnto quote l next))
+            (ap (left begun gap) (one .means) ∙ white-left begun gap (getD w own 0) (piecesMean (one .rest)) e);
       }
 
   pub ticks-word : Ticks w out₀ at ps i begun gap out to → Next → isWhite (getD w own 0) ≡ false → Behind begun gap → {mid after : List ℕ} {word end : ℕ}
-      → Puts out to (λ next. pick gap (space ∷ next) next) mid word → Puts mid word (byteOnto quote (getD w own 0)) after end → Ticks w out₀ at ps (own + 1) true false after end
+      → Puts out to (λ next. pick gap (space ∷ next) next) mid word → Puts mid word (byteOnto quote (getD w own 0)) after end
+      → Ticks w out₀ at ps (own + 1) true false after end
   ticks-word t f e b p q =
       let one = f (t .after) (t .rest) (t .spelt) (t .rule) in
       let on = collapseOn (piecesMean (one .rest)) in
@@ -119,7 +140,8 @@ module _ (w out₀ : List ℕ) (at : ℕ) (ps : List Piece) (i : ℕ) (begun gap
         spelt = one .left;
         rule = one .rule;
         same = λ next. t .same next
-            ∙ ap (λ (l : List ℕ). page out to (bytesOnto quote l next)) (ap (left begun gap) (one .means) ∙ word-left begun gap (getD w own 0) (piecesMean (one .rest)) e b)
+            ∙ ap (λ (l : List ℕ). page out to (bytesOnto quote l next))
+            (ap (left begun gap) (one .means) ∙ word-left begun gap (getD w own 0) (piecesMean (one .rest)) e b)
             ∙ ap (page out to) (gap-bytes gap (getD w own 0) on next)
             ∙ p .same (byteOnto quote (getD w own 0) (bytesOnto quote on next))
             ∙ q .same (bytesOnto quote on next);

@@ -24,6 +24,12 @@ pub record Ends (cells : List ℕ) (n : ℕ) : Type 0 where
   pub no-trait : kindAt cells n ≡ 2 → ⊥
   pub no-item : kindAt cells n ≡ 3 → ⊥
 
+-- from entry n on stand list items, up to r, where none does
+pub record Past (cells : List ℕ) (n r : ℕ) : Type 0 where
+  pub on : n ≤ r
+  pub stops : kindAt cells r ≡ 3 → ⊥
+  pub items : (j : ℕ) → n ≤ j → j < r → kindAt cells j ≡ 3
+
 -- a walk over entries goes on from n, and further where n is one of them
 pub record Ahead (cells : List ℕ) (n next : ℕ) : Type 0 where
   pub same : n ≤ next

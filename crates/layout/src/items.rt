@@ -9,18 +9,15 @@ use entries::Entry;
 use entries::get;
 use paper::forms;
 ghost use mathlib.Core.Path.{_≡_};
-ghost use mathlib.Core.Bool.{true};
-ghost use mathlib.Core.List.{List, _∷_};
-ghost use Prim.Native.Nat.{ℕ, _+_, _-_, _≤_};
+ghost use mathlib.Core.List.{_∷_};
+ghost use Prim.Native.Nat.{_-_};
 ghost use lib.ListN.{take, drop};
 ghost use lib.Dec.{ltb};
 ghost use Rattle.paper.specs.Found.{pick};
 ghost use Rattle.paper.specs.Bytes.{byte, space};
-ghost use Rattle.paper.specs.Values.{Value, valueRule, listDepth};
-ghost use Rattle.paper.specs.Entries.{itemSize};
-ghost use Rattle.paper.specs.Canonical.{valueSense, printValue};
 ghost use Rattle.layout.specs.Page.{Puts};
-ghost use Rattle.layout.specs.Standing.{Ahead, OfValue};
+ghost use Rattle.layout.specs.Standing.{Ahead};
+ghost use Rattle.layout.specs.Wholes.{ValuePut};
 
 // Where the page goes on, and the number of the entry that comes next.
 pub struct Walk {
@@ -52,7 +49,7 @@ fn put_comma(out: &mut [u8], at: usize, left: u32) -> usize
 
 // Puts the value of entry n, in which at most so many lists stand in one another.
 pub fn put_value(out: &mut [u8], at: usize, s: &[u8], cells: &[u32], n: usize, lists: usize) -> Walk
-    ensures { λ r. ⌜ Ahead (now (cells .entry)) n (r .next) × ((also : List ℕ) (v : Value) → OfValue (now (s .entry)) (now (cells .entry)) n v → valueRule also v ≡ true → listDepth v ≤ lists → (r .next ≡ n + 1 + itemSize v) × Puts (now (out .entry)) at (printValue (valueSense v)) (now (out .exit)) (r .at)) ⌝ }
+    ensures { λ r. ⌜ Ahead (now (cells .entry)) n (r .next) × ValuePut (now (s .entry)) (now (cells .entry)) n lists (now (out .entry)) at (r .next) (now (out .exit)) (r .at) ⌝ }
 {
     if cells.len() / CELLS <= n {
         return Walk { at, next: n };

@@ -13,22 +13,20 @@ use paper::forms;
 use paper::kinds;
 use values::nesting::Nesting;
 ghost use mathlib.Core.Path.{_≡_};
-ghost use mathlib.Core.Bool.{true, not, _||_};
-ghost use mathlib.Core.List.{List, _∷_, map};
-ghost use Prim.Native.Nat.{ℕ, _+_, _≤_, _<_};
+ghost use mathlib.Core.Bool.{not, _||_};
+ghost use mathlib.Core.List.{List, _∷_};
+ghost use Prim.Native.Nat.{ℕ, _+_, _≤_};
 ghost use lib.ListN.{length};
-ghost use lib.Dec.{leb, eqb};
-ghost use Rattle.paper.specs.Bytes.{lf, all};
-ghost use Rattle.paper.specs.Names.{nameLimit};
+ghost use lib.Dec.{leb};
+ghost use Rattle.paper.specs.Bytes.{lf};
 ghost use Rattle.paper.specs.Values.{endsInSlash};
-ghost use Rattle.paper.specs.Tree.{Trait, Concept, Ending};
-ghost use Rattle.paper.specs.Grammar.{endingOnto, traitRule, markerRule};
-ghost use Rattle.paper.specs.Limits.{listLimit, traitFits, markerFits};
-ghost use Rattle.paper.specs.Entries.{traitSize, traitsSize, traitEntries, markerOf};
-ghost use Rattle.paper.specs.Canonical.{markerSense, printTrait, printMarker, lastInSlash};
+ghost use Rattle.paper.specs.Tree.{Trait, Ending};
+ghost use Rattle.paper.specs.Grammar.{endingOnto};
+ghost use Rattle.paper.specs.Entries.{traitsSize, traitEntries};
 ghost use Rattle.layout.specs.Page.{Puts};
-ghost use Rattle.layout.specs.Standing.{Stand, Ends, Ahead, kindAt, OfTrait, OfTraits, OfConcept};
-ghost use Rattle.layout.specs.Marking.{traitSense, endingOf, isSelf, leadOnto, traitsPrint, breakOnto};
+ghost use Rattle.layout.specs.Standing.{Stand, Ends, Past, Ahead, kindAt};
+ghost use Rattle.layout.specs.Marking.{isSelf, leadOnto, breakOnto};
+ghost use Rattle.layout.specs.Wholes.{TraitPut, TraitsPut, MarkerPut};
 
 // The kind of entry n, 0 where there is none.
 pub fn kind_of(cells: &[u32], n: usize) -> u32
@@ -39,7 +37,7 @@ pub fn kind_of(cells: &[u32], n: usize) -> u32
 
 // The first entry from n on that is no list item.
 fn past_items(cells: &[u32], n: usize) -> usize
-    ensures { λ r. ⌜ (n ≤ r) × (kindAt (now (cells .entry)) r ≡ 3 → ⊥) × ((j : ℕ) → n ≤ j → j < r → kindAt (now (cells .entry)) j ≡ 3) ⌝ }
+    ensures { λ r. ⌜ Past (now (cells .entry)) n r ⌝ }
 {
     let mut i = n;
     while kind_of(cells, i) == kinds::ITEM {
@@ -65,7 +63,7 @@ fn has_three(cells: &[u32], n: usize) -> bool
 
 // Puts the trait of entry n: name, "=", value.
 fn put_trait(out: &mut [u8], at: usize, s: &[u8], cells: &[u32], n: usize) -> Walk
-    ensures { λ r. ⌜ Ahead (now (cells .entry)) n (r .next) × ((parent place : ℕ) (t : Trait) → OfTrait (now (s .entry)) (now (cells .entry)) n parent place t → traitRule t ≡ true → traitFits nameLimit listLimit t ≡ true → (r .next ≡ n + traitSize t) × Puts (now (out .entry)) at (printTrait (traitSense t)) (now (out .exit)) (r .at)) ⌝ }
+    ensures { λ r. ⌜ Ahead (now (cells .entry)) n (r .next) × TraitPut (now (s .entry)) (now (cells .entry)) n (now (out .entry)) at (r .next) (now (out .exit)) (r .at) ⌝ }
 {
     let own = get(cells, n);
     let name = part(s, own.name_start as usize, own.start as usize);
@@ -111,7 +109,7 @@ fn put_traits(
     below: bool,
     depth: usize,
 ) -> Traits
-    ensures { λ r. ⌜ (n ≤ r .next) × ((parent place : ℕ) (ts : List Trait) → OfTraits (now (s .entry)) (now (cells .entry)) n parent place ts → Ends (now (cells .entry)) (n + traitsSize ts) → all traitRule ts ≡ true → all (traitFits nameLimit listLimit) ts ≡ true → (r .next ≡ n + traitsSize ts) × (r .slash ≡ lastInSlash (map traitSense ts)) × Puts (now (out .entry)) at (traitsPrint below depth (map traitSense ts)) (now (out .exit)) (r .at)) ⌝ }
+    ensures { λ r. ⌜ (n ≤ r .next) × TraitsPut (now (s .entry)) (now (cells .entry)) n below depth (now (out .entry)) at (r .next) (r .slash) (now (out .exit)) (r .at) ⌝ }
 {
     let mut to = at;
     let mut next = n;
@@ -164,7 +162,7 @@ pub fn put_marker(
     n: usize,
     depth: usize,
 ) -> Walk
-    ensures { λ r. ⌜ Ahead (now (cells .entry)) n (r .next) × ((parent place tabs : ℕ) (c : Concept) → OfConcept (now (s .entry)) (now (cells .entry)) n parent place tabs c → markerRule (markerOf c) ≡ true → markerFits nameLimit listLimit (markerOf c) ≡ true → (r .next ≡ n + 1 + traitsSize (markerOf c .traits)) × Puts (now (out .entry)) at (λ next. printMarker depth (markerSense (markerOf c)) (endingOf c) (lf ∷ next)) (now (out .exit)) (r .at)) ⌝ }
+    ensures { λ r. ⌜ Ahead (now (cells .entry)) n (r .next) × MarkerPut (now (s .entry)) (now (cells .entry)) n depth (now (out .entry)) at (r .next) (now (out .exit)) (r .at) ⌝ }
 {
     if cells.len() / CELLS <= n {
         return Walk { at, next: n };

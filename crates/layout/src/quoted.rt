@@ -16,6 +16,7 @@ ghost use Rattle.paper.specs.Bytes.{byte, isHex, all, lengthIn, encode};
 ghost use Rattle.paper.specs.Values.{Piece, pieceOnto, piecesOnto, pieceRule, pieceMeans, piecesMean, letterMeans, hexValue, spellsScalar};
 ghost use Rattle.paper.specs.Canonical.{hexLetter, hexOnto, byteOnto, bytesOnto};
 ghost use Rattle.layout.specs.Page.{Puts};
+ghost use Rattle.layout.specs.Quoting.{isPlain};
 
 // Where the page goes on, and where the spelling does.
 pub struct Put {
@@ -56,6 +57,31 @@ fn is_control(b: u8) -> bool
     ensures { λ r. ⌜ r ≡ (ltb b 32 || eqb b 127) ⌝ }
 {
     b < 32 || b == 127
+}
+
+// Whether a byte between two of this quote stands for itself, read and written.
+fn is_plain(quote: u8, b: u8) -> bool
+    ensures { λ r. ⌜ r ≡ isPlain quote b ⌝ }
+{
+    if is_marked(quote, b) {
+        return false;
+    }
+    !is_control(b)
+}
+
+// Whether all these bytes do. With no way out of the loop the compiler compares many at once.
+pub fn are_plain(quote: u8, w: &[u8]) -> bool
+    ensures { λ r. ⌜ r ≡ all (isPlain quote) (now (w .entry)) ⌝ }
+{
+    let mut plain = true;
+    let mut i = 0;
+    while i < w.len() {
+        if !is_plain(quote, w[i]) {
+            plain = false;
+        }
+        i += 1;
+    }
+    plain
 }
 
 // Puts a byte that stands between two of this quote.

@@ -1,29 +1,26 @@
-use Rattle.layout.proofs.Listing.{comma-put, comma-none}
+-- A comma and a space where items are left, else nothing. Assumes nothing.
 use native.Mathlib.Omega.{arith}
 use borrow.Author.Needs.{needs}
+use Rattle.layout.proofs.Listing.{comma-put, comma-none}
 use Rattle.layout.proofs.items.put_comma.Statement.{statement}
 use Rattle.layout.proofs.items.put_comma.Tie as tie
-use Rattle.layout.proofs.items.put_comma.Reads as reads
-use Rattle.layout.proofs.items.put_comma.Lts as lts
-use Rattle.layout.proofs.page.put.Reads as put-reads
 
--- src/items.rt:48:29
 slice-aggregate-put : tie.Need-slice-aggregate-put
 slice-aggregate-put c = search needs
 
--- src/items.rt:48:9
 put-requires : tie.Need-put-requires
 put-requires c κs = search needs
 
--- src/items.rt:48:9
 same-length : tie.Need-same-length
 same-length c = search needs
 
--- src/items.rt:48:9
 returns : tie.Need-returns
-returns c = comma-put (c .before .before .before .before .before .before .before .args .left) (c .before .before .before .before .before .if1 .taken) (c .before .before .put .ensures)
+returns c =
+    let at-put = c .before .before in
+    let at-if1 = at-put .before .before .before in
+    let start = at-if1 .before .before in
+    comma-put (start .args .left) (at-if1 .if1 .taken) (at-put .put .ensures)
 
--- src/items.rt:44:1
 returns-2 : tie.Need-returns-2
 returns-2 c = comma-none (c .before .before .args .left) (c .if1 .left)
 

@@ -1,44 +1,47 @@
-use Rattle.layout.proofs.Marking.{break-line, break-space, break-none}
+-- A line end and tabs, a space, or nothing. Assumes nothing.
 use native.Mathlib.Omega.{arith}
 use borrow.Author.Needs.{needs}
+use Rattle.layout.proofs.Marking.{break-line, break-space, break-none}
 use Rattle.layout.proofs.markers.put_break.Statement.{statement}
 use Rattle.layout.proofs.markers.put_break.Tie as tie
-use Rattle.layout.proofs.markers.put_break.Reads as reads
-use Rattle.layout.proofs.markers.put_break.Lts as lts
-use Rattle.layout.proofs.page.put_byte.Reads as put-byte-reads
-use Rattle.layout.proofs.page.put_tabs.Reads as put-tabs-reads
 
--- src/markers.rt:127:13
 put-byte-requires : tie.Need-put-byte-requires
 put-byte-requires c κs = search needs
 
--- src/markers.rt:128:9
 put-tabs-requires : tie.Need-put-tabs-requires
 put-tabs-requires c κs = search needs
 
--- src/markers.rt:128:9
 same-length : tie.Need-same-length
 same-length c = search needs
 
--- src/markers.rt:128:9
 returns : tie.Need-returns
-returns c = break-line (c .before .before .before .before .before .before .before .before .before .before .args .below) (c .before .before .before .before .before .before .before .before .before .before .args .depth) (c .before .before .before .before .before .before .before .before .before .before .args .spaced) (c .before .before .before .before .before .before .before .before .if1 .taken) (c .before .before .before .before .before .before .put-byte .ensures) (c .before .before .put-tabs .ensures)
+returns c =
+    let at-put-tabs = c .before .before in
+    let at-put-byte = at-put-tabs .before .before .before .before in
+    let at-if1 = at-put-byte .before .before in
+    let start = at-if1 .before .before in
+    break-line (start .args .below) (start .args .depth) (start .args .spaced) (at-if1 .if1 .taken) (at-put-byte .put-byte .ensures)
+    (at-put-tabs .put-tabs .ensures)
 
--- src/markers.rt:131:9
 put-byte-requires-2 : tie.Need-put-byte-requires-2
 put-byte-requires-2 c κs = search needs
 
--- src/markers.rt:131:9
 same-length-2 : tie.Need-same-length-2
 same-length-2 c = search needs
 
--- src/markers.rt:131:9
 returns-2 : tie.Need-returns-2
-returns-2 c = break-space (c .before .before .before .before .before .before .before .args .below) (c .before .before .before .before .before .before .before .args .depth) (c .before .before .before .before .before .before .before .args .spaced) (c .before .before .before .before .before .if1 .left) (c .before .before .before .before .if2 .taken) (c .before .before .put-byte2 .ensures)
+returns-2 c =
+    let at-put-byte2 = c .before .before in
+    let at-if2 = at-put-byte2 .before .before in
+    let at-if1 = at-if2 .before in
+    let start = at-if1 .before .before in
+    break-space (start .args .below) (start .args .depth) (start .args .spaced) (at-if1 .if1 .left) (at-if2 .if2 .taken) (at-put-byte2 .put-byte2 .ensures)
 
--- src/markers.rt:123:1
 returns-3 : tie.Need-returns-3
-returns-3 c = break-none (c .before .before .before .args .below) (c .before .before .before .args .depth) (c .before .before .before .args .spaced) (c .before .if1 .left) (c .if2 .left)
+returns-3 c =
+    let at-if1 = c .before in
+    let start = at-if1 .before .before in
+    break-none (start .args .below) (start .args .depth) (start .args .spaced) (at-if1 .if1 .left) (c .if2 .left)
 
 pub put-break-spec : {M : Type 1} → statement M
 put-break-spec =

@@ -1,45 +1,42 @@
-use Rattle.layout.proofs.Marking.{lead-line, lead-space}
+-- A line end and tabs, or a space. Assumes nothing.
 use native.Mathlib.Omega.{arith}
 use borrow.Author.Needs.{needs}
+use Rattle.layout.proofs.Marking.{lead-line, lead-space}
 use Rattle.layout.proofs.markers.put_lead.Statement.{statement}
 use Rattle.layout.proofs.markers.put_lead.Tie as tie
-use Rattle.layout.proofs.markers.put_lead.Reads as reads
-use Rattle.layout.proofs.markers.put_lead.Lts as lts
-use Rattle.layout.proofs.page.put.Reads as put-reads
-use Rattle.layout.proofs.page.put_byte.Reads as put-byte-reads
-use Rattle.layout.proofs.page.put_tabs.Reads as put-tabs-reads
 
--- src/markers.rt:91:33
 slice-aggregate-put : tie.Need-slice-aggregate-put
 slice-aggregate-put c = search needs
 
--- src/markers.rt:91:13
 put-requires : tie.Need-put-requires
 put-requires c κs = search needs
 
--- src/markers.rt:92:9
 put-tabs-requires : tie.Need-put-tabs-requires
 put-tabs-requires c κs = search needs
 
--- src/markers.rt:92:9
 same-length : tie.Need-same-length
 same-length c = search needs
 
--- src/markers.rt:92:9
 returns : tie.Need-returns
-returns c = lead-line (c .before .before .before .before .before .before .before .before .before .before .before .args .below) (c .before .before .before .before .before .before .before .before .before .before .before .args .depth) (c .before .before .before .before .before .before .before .before .before .if1 .taken) (c .before .before .before .before .before .before .put .ensures) (c .before .before .put-tabs .ensures)
+returns c =
+    let at-put-tabs = c .before .before in
+    let at-put = at-put-tabs .before .before .before .before in
+    let at-if1 = at-put .before .before .before in
+    let start = at-if1 .before .before in
+    lead-line (start .args .below) (start .args .depth) (at-if1 .if1 .taken) (at-put .put .ensures) (at-put-tabs .put-tabs .ensures)
 
--- src/markers.rt:94:5
 put-byte-requires : tie.Need-put-byte-requires
 put-byte-requires c κs = search needs
 
--- src/markers.rt:87:1
 same-length-2 : tie.Need-same-length-2
 same-length-2 c = search needs
 
--- src/markers.rt:87:1
 returns-2 : tie.Need-returns-2
-returns-2 c = lead-space (c .before .before .before .before .before .before .args .below) (c .before .before .before .before .before .before .args .depth) (c .before .before .before .before .if1 .left) (c .before .before .put-byte .ensures)
+returns-2 c =
+    let at-put-byte = c .before .before in
+    let at-if1 = at-put-byte .before .before in
+    let start = at-if1 .before .before in
+    lead-space (start .args .below) (start .args .depth) (at-if1 .if1 .left) (at-put-byte .put-byte .ensures)
 
 pub put-lead-spec : {M : Type 1} → statement M
 put-lead-spec =

@@ -1,15 +1,12 @@
+-- By the range and the one byte behind it. Assumes nothing.
 use borrow.Author.Needs.{needs}
 use borrow.Author.Tests.{lt-ltb, le-ltb}
 use Rattle.layout.proofs.quoted.is_control.Statement.{statement}
 use Rattle.layout.proofs.quoted.is_control.Tie as tie
-use Rattle.layout.proofs.quoted.is_control.Reads as reads
-use Rattle.layout.proofs.quoted.is_control.Lts as lts
 
--- src/quoted.rt:55:1
 returns : tie.Need-returns
 returns c = rw (lt-ltb (c .before .args .b) 32 (c .if1 .taken))
 
--- src/quoted.rt:55:1
 returns-2 : tie.Need-returns-2
 returns-2 c = rw (le-ltb (c .before .args .b) 32 (c .if1 .left))
 

@@ -1,15 +1,12 @@
+-- By the two bytes that take a backslash. Assumes nothing.
 use borrow.Author.Needs.{needs}
 use borrow.Author.Tests.{eq-eqb, ne-eqb}
 use Rattle.layout.proofs.quoted.is_marked.Statement.{statement}
 use Rattle.layout.proofs.quoted.is_marked.Tie as tie
-use Rattle.layout.proofs.quoted.is_marked.Reads as reads
-use Rattle.layout.proofs.quoted.is_marked.Lts as lts
 
--- src/quoted.rt:49:1
 returns : tie.Need-returns
 returns c = rw (eq-eqb (c .before .args .b) (c .before .args .quote) (c .if1 .taken))
 
--- src/quoted.rt:49:1
 returns-2 : tie.Need-returns-2
 returns-2 c = rw (ne-eqb (c .before .args .b) (c .before .args .quote) (c .if1 .left))
 

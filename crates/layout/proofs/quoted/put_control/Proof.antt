@@ -1,72 +1,72 @@
-use borrow.Author.Tests.{lt-ltb, le-ltb}
+-- The fixed bytes and the hex digits, one behind the other. Assumes nothing.
 use mathlib.Core.List.{_∷_, _++_}
+use borrow.Author.Tests.{lt-ltb, le-ltb}
+use borrow.Author.Needs.{needs}
 use Rattle.paper.specs.Bytes.{byte, bytes}
 use Rattle.paper.specs.Canonical.{hexOnto, hexLetter}
 use Rattle.layout.proofs.Putting.{control-one, control-two}
-use borrow.Author.Needs.{needs}
 use Rattle.layout.proofs.quoted.put_control.Statement.{statement}
 use Rattle.layout.proofs.quoted.put_control.Tie as tie
-use Rattle.layout.proofs.quoted.put_control.Reads as reads
-use Rattle.layout.proofs.quoted.put_control.Lts as lts
-use Rattle.layout.proofs.page.put.Reads as put-reads
-use Rattle.layout.proofs.page.put_byte.Reads as put-byte-reads
-use Rattle.layout.proofs.quoted.hex_letter.Reads as hex-letter-reads
 
--- src/quoted.rt:38:31
 slice-aggregate-put : tie.Need-slice-aggregate-put
 slice-aggregate-put c = search needs
 
--- src/quoted.rt:38:9
 put-requires : tie.Need-put-requires
 put-requires c κs = search needs
 
--- src/quoted.rt:40:41
 hex-letter-requires : tie.Need-hex-letter-requires
 hex-letter-requires c κs = search needs
 
--- src/quoted.rt:40:13
 put-byte-requires : tie.Need-put-byte-requires
 put-byte-requires c κs = search needs
 
--- src/quoted.rt:41:9
 put-byte-requires-2 : tie.Need-put-byte-requires-2
 put-byte-requires-2 c κs = search needs
 
--- src/quoted.rt:41:9
 same-length : tie.Need-same-length
 same-length c = search needs
 
--- src/quoted.rt:41:9
 returns : tie.Need-returns
-returns c = control-one (c .before .before .before .before .before .before .before .before .before .before .before .before .before .before .before .before .args .b) (c .before .before .before .before .before .before .before .before .before .if1 .taken) _ (c .before .before .before .before .before .before .before .hex-letter .ensures) (c .before .before .before .before .before .before .before .before .before .before .before .before .put .ensures) (c .before .before .before .before .before .before .put-byte .ensures) (c .before .before .put-byte2 .ensures)
+returns c =
+    let at-put-byte2 = c .before .before in
+    let at-put-byte = at-put-byte2 .before .before .before .before in
+    let at-hex-letter = at-put-byte .before in
+    let at-if1 = at-hex-letter .before .before in
+    let at-put = at-if1 .before .before .before in
+    let start = at-put .before .before .before .before in
+    control-one (start .args .b) (at-if1 .if1 .taken) _ (at-hex-letter .hex-letter .ensures) (at-put .put .ensures) (at-put-byte .put-byte .ensures)
+    (at-put-byte2 .put-byte2 .ensures)
 
--- src/quoted.rt:43:40
 hex-letter-requires-2 : tie.Need-hex-letter-requires-2
 hex-letter-requires-2 c κs = search needs
 
--- src/quoted.rt:43:9
 put-byte-requires-3 : tie.Need-put-byte-requires-3
 put-byte-requires-3 c κs = search needs
 
--- src/quoted.rt:44:37
 hex-letter-requires-3 : tie.Need-hex-letter-requires-3
 hex-letter-requires-3 c κs = search needs
 
--- src/quoted.rt:44:9
 put-byte-requires-4 : tie.Need-put-byte-requires-4
 put-byte-requires-4 c κs = search needs
 
--- src/quoted.rt:45:5
 put-byte-requires-5 : tie.Need-put-byte-requires-5
 put-byte-requires-5 c κs = search needs
 
--- src/quoted.rt:35:1
 same-length-2 : tie.Need-same-length-2
 same-length-2 c = search needs
 
--- src/quoted.rt:35:1
 returns-2 : tie.Need-returns-2
-returns-2 c = control-two (c .before .before .before .before .before .before .before .before .before .before .before .before .before .before .before .before .before .before .before .before .before .args .b) (c .before .before .before .before .before .before .before .before .before .before .before .before .before .before .if1 .left) _ _ (c .before .before .before .before .before .before .before .before .before .before .before .before .hex-letter2 .ensures) (c .before .before .before .before .before .before .before .hex-letter3 .ensures) (c .before .before .before .before .before .before .before .before .before .before .before .before .before .before .before .before .before .put .ensures) (c .before .before .before .before .before .before .before .before .before .before .before .put-byte3 .ensures) (c .before .before .before .before .before .before .put-byte4 .ensures) (c .before .before .put-byte5 .ensures)
+returns-2 c =
+    let at-put-byte5 = c .before .before in
+    let at-put-byte4 = at-put-byte5 .before .before .before .before in
+    let at-hex-letter3 = at-put-byte4 .before in
+    let at-put-byte3 = at-hex-letter3 .before .before .before .before in
+    let at-hex-letter2 = at-put-byte3 .before in
+    let at-if1 = at-hex-letter2 .before .before in
+    let at-put = at-if1 .before .before .before in
+    let start = at-put .before .before .before .before in
+    control-two (start .args .b) (at-if1 .if1 .left) _ _ (at-hex-letter2 .hex-letter2 .ensures) (at-hex-letter3 .hex-letter3 .ensures) (at-put .put .ensures)
+    (at-put-byte3 .put-byte3 .ensures) (at-put-byte4 .put-byte4 .ensures) (at-put-byte5 .put-byte5 .ensures)
 
 pub put-control-spec : {M : Type 1} → statement M
 put-control-spec =

@@ -1,56 +1,45 @@
-use Rattle.layout.proofs.Parts.{part-none, part-past, part-rest}
+-- The part by its two places, cut at the end of the sheet. Assumes nothing.
 use native.Mathlib.Omega.{arith}
 use borrow.Author.Needs.{needs}
+use Rattle.layout.proofs.Parts.{part-none, part-past, part-rest}
 use Rattle.layout.proofs.spans.part.Statement.{statement}
 use Rattle.layout.proofs.spans.part.Tie as tie
-use Rattle.layout.proofs.spans.part.Reads as reads
-use Rattle.layout.proofs.spans.part.Lts as lts
 
--- src/spans.rt:12:9
 slice-aggregate-result : tie.Need-slice-aggregate-result
 slice-aggregate-result c = search needs
 
--- src/spans.rt:12:9
 returns : tie.Need-returns
 returns c = part-none (c .before .before .args .s .now) (c .before .before .args .from) (c .before .before .args .to) (omega arith)
 
--- src/spans.rt:15:9
 slice-aggregate-result-2 : tie.Need-slice-aggregate-result-2
 slice-aggregate-result-2 c = search needs
 
--- src/spans.rt:15:9
 returns-2 : tie.Need-returns-2
 returns-2 c = part-past (c .before .before .before .args .s .now) (c .before .before .before .args .from) (c .before .before .before .args .to) (omega arith)
 
--- src/spans.rt:18:16
 sub-result : tie.Need-sub-result
 sub-result c = search needs
 
--- src/spans.rt:18:16
 part-result-start : tie.Need-part-result-start
 part-result-start c = search needs
 
--- src/spans.rt:18:16
 part-result-end : tie.Need-part-result-end
 part-result-end c = search needs
 
--- src/spans.rt:18:9
 returns-3 : tie.Need-returns-3
-returns-3 c = part-rest (c .before .before .before .before .args .s .now) (c .before .before .before .before .args .from) (c .before .before .before .before .args .to) (omega arith)
+returns-3 c =
+    let start = c .before .before .before .before in
+    part-rest (start .args .s .now) (start .args .from) (start .args .to) (omega arith)
 
--- src/spans.rt:20:5
 sub-result-2 : tie.Need-sub-result-2
 sub-result-2 c = search needs
 
--- src/spans.rt:20:5
 part-result-start-2 : tie.Need-part-result-start-2
 part-result-start-2 c = search needs
 
--- src/spans.rt:20:5
 part-result-end-2 : tie.Need-part-result-end-2
 part-result-end-2 c = search needs
 
--- src/spans.rt:8:1
 returns-4 : tie.Need-returns-4
 returns-4 c = search needs
 
