@@ -1,4 +1,5 @@
 pub mod Putting
+pub mod Sequences
 pub mod Spelling
 pub mod Plainly
 pub mod Collapsing
@@ -11,3 +12,9 @@ pub mod TraitParts
 pub mod Three
 pub mod Slashes
 pub mod Marking
+pub mod LineTexts
+pub mod NoteLaws
+pub mod BodyLaws
+pub mod ConceptLaws
+pub mod WriteLaws
+pub mod OneAnswer

@@ -17,6 +17,7 @@ use Rattle.paper.proofs.Lists.{both, front-length, front-least, starts-is}
 use Rattle.paper.proofs.Scalars.{byScalar}
 use Rattle.paper.proofs.Pieces.{piece-longer}
 use Rattle.layout.specs.Page.{page, Puts}
+use Rattle.layout.proofs.Sequences.{Sequence, Left, left-all, left-on, left-over}
 
 pub bytes-append : (quote : ℕ) (a b next : List ℕ) → bytesOnto quote (a ++ b) next ≡ bytesOnto quote a (bytesOnto quote b next)
 unfolding bytesOnto
@@ -172,45 +173,41 @@ module _ (quote : ℕ) (left : List ℕ) where
 
 -- ---- what is left of a spelling
 
-pub record Rest (quote : ℕ) (w out₀ : List ℕ) (at : ℕ) (ps : List Piece) (i : ℕ) (out : List ℕ) (to : ℕ) : Type 0 where
-  pub pieces : List Piece
-  pub left : drop i w ≡ piecesOnto pieces []
-  pub rule : all (pieceRule quote) pieces ≡ true
-  pub same : (next : List ℕ) → page out₀ at (bytesOnto quote (piecesMean ps) next) ≡ page out to (bytesOnto quote (piecesMean pieces) next)
+-- pieces one behind the other, put between two of this quote
+unfoldable pub pieceRun : ℕ → Sequence Piece
+unfolding piecesOnto piecesMean bytesOnto
+pieceRun quote =
+    record {
+      spelt = pieceOnto;
+      allSpelt = piecesOnto;
+      rule = pieceRule quote;
+      printed = λ p. bytesOnto quote (pieceMeans p);
+      allPrinted = λ ps. bytesOnto quote (piecesMean ps);
+      spelt-none = λ next. refl;
+      spelt-more = λ p ps next. refl;
+      printed-none = λ next. refl;
+      printed-more = λ p ps next. bytes-append quote (pieceMeans p) (piecesMean ps) next;
+      longer = piece-longer;
+    }
 
 -- the piece that stands at a place was put, and the spelling goes on at another
 abbrev pub Put : ℕ → List ℕ → ℕ → List ℕ → ℕ → ℕ → List ℕ → ℕ → Type 0
 Put quote w i out to n after end =
     (p : Piece) (left : List ℕ) → drop i w ≡ pieceOnto p left → pieceRule quote p ≡ true → (drop n w ≡ left) × Puts out to (bytesOnto quote (pieceMeans p)) after end
 
-module _ (quote : ℕ) (w out₀ : List ℕ) (at : ℕ) (ps : List Piece) (i : ℕ) (out : List ℕ) (to : ℕ) where
-  rest-go : (qs : List Piece) → drop i w ≡ piecesOnto qs [] → all (pieceRule quote) qs ≡ true
-      → ((next : List ℕ) → page out₀ at (bytesOnto quote (piecesMean ps) next) ≡ page out to (bytesOnto quote (piecesMean qs) next))
-      → i < length w → (n : ℕ) (after : List ℕ) (end : ℕ) → Put quote w i out to n after end → Rest quote w out₀ at ps n after end
-  unfolding piecesOnto piecesMean all
-  rest-go [] e r s h n after end f = absurd (omega (arith, ap length e, length-drop i w))
-  rest-go (p ∷ qs) e r s h n after end f =
-      let b = both (pieceRule quote p) (all (pieceRule quote) qs) r in
-      let got = f p (piecesOnto qs []) e (b .0) in
-      record {
-        pieces = qs;
-        left = got .0;
-        rule = b .1;
-        same = λ next. s next ∙ ap (page out to) (bytes-append quote (pieceMeans p) (piecesMean qs) next) ∙ got .1 .same (bytesOnto quote (piecesMean qs) next);
-      }
+module _ (quote : ℕ) (w out₀ : List ℕ) (at : ℕ) (ps : List Piece) where
+  pub rest-all : w ≡ piecesOnto ps [] → all (pieceRule quote) ps ≡ true → Left (pieceRun quote) w out₀ at ps 0 out₀ at
+  unfolding pieceRun
+  rest-all e r = left-all (pieceRun quote) w out₀ at ps e r
 
-  pub rest-on : Rest quote w out₀ at ps i out to → i < length w → (n : ℕ) (after : List ℕ) (end : ℕ) → Put quote w i out to n after end → Rest quote w out₀ at ps n after end
-  rest-on r h n after end f = rest-go (r .pieces) (r .left) (r .rule) (r .same) h n after end f
+  module _ (i : ℕ) (out : List ℕ) (to : ℕ) (so-far : Left (pieceRun quote) w out₀ at ps i out to) where
+    pub rest-on : i < length w → (n : ℕ) (after : List ℕ) (end : ℕ) → Put quote w i out to n after end → Left (pieceRun quote) w out₀ at ps n after end
+    unfolding pieceRun
+    rest-on h n after end f = left-on (pieceRun quote) w out₀ at ps i out to so-far h n after end f
 
-  rest-none : (qs : List Piece) → drop i w ≡ piecesOnto qs []
-      → ((next : List ℕ) → page out₀ at (bytesOnto quote (piecesMean ps) next) ≡ page out to (bytesOnto quote (piecesMean qs) next))
-      → length w ≤ i → Puts out₀ at (bytesOnto quote (piecesMean ps)) out to
-  unfolding piecesOnto piecesMean bytesOnto
-  rest-none [] e s h = record { same = s }
-  rest-none (p ∷ qs) e s h = absurd (omega (arith, ap length e, length-drop i w, piece-longer p (piecesOnto qs [])))
-
-  pub rest-over : Rest quote w out₀ at ps i out to → length w ≤ i → Puts out₀ at (bytesOnto quote (piecesMean ps)) out to
-  rest-over r h = rest-none (r .pieces) (r .left) (r .same) h
+    pub rest-over : length w ≤ i → Puts out₀ at (bytesOnto quote (piecesMean ps)) out to
+    unfolding pieceRun
+    rest-over h = left-over (pieceRun quote) w out₀ at ps i out to so-far h
 
 -- ---- hex digits
 

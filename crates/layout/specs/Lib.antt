@@ -5,3 +5,5 @@ pub mod Standing
 pub mod Ticks
 pub mod Wholes
 pub mod Marking
+pub mod Texts
+pub mod Walking

@@ -15,6 +15,7 @@ pub mod Content
 pub mod ReadValues
 pub mod Markers
 pub mod Widths
+pub mod Fronts
 pub mod Concepts
 pub mod Fuel
 pub mod Sheets
@@ -25,7 +26,9 @@ pub mod Exactly
 pub mod OnlyOne
 pub mod Starred
 pub mod RollStarred
+pub mod Beginning
 pub mod Rolls
+pub mod Boundaries
 pub mod Laid
 pub mod Meant
 pub mod Again
@@ -40,4 +43,6 @@ pub mod ReadsBack
 pub mod Cut
 pub mod DemandThree
 pub mod Shapes
+pub mod Telling
+pub mod DemandTwo
 pub mod AddedReads

@@ -1,12 +1,12 @@
 -- An answer is known from its number, place and count: no two answers tell the same.
 -- By the way back from numbers to refusals. Assumes nothing.
-use Prim.Native.Nat.{ℕ, zero, suc}
+use Prim.Native.Nat.{ℕ, zero, suc, _≤_}
 use mathlib.Core.Path.{_≡_, refl, sym, ap, _∙_}
 use mathlib.Core.List.{List, [], _∷_}
 use mathlib.Core.Option.{Option, none, some}
 use native.Mathlib.Omega.{arith}
 use lib.ListN.{getElem?}
-use Rattle.paper.specs.Answer.{Told, numberOf, told}
+use Rattle.paper.specs.Answer.{Told, accepted, refused, numberOf, told}
 use Rattle.paper.specs.declared.Answer.{Answer}
 use Rattle.paper.specs.declared.Answer.the-variants.{Accepted, Refused}
 use Rattle.paper.specs.declared.Refusal.{Refusal}
@@ -82,3 +82,7 @@ told-injective (Refused why p) (Refused other q) e =
     let w = number-injective why other (ap (λ (x : Told). x .number) e) in
     let at : p ≡ q = ap (λ (x : Told). x .place) e in
     cc
+
+-- a refusal is no acceptance
+pub told-apart : {X : Type 0} (n at place many : ℕ) → 1 ≤ n → refused n at ≡ accepted place many → X
+told-apart n at place many l e = let z : n ≡ 0 = ap (λ (x : Told). x .number) e in absurd (omega (arith, l))

@@ -13,4 +13,5 @@ pub mod ReadingValues
 pub mod Reading
 pub mod Canonical
 pub mod View
+pub mod Writing
 pub mod Roll

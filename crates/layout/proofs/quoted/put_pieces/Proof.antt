@@ -7,7 +7,8 @@ use mathlib.Core.List.{List, []}
 use lib.ListN.{length}
 use Rattle.paper.specs.Bytes.{all}
 use Rattle.paper.specs.Values.{Piece, piecesOnto, pieceRule}
-use Rattle.layout.proofs.Spelling.{Rest, rest-on, rest-over}
+use Rattle.layout.proofs.Sequences.{Left}
+use Rattle.layout.proofs.Spelling.{pieceRun, rest-all, rest-on, rest-over}
 use Rattle.layout.proofs.quoted.put_pieces.Statement.{statement}
 use Rattle.layout.proofs.quoted.put_pieces.Tie as tie
 use Rattle.layout.proofs.quoted.put_pieces.Reads as reads
@@ -15,14 +16,14 @@ use Rattle.layout.proofs.quoted.put_pieces.Lts as lts
 use Rattle.layout.proofs.quoted.put_piece.Reads as put-piece-reads
 
 abbrev Inv-loop : tie.InvT-loop
-Inv-loop out₀ at quote w to₀ i₀ out to i = (length out ≡ length out₀) × ((ps : List Piece) → w ≡ piecesOnto ps [] → all (pieceRule quote) ps ≡ true → Rest quote w out₀ at ps i out to)
+Inv-loop out₀ at quote w to₀ i₀ out to i = (length out ≡ length out₀) × ((ps : List Piece) → w ≡ piecesOnto ps [] → all (pieceRule quote) ps ≡ true → Left (pieceRun quote) w out₀ at ps i out to)
 
 abbrev μ-loop : tie.MeasureT-loop
 μ-loop out₀ at quote w to₀ i₀ out to i = length w - i
 
 -- src/quoted.rt:183:5
 loop-holds : tie.Need-loop-holds Inv-loop μ-loop
-loop-holds c = (refl, λ ps e r. record { pieces = ps; left = e; rule = r; same = λ next. refl })
+loop-holds c = (refl, λ ps e r. rest-all _ _ _ _ ps e r)
 
 -- src/quoted.rt:184:13
 put-piece-requires : tie.Need-put-piece-requires Inv-loop μ-loop
