@@ -297,7 +297,7 @@ module _ (m : Modes) (s cells : List ℕ) where
 abbrev answers : Told → List ℕ → Reading
 answers a after = record { answer = a; cells = after }
 
-all-zero : (cells : List ℕ) → sets cells 0 (replicate (length cells - 0) 0) ≡ replicate (length cells) 0
+pub all-zero : (cells : List ℕ) → sets cells 0 (replicate (length cells - 0) 0) ≡ replicate (length cells) 0
 unfolding filled allCells
 all-zero cells =
     let z : length cells - 0 ≡ length cells = omega arith in

@@ -110,7 +110,7 @@ fn spells_scalar(digits: &[u8]) -> bool
 }
 
 // The number that hex digits spell.
-fn hex_value(digits: &[u8]) -> u32
+pub fn hex_value(digits: &[u8]) -> u32
     requires { ⌜ (all isHex (now digits) ≡ true) × (length (now digits) ≤ 6) ⌝ }
     ensures { λ r. ⌜ r ≡ hexValue 0 (now (digits .entry)) ⌝ }
 {

@@ -2,7 +2,7 @@
 // Document 01, "The grammar", Values; "Entries".
 mod brackets;
 pub mod entering;
-mod escapes;
+pub mod escapes;
 mod iris;
 pub mod judged;
 mod leaves;

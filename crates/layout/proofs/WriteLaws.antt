@@ -1,0 +1,273 @@
+-- A whole sheet put on a page, and the page written to room that is lent or not at all. Document 01, "Canonical form" and refusal 12. Assumes nothing.
+use Prim.Native.Nat.{ℕ, suc, _+_, _-_, _*_, _≤_, _<_, min}
+use mathlib.Core.Path.{_≡_, refl, sym, ap, ap₂, _∙_}
+use mathlib.Core.Bool.{Bool, true, false, _&&_}
+use mathlib.Core.List.{List, [], _∷_, _++_, map, append-nil}
+use native.Mathlib.Omega.{arith}
+use native.Mathlib.Nat.{zero-add, add-zero}
+use lib.ListN.{length, take, drop, replicate, length-replicate}
+use lib.Seq.{sets, sets-eq, length-sets, take-append-seam}
+use lib.Dec.{leb}
+use borrow.Author.Tests.{le-leb, lt-leb, leb-true, leb-false}
+use Rattle.paper.specs.declared.Answer.{Answer}
+use Rattle.paper.specs.declared.Answer.the-variants.{Accepted, Refused}
+use Rattle.paper.specs.declared.Refusal.{Refusal}
+use Rattle.paper.specs.declared.Refusal.the-variants.{NoRoom}
+use Rattle.paper.specs.Answer.{Told, accepted, refused, numberOf, told}
+use Rattle.paper.specs.Found.{Found, found, fault}
+use Rattle.paper.specs.Bytes.{all, isBlank, lf, tab}
+use Rattle.paper.specs.Names.{nameLimit}
+use Rattle.paper.specs.Modes.{Modes, modeTable}
+use Rattle.paper.specs.Tree.{Sheet}
+use Rattle.paper.specs.Grammar.{blanksOnto, annotationsOnto, tabsOnto, conceptOnto, sheetOnto, blankRule, annotationRule, conceptRule, sheetRule}
+use Rattle.paper.specs.Limits.{sheetLimit, conceptLimit, listLimit, conceptFits, conceptDepth, withinLimits}
+use Rattle.paper.specs.Entries.{Entry, entryCells, allCells, noParent, conceptSize, annotationEntries, conceptEntry, insideEntries, rootStart, sheetSize, entries}
+use Rattle.paper.specs.Reading.{roomOf, sheetOf, Reading, reading}
+use Rattle.paper.specs.Canonical.{annotationSense, conceptSense, meaning, printNotes, printConcept, print, canonical}
+use Rattle.paper.specs.Writing.{Begun, tree, unread, begin, Writing, notWritten, writtenAt, formFits, writeForm, writing}
+use Rattle.paper.proofs.Tests.{split}
+use Rattle.paper.proofs.Lists.{both}
+use Rattle.paper.proofs.Told.{number-positive}
+use Rattle.paper.proofs.Sizes.{notes-size, inside-size, entries-size}
+use Rattle.paper.proofs.Fronts.{blanks-front, notes-front, past-front, past-bytes}
+use Rattle.paper.proofs.Concepts.{block-parts}
+use Rattle.paper.proofs.Exactly.{Answers, sheet-answers}
+use Rattle.paper.proofs.Beginning.{Sound, Unread, Begins, begins, begins-tree, reads-tree}
+use Rattle.modes.specs.Table.{Valid, modesOf}
+use Rattle.entries.specs.Laid.{lay}
+use Rattle.entries.proofs.Laying.{cells-length}
+use Rattle.entries.proofs.Getting.{at-none}
+use Rattle.sheets.specs.Sheets.{toldOf, Reads}
+use Rattle.sheets.proofs.SheetLaws.{count-fits}
+use Rattle.layout.specs.Page.{Page, holds, full, page, Puts}
+use Rattle.layout.specs.Standing.{Stand, kindAt, Ends, OfConcept}
+use Rattle.layout.specs.Walking.{OfNotes, OfSheet, Keeps}
+use Rattle.layout.proofs.Putting.{page-full}
+use Rattle.layout.proofs.Standing.{stand-front, stand-back}
+use Rattle.layout.proofs.BodyLaws.{own-entry, NotesPut, ConceptPut}
+
+-- ---- a page that bytes were put on and nothing follows
+
+page-holds : (out : List ℕ) (at : ℕ) (w : List ℕ) → at + length w ≤ length out → page out at w ≡ holds (sets out at w) (at + length w)
+unfolding page
+page-holds out at w h = rw (le-leb (at + length w) (length out) h)
+
+page-ends : (out : List ℕ) (at : ℕ) → at ≤ length out → page out at [] ≡ holds out at
+page-ends out at h = page-holds out at [] (omega arith) ∙ rw (add-zero at)
+
+module _ (out after w : List ℕ) (at to : ℕ) (e : page out at w ≡ page after to []) where
+  -- there was room, and these bytes stand there
+  pub page-done : at + length w ≤ length out → length after ≡ length out → (after ≡ sets out at w) × (to ≡ at + length w)
+  page-done h l =
+      split (leb to (length after))
+      (λ k. let q : holds (sets out at w) (at + length w) ≡ holds after to = sym (page-holds out at w h) ∙ e ∙ page-ends after to (leb-true to (length after) k) in (cc, cc))
+      (λ k.
+      let q : holds (sets out at w) (at + length w) ≡ full = sym (page-holds out at w h) ∙ e ∙ page-full after to [] (omega (arith, leb-false to (length after) k)) in
+      let z : _≡_ {A = ℕ} 0 1 = cc in
+      absurd (omega arith))
+
+  -- the place says whether there was
+  pub page-room : length after ≡ length out → to ≤ length after → at + length w ≤ length out
+  page-room l k =
+      split (leb (at + length w) (length out)) (λ h. leb-true (at + length w) (length out) h)
+      (λ h.
+      let q : full ≡ holds after to = sym (page-full out at w (leb-false (at + length w) (length out) h)) ∙ e ∙ page-ends after to k in
+      let z : _≡_ {A = ℕ} 0 1 = cc in
+      absurd (omega arith))
+
+  pub page-short : length after ≡ length out → length after < to → length out < at + length w
+  page-short l k =
+      split (leb (at + length w) (length out))
+      (λ h.
+      let q : holds (sets out at w) (at + length w) ≡ full = sym (page-holds out at w (leb-true (at + length w) (length out) h)) ∙ e ∙ page-full after to [] (omega arith) in
+      let z : _≡_ {A = ℕ} 0 1 = cc in
+      absurd (omega arith))
+      (λ h. leb-false (at + length w) (length out) h)
+
+-- the bytes of a page, from the first on
+page-front : (out after w : List ℕ) → length w ≤ length out → after ≡ sets out 0 w → take (length w) after ≡ w
+page-front out after w h e =
+    ap (take (length w)) (e ∙ sets-eq w out 0 (omega arith)) ∙ take-append-seam w _
+
+-- ---- a whole sheet
+
+module _ (m : Modes) (s cells : List ℕ) (t : Sheet) (of : OfSheet m s cells t) where
+  abbrev before : ℕ
+  before = length (blanksOnto (t .before) [])
+
+  abbrev notes : List Entry
+  notes = annotationEntries noParent before (t .annotations)
+
+  abbrev own : ℕ
+  own = length (t .annotations)
+
+  abbrev root : List Entry
+  root = conceptEntry noParent (rootStart t) (t .tabs) (t .root) ∷ insideEntries own (rootStart t) (t .tabs) (t .root)
+
+  abbrev rest : List ℕ
+  rest = blanksOnto (t .after) (t .last ++ [])
+
+  stands : Stand cells 0 (notes ++ root)
+  unfolding entries
+  stands = record { rest = []; held = of .are ∙ sym (append-nil (allCells (notes ++ root))) }
+
+  front : drop before s ≡ annotationsOnto (t .annotations) (tabsOnto (t .tabs) (conceptOnto (t .tabs) (t .root) rest))
+  unfolding sheetOnto
+  front = ap (λ (n : ℕ). drop n s) (sym (zero-add before)) ∙ past-front s 0 (blanksOnto (t .before)) (annotationsOnto (t .annotations) (tabsOnto (t .tabs) (conceptOnto (t .tabs) (t .root) rest))) (blanks-front (t .before)) (sym (of .covers))
+
+  notes-of : OfNotes s cells 0 noParent before (t .annotations)
+  notes-of = record { after = tabsOnto (t .tabs) (conceptOnto (t .tabs) (t .root) rest); spelt = front; stand = stand-front cells 0 notes root stands }
+
+  -- no entry stands behind the last one
+  none-behind : Ends cells (own + conceptSize (t .root))
+  unfolding sheetSize
+  none-behind =
+      let size : length cells ≡ (own + conceptSize (t .root)) * entryCells = ap length (of .are) ∙ cells-length (entries t) ∙ ap (λ (n : ℕ). n * entryCells) (entries-size t) in
+      let kind : kindAt cells (own + conceptSize (t .root)) ≡ 0 = ap (λ (e : Entry). e .kind) (at-none cells (own + conceptSize (t .root)) (omega arith)) in
+      record { no-trait = λ k. omega (arith, sym kind ∙ k); no-item = λ k. omega (arith, sym kind ∙ k) }
+
+  root-of : OfConcept s cells own noParent (rootStart t) (t .tabs) (t .root)
+  root-of =
+      let size : 0 + length notes ≡ own = omega (arith, notes-size (t .annotations) noParent before) in
+      let mark = past-front s before (annotationsOnto (t .annotations)) (tabsOnto (t .tabs) (conceptOnto (t .tabs) (t .root) rest)) (notes-front (t .annotations)) front in
+      record {
+        after = rest;
+        spelt = ap (λ (n : ℕ). drop (before + length (annotationsOnto (t .annotations) []) + n) s) (sym (length-replicate (t .tabs) tab))
+            ∙ past-bytes s (before + length (annotationsOnto (t .annotations) [])) (replicate (t .tabs) tab) (conceptOnto (t .tabs) (t .root) rest) mark;
+        stand = rw size at (stand-back cells 0 notes root stands);
+        ends = none-behind;
+      }
+
+  no-note : kindAt cells (0 + own) ≡ 4 → ⊥
+  no-note k =
+      let z : 0 + own ≡ own = zero-add own in
+      let kind = ap (λ (e : Entry). e .kind) (own-entry s cells own noParent (rootStart t) (t .tabs) (t .root) root-of) in
+      omega (arith, sym kind ∙ ap (kindAt cells) (sym z) ∙ k)
+
+  pub sheet-put : {out mid after : List ℕ} {noted to : ℕ} (n next : ℕ) → NotesPut s cells 0 0 out 0 n mid noted → ConceptPut s cells n 0 conceptLimit mid noted next after to
+      → page out 0 (canonical t) ≡ page after to []
+  unfolding meaning print
+  sheet-put n next put concept =
+      let p = put noParent before (t .annotations) notes-of no-note in
+      let at : n ≡ own = p .0 ∙ zero-add own in
+      let q = (rw at at concept) m noParent (rootStart t) (t .tabs) (t .root) root-of (of .keeps) in
+      p .1 .same (printConcept 0 (conceptSense (t .root)) (lf ∷ [])) ∙ q .1 .same []
+
+-- ---- a form that is laid out on a page, written or not
+
+pub blank-page : length (replicate {A = ℕ} sheetLimit 0) ≡ sheetLimit
+blank-page = length-replicate {A = ℕ} sheetLimit 0
+
+form-fits : (lent : ℕ) (out w : List ℕ) → length w ≤ min (length out) sheetLimit → writeForm lent out w ≡ writtenAt lent out 0 w
+unfolding writeForm
+form-fits lent out w h = rw (le-leb (length w) (min (length out) sheetLimit) h, writeForm)
+
+form-not : (lent : ℕ) (out w : List ℕ) → min (length out) sheetLimit < length w → writeForm lent out w ≡ notWritten lent out 12 0
+unfolding writeForm
+form-not lent out w h = rw (lt-leb (length w) (min (length out) sheetLimit) h, writeForm)
+
+module _ (form₀ form w out : List ℕ) (end lent : ℕ) (e : page form₀ 0 w ≡ page form end []) (l : length form ≡ length form₀) (limit : length form₀ ≡ sheetLimit) where
+  abbrev Written : Answer → List ℕ → Type 0
+  Written r after = record { answer = told r; out = after; cells = replicate lent 0 } ≡ writeForm lent out w
+
+  unwritten : min (length out) sheetLimit < length w → Written (Refused NoRoom 0) out
+  unwritten h = sym (form-not lent out w h)
+
+  pub too-long : sheetLimit < end → Written (Refused NoRoom 0) out
+  too-long h = unwritten (omega (arith, page-short form₀ form w 0 end e l (omega arith)))
+
+  module _ (h : end ≤ sheetLimit) where
+    laid : (form ≡ sets form₀ 0 w) × (end ≡ 0 + length w)
+    laid = page-done form₀ form w 0 end e (page-room form₀ form w 0 end e l (omega arith)) l
+
+    pub no-space : length out < end → Written (Refused NoRoom 0) out
+    no-space k = unwritten (omega (arith, laid .1))
+
+    is-form : take end form ≡ w
+    is-form =
+        let size : end ≡ length w = omega (arith, laid .1) in
+        ap (λ (n : ℕ). take n form) size ∙ page-front form₀ form w (omega arith) (laid .0)
+
+    pub form-written : end ≤ length out → (after : List ℕ) (to : ℕ) → Puts out 0 (λ next. take end form ++ next) after to → length after ≡ length out → Written (Accepted 0 end) after
+    form-written k after to p same =
+        let fits : length w ≤ min (length out) sheetLimit = omega (arith, laid .1) in
+        let room : 0 + length w ≤ length out = omega arith in
+        let put : page out 0 w ≡ page after to [] = ap (page out 0) (sym (append-nil w) ∙ ap (λ (v : List ℕ). v ++ []) (sym is-form)) ∙ p .same [] in
+        let stored : after ≡ w ++ drop (0 + length w) out = page-done out after w 0 to put room same .0 ∙ sets-eq w out 0 room in
+        ap₂ (λ (n : ℕ) (o : List ℕ). record { answer = accepted 0 n; out = o; cells = replicate lent 0 }) (laid .1) stored ∙ sym (form-fits lent out w fits)
+
+-- ---- writing
+
+passed : (table s out : List ℕ) (lent : ℕ) (answer : Told) (after : List ℕ) (n at : ℕ) → begin table s lent ≡ unread n at
+    → _≡_ {A = Reading} (record { answer = answer; cells = after }) (record { answer = refused n at; cells = replicate lent 0 })
+    → record { answer = answer; out = out; cells = after } ≡ writing table s lent out
+unfolding writing
+passed table s out lent answer after n at b q = rw (b, writing) (ap (λ (x : Reading). record { answer = x .answer; out = out; cells = x .cells }) q)
+
+-- a refused reading is passed through
+pub refused-through : (table s out : List ℕ) (lent : ℕ) (r : Answer) (why : Refusal) (place : ℕ) → r ≡ Refused why place → (after : List ℕ)
+    → _≡_ {A = Reading} (record { answer = told r; cells = after }) (reading table s lent)
+    → record { answer = told r; out = out; cells = after } ≡ writing table s lent out
+refused-through table s out lent r why place is after e = go (begin table s lent) refl (begins table s lent)
+  where
+    go : (x : Begun) → begin table s lent ≡ x → Begins table s lent x → record { answer = told r; out = out; cells = after } ≡ writing table s lent out
+    go (tree t) b h =
+        let q : told r ≡ accepted (length s) (length (entries t)) = ap (λ (x : Reading). x .answer) (e ∙ reads-tree h) in
+        absurd (number-positive why (ap (λ (x : Told). x .number) (sym (ap told is) ∙ q)))
+    go (unread n at) b h = passed table s out lent (told r) after n at b (e ∙ h .is)
+
+-- a refusal counts nothing
+pub none-counted : (r : Answer) (why : Refusal) (place : ℕ) → r ≡ Refused why place → 0 ≡ told r .count
+none-counted r why place e = rw e
+
+-- the cells of entries that were laid from the first on
+laid-front : (cells mid : List ℕ) (es : List Entry) (count : ℕ) → count ≡ length es → length es * entryCells ≤ length cells → mid ≡ lay cells 0 es → take (count * entryCells) mid ≡ allCells es
+unfolding lay
+laid-front cells mid es count many fits e =
+    let size : count * entryCells ≡ length (allCells es) = omega (arith, cells-length es) in
+    ap (take (count * entryCells)) e ∙ ap (λ (n : ℕ). take n (sets cells 0 (allCells es))) size ∙ page-front cells (sets cells 0 (allCells es)) (allCells es) (omega (arith, cells-length es)) refl
+
+root-rule : (m : Modes) (t : Sheet) → sheetRule m t ≡ true → conceptRule m (t .root) ≡ true
+unfolding sheetRule
+root-rule m t e = block-parts (all blankRule (t .before)) (all annotationRule (t .annotations)) (conceptRule m (t .root)) (all blankRule (t .after)) (all isBlank (t .last)) e .2
+
+module _ (table s cells mid out : List ℕ) (r : Answer) (place count : ℕ) (valid : Valid table) (g : Reads s cells (sheetOf (modesOf table) (roomOf (length cells)) s) (told r) mid) (same : length mid ≡ length cells) (is : r ≡ Accepted place count) where
+  -- the cells of the entries are part of those that are lent
+  pub cells-inside : count * entryCells ≤ length mid
+  cells-inside = count-fits table s cells r mid count g same (sym (ap (λ (x : Told). x .count) (ap told is)))
+
+  -- the tree that the sheet reads to
+  record Read : Type 0 where
+    it : Sheet
+    finds : sheetOf (modesOf table) (roomOf (length cells)) s ≡ found it []
+    of : OfSheet (modesOf table) s (take (count * entryCells) mid) it
+
+  tree-read : Read
+  unfolding withinLimits
+  tree-read = go (sheetOf (modesOf table) (roomOf (length cells)) s) refl (sheet-answers (modesOf table) (roomOf (length cells)) s) (g .says)
+    where
+      go : (x : Found Sheet) → sheetOf (modesOf table) (roomOf (length cells)) s ≡ x → Answers (modesOf table) (roomOf (length cells)) s x → told r ≡ toldOf s x → Read
+      go (fault n left) e h q = absurd (omega (arith, h .least, sym (ap (λ (x : Told). x .number) (sym (ap told is) ∙ q))))
+      go (found t left) e h q =
+          let a = h .1 in
+          let p = both (leb (length s) sheetLimit && conceptFits nameLimit listLimit (t .root)) (leb (conceptDepth (t .root)) conceptLimit) (a .limits) in
+          let w = both (leb (length s) sheetLimit) (conceptFits nameLimit listLimit (t .root)) (p .0) in
+          let many : count ≡ length (entries t) = ap (λ (x : Told). x .count) (sym (ap told is) ∙ q) in
+          record {
+            it = t;
+            finds = e ∙ ap (found t) (h .0);
+            of = record {
+              covers = a .derives .covers;
+              keeps = record { rule = root-rule (modesOf table) t (a .derives .rule); within = w .1; deep = leb-true (conceptDepth (t .root)) conceptLimit (p .1) };
+              are = laid-front cells mid (entries t) count many (omega (arith, cells-inside)) (g .laid t left e);
+            };
+          }
+
+  pub written : (answer : Answer) (after : List ℕ) (zeros : List ℕ) → zeros ≡ replicate (length cells) 0
+      → ((m : Modes) (t : Sheet) (lent : ℕ) → OfSheet m s (take (count * entryCells) mid) t → record { answer = told answer; out = after; cells = replicate lent 0 } ≡ writeForm lent out (canonical t))
+      → record { answer = told answer; out = after; cells = zeros } ≡ writing table s (length cells) out
+  unfolding writing
+  written answer after zeros z f =
+      let read = tree-read in
+      let b : begin table s (length cells) ≡ tree (read .it) = begins-tree (record { modes = modesOf table; valid = valid; read = read .finds }) in
+      rw (b, writing, z) (f (modesOf table) (read .it) (length cells) (read .of))

@@ -1,0 +1,98 @@
+// Lines of Content, each with its text at its new depth.
+// Document 01, "Canonical form": Content text stands one tab deeper than its marker; empty text is an empty line; LF line ends.
+use crate::items::Walk;
+use crate::items::spelling_of;
+use crate::page::put;
+use crate::page::put_byte;
+use crate::page::put_tabs;
+use entries::CELLS;
+use entries::get;
+use text::parts::starts_with;
+use text::runs;
+use text::runs::Class;
+ghost use mathlib.Core.Path.{_≡_};
+ghost use mathlib.Core.Bool.{true};
+ghost use mathlib.Core.List.{List, [], map};
+ghost use Prim.Native.Nat.{ℕ, suc, _+_, _≤_, _<_};
+ghost use lib.ListN.{length, drop};
+ghost use Rattle.paper.specs.Bytes.{all, lengthIn};
+ghost use Rattle.paper.specs.Tree.{LineEnd, Line};
+ghost use Rattle.paper.specs.Grammar.{lineEndOnto, linesOnto, lineRule};
+ghost use Rattle.paper.specs.Reading.{isTab};
+ghost use Rattle.paper.specs.Canonical.{lineSense, printLine, printLines};
+ghost use Rattle.layout.specs.Page.{Puts};
+ghost use Rattle.layout.specs.Texts.{inked};
+ghost use Rattle.layout.specs.Walking.{OfContent};
+
+// Puts the lines of the Content of entry n, with their text at so many tabs. The closing line behind them has the tabs of their marker.
+pub fn put_content(
+    out: &mut [u8],
+    at: usize,
+    s: &[u8],
+    cells: &[u32],
+    n: usize,
+    tabs: usize,
+) -> Walk
+    ensures { λ r. ⌜ ((place t : ℕ) (ls : List Line) → OfContent (now (s .entry)) (now (cells .entry)) n place t ls → all lineRule ls ≡ true → (r .next ≡ n + 1) × Puts (now (out .entry)) at (printLines tabs (map lineSense ls)) (now (out .exit)) (r .at)) ⌝ }
+{
+    if cells.len() / CELLS <= n {
+        return Walk { at, next: n };
+    }
+    let own = get(cells, n);
+    let cut = tabs_at(s, own.end as usize) + 1;
+    Walk {
+        at: put_lines(out, at, spelling_of(s, own), cut, tabs),
+        next: n + 1,
+    }
+}
+
+// How many tabs stand at `at`.
+fn tabs_at(s: &[u8], at: usize) -> usize
+    ensures { λ r. ⌜ (r ≡ lengthIn isTab (drop at (now (s .entry)))) × (r ≤ length (now (s .entry))) ⌝ }
+{
+    if s.len() <= at {
+        return 0;
+    }
+    runs::end(s, at, Class::Tab) - at
+}
+
+// Puts lines whose text stands behind `cut` tabs, with their text at so many tabs.
+fn put_lines(out: &mut [u8], at: usize, lines: &[u8], cut: usize, tabs: usize) -> usize
+    ensures { λ r. ⌜ ((t : ℕ) (ls : List Line) → now (lines .entry) ≡ linesOnto t ls [] → cut ≡ suc t → all lineRule ls ≡ true → Puts (now (out .entry)) at (printLines tabs (map lineSense ls)) (now (out .exit)) r) ⌝ }
+{
+    let mut to = at;
+    let mut i = 0;
+    while i < lines.len() {
+        let end = runs::end(lines, i, Class::Text);
+        to = put_line(out, to, &lines[i..end], cut, tabs);
+        i = line_after(lines, end);
+    }
+    to
+}
+
+// Puts a line whose text stands behind `cut` bytes: the text at so many tabs, or an empty line where it is only spaces and tabs.
+fn put_line(out: &mut [u8], at: usize, line: &[u8], cut: usize, tabs: usize) -> usize
+    ensures { λ r. ⌜ Puts (now (out .entry)) at (printLine tabs (inked (drop cut (now (line .entry))))) (now (out .exit)) r ⌝ }
+{
+    if line.len() <= cut {
+        return put_byte(out, at, b'\n');
+    }
+    if runs::end(line, cut, Class::Blank) == line.len() {
+        return put_byte(out, at, b'\n');
+    }
+    let text = put_tabs(out, at, tabs);
+    let end = put(out, text, &line[cut..]);
+    put_byte(out, end, b'\n')
+}
+
+// Behind the line end that stands at `at`.
+fn line_after(s: &[u8], at: usize) -> usize
+    requires { ⌜ at ≤ length (now s) ⌝ }
+    ensures { λ r. ⌜ (at < r) × ((e : LineEnd) (next : List ℕ) → drop at (now (s .entry)) ≡ lineEndOnto e next → drop r (now (s .entry)) ≡ next) ⌝ }
+{
+    if starts_with(s, at, b"\r") {
+        at + 2
+    } else {
+        at + 1
+    }
+}

@@ -1,0 +1,80 @@
+// Canonical form of a sheet, written to room that is lent.
+// Document 01, "Canonical form", refusal 12, and the answers of "Order".
+pub mod backticks;
+pub mod concepts;
+pub mod content;
+pub mod items;
+pub mod leaves;
+pub mod markers;
+pub mod notes;
+pub mod page;
+pub mod quoted;
+pub mod spaced;
+pub mod spans;
+
+use concepts::put_sheet;
+use entries::CELLS;
+use entries::zero_from;
+use page::put;
+use paper::Answer;
+use paper::Refusal;
+use sheets::read_under;
+use text::utf8::Cursor;
+ghost use mathlib.Core.Path.{_≡_};
+ghost use Prim.Native.Nat.{ℕ};
+ghost use lib.ListN.{length, replicate};
+ghost use Rattle.paper.specs.Answer.{told};
+ghost use Rattle.paper.specs.Modes.{Modes};
+ghost use Rattle.paper.specs.Tree.{Sheet};
+ghost use Rattle.paper.specs.Canonical.{canonical};
+ghost use Rattle.paper.specs.Writing.{writeForm, writing};
+ghost use Rattle.layout.specs.Walking.{OfSheet};
+
+// Writes the canonical form of a sheet that reads without refusal. The cells are lent to the reading, and zero after every answer.
+// A refusal leaves `out` as it came.
+pub fn write(table: &[u8], sheet: &[u8], cells: &mut [u32], out: &mut [u8]) -> Answer
+    ensures { λ r. ⌜ record { answer = told r; out = now (out .exit); cells = now (cells .exit) } ≡ writing (now (table .entry)) (now (sheet .entry)) (length (now (cells .entry))) (now (out .entry)) ⌝ }
+{
+    let modes = modes::read(table);
+    let Answer::Accepted { place: _, count: _ } = modes else {
+        zero_from(cells, 0);
+        return modes;
+    };
+    let reading = read_under(table, sheet, cells);
+    let Answer::Accepted { place: _, count } = reading else {
+        zero_from(cells, 0);
+        return reading;
+    };
+    let end = count * CELLS;
+    let answer = write_form(sheet, &cells[..end], out);
+    zero_from(cells, 0);
+    answer
+}
+
+// Writes the canonical form of the sheet that has just these entries. It is laid out on a page first, so that nothing is written where it does not fit.
+fn write_form(sheet: &[u8], cells: &[u32], out: &mut [u8]) -> Answer
+    ensures { λ r. ⌜ ((m : Modes) (t : Sheet) (lent : ℕ) → OfSheet m (now (sheet .entry)) (now (cells .entry)) t → record { answer = told r; out = now (out .exit); cells = replicate lent 0 } ≡ writeForm lent (now (out .entry)) (canonical t)) ⌝ }
+{
+    let mut form = [0; Cursor::LIMIT];
+    let end = put_sheet(&mut form, sheet, cells);
+    if Cursor::LIMIT < end {
+        return no_room();
+    }
+    if out.len() < end {
+        return no_room();
+    }
+    put(out, 0, &form[..end]);
+    Answer::Accepted {
+        place: 0,
+        count: end,
+    }
+}
+
+fn no_room() -> Answer
+    ensures { λ r. ⌜ r ≡ Answer.Refused Refusal.NoRoom 0 ⌝ }
+{
+    Answer::Refused {
+        refusal: Refusal::NoRoom,
+        place: 0,
+    }
+}

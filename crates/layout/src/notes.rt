@@ -1,0 +1,46 @@
+// Annotations, each on a line of its own at the depth of its Concept.
+// Document 01, "Canonical form": space and tab runs become one space, ends trimmed.
+use crate::items::Walk;
+use crate::items::spelling_of;
+use crate::page::put;
+use crate::page::put_byte;
+use crate::page::put_tabs;
+use crate::spaced::put_collapsed;
+use entries::get;
+use paper::kinds;
+ghost use mathlib.Core.Path.{_≡_};
+ghost use mathlib.Core.List.{List, [], _∷_, map};
+ghost use Prim.Native.Nat.{ℕ, _+_, _≤_};
+ghost use lib.ListN.{length};
+ghost use Rattle.paper.specs.Values.{collapse};
+ghost use Rattle.paper.specs.Tree.{Annotation};
+ghost use Rattle.paper.specs.Canonical.{annotationSense, printNotes};
+ghost use Rattle.layout.specs.Page.{Puts};
+ghost use Rattle.layout.specs.Standing.{kindAt};
+ghost use Rattle.layout.specs.Walking.{OfNotes};
+
+// Puts the annotations from entry n on.
+pub fn put_notes(out: &mut [u8], at: usize, s: &[u8], cells: &[u32], n: usize, depth: usize) -> Walk
+    ensures { λ r. ⌜ (n ≤ r .next) × ((parent place : ℕ) (notes : List Annotation) → OfNotes (now (s .entry)) (now (cells .entry)) n parent place notes → (kindAt (now (cells .entry)) (n + length notes) ≡ 4 → ⊥) → (r .next ≡ n + length notes) × Puts (now (out .entry)) at (printNotes depth (map annotationSense notes)) (now (out .exit)) (r .at)) ⌝ }
+{
+    let mut to = at;
+    let mut next = n;
+    loop {
+        let note = get(cells, next);
+        if note.kind != kinds::ANNOTATION {
+            return Walk { at: to, next };
+        }
+        to = put_note(out, to, spelling_of(s, note), depth);
+        next += 1;
+    }
+}
+
+// Puts an annotation of this text.
+fn put_note(out: &mut [u8], at: usize, text: &[u8], depth: usize) -> usize
+    ensures { λ r. ⌜ Puts (now (out .entry)) at (printNotes depth (collapse (now (text .entry)) ∷ [])) (now (out .exit)) r ⌝ }
+{
+    let mark = put_tabs(out, at, depth);
+    let start = put_byte(out, mark, b'[');
+    let end = put_collapsed(out, start, text);
+    put(out, end, b"]\n")
+}
