@@ -8,7 +8,6 @@ use lib.ListN.{length, take, drop, replicate, length-replicate, length-append}
 use Rattle.paper.specs.Found.{pick}
 use Rattle.paper.specs.Bytes.{all, lf, tab}
 use Rattle.paper.specs.Names.{nameLimit}
-use Rattle.paper.specs.Modes.{Modes}
 use Rattle.paper.specs.Tree.{Blank, Annotation, Concept, Body, done, blankLine, element}
 use Rattle.paper.specs.Grammar.{blankOnto, annotationsOnto, tabsOnto, conceptOnto, bodyOnto, blankRule, annotationRule, conceptRule, bodyRule}
 use Rattle.paper.specs.Limits.{listLimit, conceptFits, bodyFits, conceptDepth, bodyDepth}
@@ -54,7 +53,7 @@ body-ends s cells n parent at body of none = go at body (of .stand) none
 
 -- ---- the first element of a body
 
-pub record First (m : Modes) (s cells : List ℕ) (left n parent : ℕ) (body : Body) : Type 0 where
+pub record First (s cells : List ℕ) (left n parent : ℕ) (body : Body) : Type 0 where
   pub notes : List Annotation
   pub tabs : ℕ
   pub it : Concept
@@ -65,20 +64,20 @@ pub record First (m : Modes) (s cells : List ℕ) (left n parent : ℕ) (body : 
   pub of-notes : OfNotes s cells n parent notes-at notes
   pub of : OfConcept s cells (n + length notes) parent at tabs it
   pub of-behind : OfBody s cells (n + length notes + conceptSize it) parent behind-at behind
-  pub keeps : Keeps m left it
-  pub keeps-behind : KeepsBody m left behind
+  pub keeps : Keeps left it
+  pub keeps-behind : KeepsBody left behind
   pub count : bodyCount body ≡ length notes + 1 + bodyCount behind
   pub size : bodySize body ≡ length notes + conceptSize it + bodySize behind
   pub sense : bodySense body ≡ with (map annotationSense notes) (conceptSense it) (bodySense behind)
 
-pub first : (m : Modes) (s cells : List ℕ) (left n parent at : ℕ) (body : Body) → OfBody s cells n parent at body → KeepsBody m left body → Ends cells (n + bodySize body) → 0 < bodyCount body → First m s cells left n parent body
+pub first : (s cells : List ℕ) (left n parent at : ℕ) (body : Body) → OfBody s cells n parent at body → KeepsBody left body → Ends cells (n + bodySize body) → 0 < bodyCount body → First s cells left n parent body
 unfolding bodyCount bodySize bodySense bodyEntries bodyOnto bodyRule bodyFits bodyDepth
-first m s cells left n parent at done of keeps none h = absurd (omega arith)
-first m s cells left n parent at (blankLine b body) of keeps none h =
+first s cells left n parent at done of keeps none h = absurd (omega arith)
+first s cells left n parent at (blankLine b body) of keeps none h =
     let f =
-    first m s cells left n parent (at + length (blankOnto b [])) body
+    first s cells left n parent (at + length (blankOnto b [])) body
     (record { after = of .after; spelt = past-front s at (blankOnto b) (bodyOnto body (of .after)) (blank-front b) (of .spelt); stand = of .stand })
-    (record { rule = both (blankRule b) (bodyRule m body) (keeps .rule) .1; within = keeps .within; deep = keeps .deep })
+    (record { rule = both (blankRule b) (bodyRule body) (keeps .rule) .1; within = keeps .within; deep = keeps .deep })
     none h in
     record {
       notes = f .notes;
@@ -97,7 +96,7 @@ first m s cells left n parent at (blankLine b body) of keeps none h =
       size = f .size;
       sense = f .sense;
     }
-first m s cells left n parent at (element notes tabs c rest body) of keeps none h =
+first s cells left n parent at (element notes tabs c rest body) of keeps none h =
     let start = at + length (annotationsOnto notes []) + tabs in
     let end = start + conceptWidth tabs c + length (blankOnto rest []) in
     let own = n + length notes in
@@ -114,7 +113,7 @@ first m s cells left n parent at (element notes tabs c rest body) of keeps none 
     let size : n + length noted ≡ own = ap (λ (k : ℕ). n + k) (notes-size notes parent at) in
     let stands : Stand cells own concepts = rw size at (stand-back cells n noted concepts (of .stand)) in
     let more : own + length (conceptEntry parent start tabs c ∷ inside) ≡ own + conceptSize c = ap (λ (k : ℕ). own + k) (inside-size c own start tabs) in
-    let r = element-parts (all annotationRule notes) (conceptRule m c) (blankRule rest) (bodyRule m body) (keeps .rule) in
+    let r = element-parts (all annotationRule notes) (conceptRule c) (blankRule rest) (bodyRule body) (keeps .rule) in
     let w = both (conceptFits nameLimit listLimit c) (bodyFits nameLimit listLimit body) (keeps .within) in
     let of-behind : OfBody s cells (own + conceptSize c) parent end body =
     record {
@@ -175,24 +174,24 @@ NotesPut s cells n depth out at next after to =
 
 abbrev pub ConceptPut : List ℕ → List ℕ → ℕ → ℕ → ℕ → List ℕ → ℕ → ℕ → List ℕ → ℕ → Type 0
 ConceptPut s cells n depth left out at next after to =
-    (m : Modes) (parent place tabs : ℕ) (c : Concept) → OfConcept s cells n parent place tabs c → Keeps m left c
+    (parent place tabs : ℕ) (c : Concept) → OfConcept s cells n parent place tabs c → Keeps left c
     → (next ≡ n + conceptSize c) × Puts out at (λ t. tabsOnto depth (printConcept depth (conceptSense c) (lf ∷ t))) after to
 
-module _ (m : Modes) (s cells : List ℕ) (depth deep whole : ℕ) (out₀ : List ℕ) (at : ℕ) (body : Body) where
+module _ (s cells : List ℕ) (depth deep whole : ℕ) (out₀ : List ℕ) (at : ℕ) (body : Body) where
   pub record BodyLeft (left next : ℕ) (between : Bool) (out : List ℕ) (to : ℕ) : Type 0 where
     pub parent : ℕ
     pub place : ℕ
     pub more : Body
     pub of : OfBody s cells next parent place more
-    pub keeps : KeepsBody m deep more
+    pub keeps : KeepsBody deep more
     pub few : left ≡ bodyCount more
     pub total : next + bodySize more ≡ whole
     pub same : (t : List ℕ) → page out₀ at (printBody depth (bodySense body) t) ≡ page out to (printRest between depth (bodySense more) t)
 
   module _ (none : Ends cells whole) {left next : ℕ} {between : Bool} {out : List ℕ} {to : ℕ} (so-far : BodyLeft left next between out to) where
     module _ (some : 0 < left) where
-      abbrev one : First m s cells deep next (so-far .parent) (so-far .more)
-      one = first m s cells deep next (so-far .parent) (so-far .place) (so-far .more) (so-far .of) (so-far .keeps) (rw (so-far .total) none) (omega (arith, so-far .few))
+      abbrev one : First s cells deep next (so-far .parent) (so-far .more)
+      one = first s cells deep next (so-far .parent) (so-far .place) (so-far .more) (so-far .of) (so-far .keeps) (rw (so-far .total) none) (omega (arith, so-far .few))
 
       no-note : kindAt cells (next + length (one .notes)) ≡ 4 → ⊥
       no-note k =
@@ -213,7 +212,7 @@ module _ (m : Modes) (s cells : List ℕ) (depth deep whole : ℕ) (out₀ : Lis
             let here : n ≡ next + length (one .notes) = p .0 in
             let behind = next + length (one .notes) + conceptSize (one .it) in
             let ends : behind + bodySize (one .behind) ≡ whole = omega (arith, so-far .total, one .size) in
-            let q = (rw here at concept) m (so-far .parent) (one .at) (one .tabs) (one .it) (one .of) (one .keeps) in
+            let q = (rw here at concept) (so-far .parent) (one .at) (one .tabs) (one .it) (one .of) (one .keeps) in
             record {
               parent = so-far .parent;
               place = one .behind-at;
@@ -236,7 +235,7 @@ module _ (m : Modes) (s cells : List ℕ) (depth deep whole : ℕ) (out₀ : Lis
         let e = none-left (so-far .more) (omega (arith, so-far .few)) in
         (omega (arith, so-far .total, e .0), record { same = λ t. so-far .same t ∙ ap (page out to) (ap (λ (b : BodySense). printRest between depth b t) (e .1) ∙ rest-none between depth t) })
 
-pub body-all : (m : Modes) (s cells : List ℕ) (depth deep : ℕ) (out₀ : List ℕ) (at n parent place left : ℕ) (body : Body) → OfBody s cells n parent place body → KeepsBody m deep body → left ≡ bodyCount body
-    → BodyLeft m s cells depth deep (n + bodySize body) out₀ at body left n false out₀ at
-body-all m s cells depth deep out₀ at n parent place left body of keeps few =
+pub body-all : (s cells : List ℕ) (depth deep : ℕ) (out₀ : List ℕ) (at n parent place left : ℕ) (body : Body) → OfBody s cells n parent place body → KeepsBody deep body → left ≡ bodyCount body
+    → BodyLeft s cells depth deep (n + bodySize body) out₀ at body left n false out₀ at
+body-all s cells depth deep out₀ at n parent place left body of keeps few =
     record { parent = parent; place = place; more = body; of = of; keeps = keeps; few = few; total = refl; same = λ t. refl }

@@ -10,7 +10,6 @@ use borrow.Author.Tests.{eq-eqb, ne-eqb}
 use Rattle.paper.specs.Found.{pick}
 use Rattle.paper.specs.Bytes.{byte, bytes, all, lf}
 use Rattle.paper.specs.Names.{nameLimit}
-use Rattle.paper.specs.Modes.{Modes}
 use Rattle.paper.specs.Values.{Value, leaf, emptyList, list, More, close, comma}
 use Rattle.paper.specs.Tree.{Blank, Trait, Marker, Line, Concept, selfClosed, children, content, Body, block, self}
 use Rattle.paper.specs.Grammar.{blankOnto, tabsOnto, markerOnto, traitOnto, traitsOnto, endingOnto, closingOnto, linesOnto, conceptOnto, bodyOnto, blankRule, markerRule, opensBlock, inMode, lineRule, conceptRule, bodyRule}
@@ -20,7 +19,7 @@ use Rattle.paper.specs.Entries.{Entry, unnamed, valueWidth, itemSize, itemEntri
 use Rattle.paper.specs.Canonical.{MarkerSense, markerSense, lineSense, conceptSense, bodySense, printMarker, printLines, printConcept, printBody}
 use Rattle.paper.proofs.Lists.{both}
 use Rattle.paper.proofs.Sizes.{traits-size}
-use Rattle.paper.proofs.Concepts.{block-parts}
+use Rattle.paper.proofs.Concepts.{element-parts}
 use Rattle.paper.proofs.Fronts.{marker-front, blank-front, past-front, past-bytes}
 use Rattle.entries.specs.Laid.{entryAt}
 use Rattle.layout.specs.Page.{page, Puts}
@@ -133,7 +132,7 @@ MarkerPut s cells n depth out at next after to =
 
 abbrev pub BodyPut : List ℕ → List ℕ → ℕ → ℕ → ℕ → ℕ → List ℕ → ℕ → ℕ → List ℕ → ℕ → Type 0
 BodyPut s cells n elements depth left out at next after to =
-    (m : Modes) (parent place : ℕ) (body : Body) → OfBody s cells n parent place body → KeepsBody m left body → Ends cells (n + bodySize body) → elements ≡ bodyCount body
+    (parent place : ℕ) (body : Body) → OfBody s cells n parent place body → KeepsBody left body → Ends cells (n + bodySize body) → elements ≡ bodyCount body
     → (next ≡ n + bodySize body) × Puts out at (printBody depth (bodySense body)) after to
 
 -- the name of a Concept
@@ -207,31 +206,30 @@ form-is : (s cells : List ℕ) (n parent place tabs : ℕ) (c : Concept) → OfC
 form-is s cells n parent place tabs c of own is = ap (λ (e : Entry). e .form) (is ∙ own-entry s cells n parent place tabs c of)
 
 module _ (s cells : List ℕ) (n depth left : ℕ) {out mid marked : List ℕ} {at start next end : ℕ} (tabbed : Puts out at (tabsOnto depth) mid start) (marker : MarkerPut s cells n depth mid start next marked end) (own : Entry) (is : own ≡ entryAt cells n) where
-  closed-one : (m : Modes) (parent place tabs : ℕ) (k : Marker) → OfConcept s cells n parent place tabs (selfClosed k) → Keeps m left (selfClosed k)
+  closed-one : (parent place tabs : ℕ) (k : Marker) → OfConcept s cells n parent place tabs (selfClosed k) → Keeps left (selfClosed k)
       → (next ≡ n + conceptSize (selfClosed k)) × Puts out at (λ t. tabsOnto depth (printConcept depth (conceptSense (selfClosed k)) (lf ∷ t))) marked end
   unfolding conceptSize conceptSense printConcept conceptRule conceptFits
-  closed-one m parent place tabs k of keeps =
-      let r = both (markerRule k) (not (inMode Absent m (k .name))) (keeps .rule) in
-      let p = marker parent place tabs (selfClosed k) of (r .0) (keeps .within) in
+  closed-one parent place tabs k of keeps =
+      let p = marker parent place tabs (selfClosed k) of (keeps .rule) (keeps .within) in
       (omega (arith, p .0), record { same = λ t. tabbed .same (printMarker depth (markerSense k) self (lf ∷ t)) ∙ p .1 .same t })
 
   pub closed-put : (own .form ≡ 2 → ⊥) → (own .form ≡ 3 → ⊥) → ConceptPut s cells n depth left out at next marked end
-  closed-put f g m parent place tabs c of keeps = go c of keeps
+  closed-put f g parent place tabs c of keeps = go c of keeps
     where
-      go : (c : Concept) → OfConcept s cells n parent place tabs c → Keeps m left c → (next ≡ n + conceptSize c) × Puts out at (λ t. tabsOnto depth (printConcept depth (conceptSense c) (lf ∷ t))) marked end
-      go (selfClosed k) of keeps = closed-one m parent place tabs k of keeps
+      go : (c : Concept) → OfConcept s cells n parent place tabs c → Keeps left c → (next ≡ n + conceptSize c) × Puts out at (λ t. tabsOnto depth (printConcept depth (conceptSense c) (lf ∷ t))) marked end
+      go (selfClosed k) of keeps = closed-one parent place tabs k of keeps
       go (children k rest body back) of keeps = absurd (f (form-is s cells n parent place tabs (children k rest body back) of own is))
       go (content k rest lines) of keeps = absurd (g (form-is s cells n parent place tabs (content k rest lines) of own is))
 
   module _ {inner after : List ℕ} {last to : ℕ} (deeper : ℕ) (one-deeper : deeper ≡ suc depth) (name : List ℕ) (named : name ≡ take (own .nameEnd - own .nameStart) (drop (own .nameStart) s)) (closing : Puts inner last (λ t. tabsOnto depth (closingOnto name (lf ∷ t))) after to) where
     module _ {behind : ℕ} (content′ : (place t : ℕ) (ls : List Line) → OfContent s cells next place t ls → all lineRule ls ≡ true → (behind ≡ next + 1) × Puts marked end (printLines deeper (map lineSense ls)) inner last) where
-      content-one : (m : Modes) (parent place tabs : ℕ) (k : Marker) (rest : Blank) (lines : List Line) → OfConcept s cells n parent place tabs (content k rest lines) → Keeps m left (content k rest lines)
+      content-one : (parent place tabs : ℕ) (k : Marker) (rest : Blank) (lines : List Line) → OfConcept s cells n parent place tabs (content k rest lines) → Keeps left (content k rest lines)
           → (behind ≡ n + conceptSize (content k rest lines)) × Puts out at (λ t. tabsOnto depth (printConcept depth (conceptSense (content k rest lines)) (lf ∷ t))) after to
       unfolding conceptSize conceptSense printConcept conceptRule conceptFits
-      content-one m parent place tabs k rest lines of keeps =
-          let r = block-parts (markerRule k) (opensBlock k) (inMode Content m (k .name)) (blankRule rest) (all lineRule lines) (keeps .rule) in
+      content-one parent place tabs k rest lines of keeps =
+          let r = element-parts (markerRule k) (opensBlock k) (blankRule rest) (all lineRule lines) (keeps .rule) in
           let p = marker parent place tabs (content k rest lines) of (r .0) (keeps .within) in
-          let q = content′ (bodyStart place k rest) tabs lines (rw (p .0) (content-of s cells n parent place tabs k rest lines of)) (r .4) in
+          let q = content′ (bodyStart place k rest) tabs lines (rw (p .0) (content-of s cells n parent place tabs k rest lines of)) (r .3) in
           let close = named-put s cells n parent place tabs (content k rest lines) of own is name named depth closing in (
             omega (arith, p .0, q .0),
             record {
@@ -245,26 +243,26 @@ module _ (s cells : List ℕ) (n depth left : ℕ) {out mid marked : List ℕ} {
           )
 
       pub content-put : own .form ≡ 3 → ConceptPut s cells n depth left out at behind after to
-      content-put f m parent place tabs c of keeps = go c of keeps
+      content-put f parent place tabs c of keeps = go c of keeps
         where
-          go : (c : Concept) → OfConcept s cells n parent place tabs c → Keeps m left c → (behind ≡ n + conceptSize c) × Puts out at (λ t. tabsOnto depth (printConcept depth (conceptSense c) (lf ∷ t))) after to
+          go : (c : Concept) → OfConcept s cells n parent place tabs c → Keeps left c → (behind ≡ n + conceptSize c) × Puts out at (λ t. tabsOnto depth (printConcept depth (conceptSense c) (lf ∷ t))) after to
           go (selfClosed k) of keeps = absurd (omega (arith, f, form-is s cells n parent place tabs (selfClosed k) of own is))
           go (children k rest body back) of keeps = absurd (omega (arith, f, form-is s cells n parent place tabs (children k rest body back) of own is))
-          go (content k rest lines) of keeps = content-one m parent place tabs k rest lines of keeps
+          go (content k rest lines) of keeps = content-one parent place tabs k rest lines of keeps
 
     module _ {behind : ℕ} (elements : ℕ) (counted : Elements cells n next elements) (fewer : ℕ) (less : left ≡ suc fewer) (body′ : BodyPut s cells next elements deeper fewer marked end behind inner last) where
-      children-one : (m : Modes) (parent place tabs : ℕ) (k : Marker) (rest : Blank) (body : Body) (back : ℕ) → OfConcept s cells n parent place tabs (children k rest body back) → Keeps m left (children k rest body back)
+      children-one : (parent place tabs : ℕ) (k : Marker) (rest : Blank) (body : Body) (back : ℕ) → OfConcept s cells n parent place tabs (children k rest body back) → Keeps left (children k rest body back)
           → (behind ≡ n + conceptSize (children k rest body back)) × Puts out at (λ t. tabsOnto depth (printConcept depth (conceptSense (children k rest body back)) (lf ∷ t))) after to
       unfolding conceptSize conceptSense printConcept conceptRule conceptFits conceptDepth
-      children-one m parent place tabs k rest body back of keeps =
-          let r = block-parts (markerRule k) (opensBlock k) (inMode Children m (k .name)) (blankRule rest) (bodyRule m body) (keeps .rule) in
+      children-one parent place tabs k rest body back of keeps =
+          let r = element-parts (markerRule k) (opensBlock k) (blankRule rest) (bodyRule body) (keeps .rule) in
           let w = both (markerFits nameLimit listLimit k) (bodyFits nameLimit listLimit body) (keeps .within) in
           let p = marker parent place tabs (children k rest body back) of (r .0) (w .0) in
           let there = traits-there s cells n parent place tabs k rest body back of in
           let far : next ≡ n + length (front s cells n parent place tabs k rest body back of) = p .0 ∙ sym (size s cells n parent place tabs k rest body back of) in
           let count = ap (λ (e : Entry). e .count) (own-entry s cells n parent place tabs (children k rest body back) of) in
           let few : elements ≡ bodyCount body = omega (arith, counted (front s cells n parent place tabs k rest body back of) (there .0) far, count, there .1) in
-          let q = body′ m n (bodyStart place k rest) body (rw (p .0) (body-of s cells n parent place tabs k rest body back of)) (record { rule = r .4; within = w .1; deep = omega (arith, keeps .deep) }) (rw (p .0) (body-ended s cells n parent place tabs k rest body back of)) few in
+          let q = body′ n (bodyStart place k rest) body (rw (p .0) (body-of s cells n parent place tabs k rest body back of)) (record { rule = r .3; within = w .1; deep = omega (arith, keeps .deep) }) (rw (p .0) (body-ended s cells n parent place tabs k rest body back of)) few in
           let close = named-put s cells n parent place tabs (children k rest body back) of own is name named depth closing in (
             omega (arith, p .0, q .0),
             record {
@@ -278,9 +276,9 @@ module _ (s cells : List ℕ) (n depth left : ℕ) {out mid marked : List ℕ} {
           )
 
       pub children-put : own .form ≡ 2 → ConceptPut s cells n depth left out at behind after to
-      children-put f m parent place tabs c of keeps = go c of keeps
+      children-put f parent place tabs c of keeps = go c of keeps
         where
-          go : (c : Concept) → OfConcept s cells n parent place tabs c → Keeps m left c → (behind ≡ n + conceptSize c) × Puts out at (λ t. tabsOnto depth (printConcept depth (conceptSense c) (lf ∷ t))) after to
+          go : (c : Concept) → OfConcept s cells n parent place tabs c → Keeps left c → (behind ≡ n + conceptSize c) × Puts out at (λ t. tabsOnto depth (printConcept depth (conceptSense c) (lf ∷ t))) after to
           go (selfClosed k) of keeps = absurd (omega (arith, f, form-is s cells n parent place tabs (selfClosed k) of own is))
-          go (children k rest body back) of keeps = children-one m parent place tabs k rest body back of keeps
+          go (children k rest body back) of keeps = children-one parent place tabs k rest body back of keeps
           go (content k rest lines) of keeps = absurd (omega (arith, f, form-is s cells n parent place tabs (content k rest lines) of own is))

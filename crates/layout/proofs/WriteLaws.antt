@@ -30,14 +30,14 @@ use Rattle.paper.proofs.Lists.{both}
 use Rattle.paper.proofs.Told.{number-positive}
 use Rattle.paper.proofs.Sizes.{notes-size, inside-size, entries-size}
 use Rattle.paper.proofs.Fronts.{blanks-front, notes-front, past-front, past-bytes}
-use Rattle.paper.proofs.Concepts.{block-parts}
+use Rattle.paper.proofs.Written.{root-rule}
 use Rattle.paper.proofs.Exactly.{Answers, sheet-answers}
 use Rattle.paper.proofs.Beginning.{Sound, Unread, Begins, begins, begins-tree, reads-tree}
 use Rattle.modes.specs.Table.{Valid, modesOf}
 use Rattle.entries.specs.Laid.{lay}
 use Rattle.entries.proofs.Laying.{cells-length}
 use Rattle.entries.proofs.Getting.{at-none}
-use Rattle.sheets.specs.Sheets.{toldOf, Reads}
+use Rattle.sheets.specs.Sheets.{answerOf, Reads}
 use Rattle.sheets.proofs.SheetLaws.{count-fits}
 use Rattle.layout.specs.Page.{Page, holds, full, page, Puts}
 use Rattle.layout.specs.Standing.{Stand, kindAt, Ends, OfConcept}
@@ -91,7 +91,7 @@ page-front out after w h e =
 
 -- ---- a whole sheet
 
-module _ (m : Modes) (s cells : List ℕ) (t : Sheet) (of : OfSheet m s cells t) where
+module _ (s cells : List ℕ) (t : Sheet) (of : OfSheet s cells t) where
   abbrev before : ℕ
   before = length (blanksOnto (t .before) [])
 
@@ -150,7 +150,7 @@ module _ (m : Modes) (s cells : List ℕ) (t : Sheet) (of : OfSheet m s cells t)
   sheet-put n next put concept =
       let p = put noParent before (t .annotations) notes-of no-note in
       let at : n ≡ own = p .0 ∙ zero-add own in
-      let q = (rw at at concept) m noParent (rootStart t) (t .tabs) (t .root) root-of (of .keeps) in
+      let q = (rw at at concept) noParent (rootStart t) (t .tabs) (t .root) root-of (of .keeps) in
       p .1 .same (printConcept 0 (conceptSense (t .root)) (lf ∷ [])) ∙ q .1 .same []
 
 -- ---- a form that is laid out on a page, written or not
@@ -227,10 +227,6 @@ laid-front cells mid es count many fits e =
     let size : count * entryCells ≡ length (allCells es) = omega (arith, cells-length es) in
     ap (take (count * entryCells)) e ∙ ap (λ (n : ℕ). take n (sets cells 0 (allCells es))) size ∙ page-front cells (sets cells 0 (allCells es)) (allCells es) (omega (arith, cells-length es)) refl
 
-root-rule : (m : Modes) (t : Sheet) → sheetRule m t ≡ true → conceptRule m (t .root) ≡ true
-unfolding sheetRule
-root-rule m t e = block-parts (all blankRule (t .before)) (all annotationRule (t .annotations)) (conceptRule m (t .root)) (all blankRule (t .after)) (all isBlank (t .last)) e .2
-
 module _ (table s cells mid out : List ℕ) (r : Answer) (place count : ℕ) (valid : Valid table) (g : Reads s cells (sheetOf (modesOf table) (roomOf (length cells)) s) (told r) mid) (same : length mid ≡ length cells) (is : r ≡ Accepted place count) where
   -- the cells of the entries are part of those that are lent
   pub cells-inside : count * entryCells ≤ length mid
@@ -240,13 +236,13 @@ module _ (table s cells mid out : List ℕ) (r : Answer) (place count : ℕ) (va
   record Read : Type 0 where
     it : Sheet
     finds : sheetOf (modesOf table) (roomOf (length cells)) s ≡ found it []
-    of : OfSheet (modesOf table) s (take (count * entryCells) mid) it
+    of : OfSheet s (take (count * entryCells) mid) it
 
   tree-read : Read
   unfolding withinLimits
   tree-read = go (sheetOf (modesOf table) (roomOf (length cells)) s) refl (sheet-answers (modesOf table) (roomOf (length cells)) s) (g .says)
     where
-      go : (x : Found Sheet) → sheetOf (modesOf table) (roomOf (length cells)) s ≡ x → Answers (modesOf table) (roomOf (length cells)) s x → told r ≡ toldOf s x → Read
+      go : (x : Found Sheet) → sheetOf (modesOf table) (roomOf (length cells)) s ≡ x → Answers (modesOf table) (roomOf (length cells)) s x → told r ≡ answerOf s x → Read
       go (fault n left) e h q = absurd (omega (arith, h .least, sym (ap (λ (x : Told). x .number) (sym (ap told is) ∙ q))))
       go (found t left) e h q =
           let a = h .1 in
@@ -264,7 +260,7 @@ module _ (table s cells mid out : List ℕ) (r : Answer) (place count : ℕ) (va
           }
 
   pub written : (answer : Answer) (after : List ℕ) (zeros : List ℕ) → zeros ≡ replicate (length cells) 0
-      → ((m : Modes) (t : Sheet) (lent : ℕ) → OfSheet m s (take (count * entryCells) mid) t → record { answer = told answer; out = after; cells = replicate lent 0 } ≡ writeForm lent out (canonical t))
+      → ((t : Sheet) (lent : ℕ) → OfSheet s (take (count * entryCells) mid) t → record { answer = told answer; out = after; cells = replicate lent 0 } ≡ writeForm lent out (canonical t))
       → record { answer = told answer; out = after; cells = zeros } ≡ writing table s (length cells) out
   unfolding writing
   written answer after zeros z f =

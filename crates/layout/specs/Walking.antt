@@ -8,7 +8,6 @@ use lib.ListN.{length, drop}
 use lib.Dec.{eqb}
 use Rattle.paper.specs.Found.{pick}
 use Rattle.paper.specs.Names.{nameLimit}
-use Rattle.paper.specs.Modes.{Modes}
 use Rattle.paper.specs.Tree.{Annotation, Line, Concept, Body, Sheet}
 use Rattle.paper.specs.Grammar.{tabsOnto, annotationsOnto, closingOnto, linesOnto, sheetOnto, conceptRule, bodyRule}
 use Rattle.paper.specs.Limits.{listLimit, conceptLimit, conceptFits, bodyFits, conceptDepth, bodyDepth}
@@ -32,20 +31,20 @@ pub record OfContent (s cells : List ℕ) (n at tabs : ℕ) (lines : List Line) 
   pub stand : Stand cells n (unnamed 5 0 parent 0 at (at + length (linesOnto tabs lines [])) ∷ [])
 
 -- what a Concept, and a body, keeps where so many Concepts may still be opened
-pub record Keeps (m : Modes) (left : ℕ) (c : Concept) : Type 0 where
-  pub rule : conceptRule m c ≡ true
+pub record Keeps (left : ℕ) (c : Concept) : Type 0 where
+  pub rule : conceptRule c ≡ true
   pub within : conceptFits nameLimit listLimit c ≡ true
   pub deep : conceptDepth c ≤ left
 
-pub record KeepsBody (m : Modes) (left : ℕ) (body : Body) : Type 0 where
-  pub rule : bodyRule m body ≡ true
+pub record KeepsBody (left : ℕ) (body : Body) : Type 0 where
+  pub rule : bodyRule body ≡ true
   pub within : bodyFits nameLimit listLimit body ≡ true
   pub deep : bodyDepth body ≤ left
 
 -- a sheet that reads to this tree, and its entries' cells
-pub record OfSheet (m : Modes) (s cells : List ℕ) (t : Sheet) : Type 0 where
+pub record OfSheet (s cells : List ℕ) (t : Sheet) : Type 0 where
   pub covers : sheetOnto t [] ≡ s
-  pub keeps : Keeps m conceptLimit (t .root)
+  pub keeps : Keeps conceptLimit (t .root)
   pub are : cells ≡ allCells (entries t)
 
 -- how many of these entries are traits

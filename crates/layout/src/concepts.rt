@@ -20,7 +20,6 @@ ghost use Prim.Native.Nat.{ℕ, _+_, _-_, _≤_};
 ghost use lib.ListN.{take, drop};
 ghost use Rattle.paper.specs.Found.{pick};
 ghost use Rattle.paper.specs.Bytes.{lf};
-ghost use Rattle.paper.specs.Modes.{Modes};
 ghost use Rattle.paper.specs.Limits.{conceptLimit};
 ghost use Rattle.paper.specs.Tree.{Concept, Body, Sheet};
 ghost use Rattle.paper.specs.Grammar.{tabsOnto, closingOnto};
@@ -32,7 +31,7 @@ ghost use Rattle.layout.specs.Walking.{Keeps, KeepsBody, OfSheet, Traits
 
 // Puts the canonical form of the sheet that has just these entries, from the first byte on.
 pub fn put_sheet(out: &mut [u8], s: &[u8], cells: &[u32]) -> usize
-    ensures { λ r. ⌜ ((m : Modes) (t : Sheet) → OfSheet m (now (s .entry)) (now (cells .entry)) t → page (now (out .entry)) 0 (canonical t) ≡ page (now (out .exit)) r []) ⌝ }
+    ensures { λ r. ⌜ ((t : Sheet) → OfSheet (now (s .entry)) (now (cells .entry)) t → page (now (out .entry)) 0 (canonical t) ≡ page (now (out .exit)) r []) ⌝ }
 {
     let notes = put_notes(out, 0, s, cells, 0, 0);
     let root = put_concept(
@@ -58,7 +57,7 @@ fn put_concept(
     nesting: Nesting,
 ) -> Walk
     requires { ⌜ depth + nesting .left ≤ conceptLimit ⌝ }
-    ensures { λ r. ⌜ ((m : Modes) (parent place tabs : ℕ) (c : Concept) → OfConcept (now (s .entry)) (now (cells .entry)) n parent place tabs c → Keeps m (nesting .left) c → (r .next ≡ n + conceptSize c) × Puts (now (out .entry)) at (λ next. tabsOnto depth (printConcept depth (conceptSense c) (lf ∷ next))) (now (out .exit)) (r .at)) ⌝ }
+    ensures { λ r. ⌜ ((parent place tabs : ℕ) (c : Concept) → OfConcept (now (s .entry)) (now (cells .entry)) n parent place tabs c → Keeps (nesting .left) c → (r .next ≡ n + conceptSize c) × Puts (now (out .entry)) at (λ next. tabsOnto depth (printConcept depth (conceptSense c) (lf ∷ next))) (now (out .exit)) (r .at)) ⌝ }
 {
     let Deeper::Inside(inside) = nesting.step() else {
         return Walk { at, next: n };
@@ -105,7 +104,7 @@ fn put_body(
     nesting: Nesting,
 ) -> Walk
     requires { ⌜ depth + nesting .left ≤ conceptLimit ⌝ }
-    ensures { λ r. ⌜ ((m : Modes) (parent place : ℕ) (body : Body) → OfBody (now (s .entry)) (now (cells .entry)) n parent place body → KeepsBody m (nesting .left) body → Ends (now (cells .entry)) (n + bodySize body) → elements ≡ bodyCount body → (r .next ≡ n + bodySize body) × Puts (now (out .entry)) at (printBody depth (bodySense body)) (now (out .exit)) (r .at)) ⌝ }
+    ensures { λ r. ⌜ ((parent place : ℕ) (body : Body) → OfBody (now (s .entry)) (now (cells .entry)) n parent place body → KeepsBody (nesting .left) body → Ends (now (cells .entry)) (n + bodySize body) → elements ≡ bodyCount body → (r .next ≡ n + bodySize body) × Puts (now (out .entry)) at (printBody depth (bodySense body)) (now (out .exit)) (r .at)) ⌝ }
 {
     let mut to = at;
     let mut next = n;

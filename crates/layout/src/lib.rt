@@ -24,7 +24,6 @@ ghost use mathlib.Core.Path.{_≡_};
 ghost use Prim.Native.Nat.{ℕ};
 ghost use lib.ListN.{length, replicate};
 ghost use Rattle.paper.specs.Answer.{told};
-ghost use Rattle.paper.specs.Modes.{Modes};
 ghost use Rattle.paper.specs.Tree.{Sheet};
 ghost use Rattle.paper.specs.Canonical.{canonical};
 ghost use Rattle.paper.specs.Writing.{writeForm, writing};
@@ -53,7 +52,7 @@ pub fn write(table: &[u8], sheet: &[u8], cells: &mut [u32], out: &mut [u8]) -> A
 
 // Writes the canonical form of the sheet that has just these entries. It is laid out on a page first, so that nothing is written where it does not fit.
 fn write_form(sheet: &[u8], cells: &[u32], out: &mut [u8]) -> Answer
-    ensures { λ r. ⌜ ((m : Modes) (t : Sheet) (lent : ℕ) → OfSheet m (now (sheet .entry)) (now (cells .entry)) t → record { answer = told r; out = now (out .exit); cells = replicate lent 0 } ≡ writeForm lent (now (out .entry)) (canonical t)) ⌝ }
+    ensures { λ r. ⌜ ((t : Sheet) (lent : ℕ) → OfSheet (now (sheet .entry)) (now (cells .entry)) t → record { answer = told r; out = now (out .exit); cells = replicate lent 0 } ≡ writeForm lent (now (out .entry)) (canonical t)) ⌝ }
 {
     let mut form = [0; Cursor::LIMIT];
     let end = put_sheet(&mut form, sheet, cells);

@@ -4,7 +4,6 @@ use mathlib.Core.Path.{_≡_, refl}
 use native.Mathlib.Numerals.{add-one}
 use native.Mathlib.Omega.{arith}
 use lib.ListN.{length}
-use Rattle.paper.specs.Modes.{Modes}
 use Rattle.paper.specs.Tree.{Concept, Body}
 use Rattle.paper.specs.Entries.{bodySize, bodyCount}
 use Rattle.entries.specs.Laid.{entryOf}
@@ -56,7 +55,7 @@ put-concept-below t =
     and 3 put-concept-kinds.ps (falls 3 put-concept-kinds.ps _<_ μ-put-concept t) put-concept.Pre
 
 abbrev put-body-Inv-loop : put-body-lts.InvT-loop
-put-body-Inv-loop out₀ at s cells n elements depth nesting to₀ next₀ left₀ between₀ out to next left between = (length out ≡ length out₀) × ((m : Modes) (parent place : ℕ) (body : Body) → OfBody s cells n parent place body → KeepsBody m (nesting .left) body → Ends cells (n + bodySize body) → elements ≡ bodyCount body → BodyLeft m s cells depth (nesting .left) (n + bodySize body) out₀ at body left next between out to)
+put-body-Inv-loop out₀ at s cells n elements depth nesting to₀ next₀ left₀ between₀ out to next left between = (length out ≡ length out₀) × ((parent place : ℕ) (body : Body) → OfBody s cells n parent place body → KeepsBody (nesting .left) body → Ends cells (n + bodySize body) → elements ≡ bodyCount body → BodyLeft s cells depth (nesting .left) (n + bodySize body) out₀ at body left next between out to)
 
 abbrev put-body-μ-loop : put-body-lts.MeasureT-loop
 put-body-μ-loop out₀ at s cells n elements depth nesting to₀ next₀ left₀ between₀ out to next left between = left
@@ -69,7 +68,7 @@ put-concept-calls t = (step-reads.Asked, step-reads.Learnt, put-tabs-reads.Asked
 
 -- src/concepts.rt:97:5
 put-body-loop-holds : (t : ℕ) → put-body-lts.Need-loop-holds (put-body-calls t) (put-body-at t) put-body.Post put-body-Inv-loop put-body-μ-loop
-put-body-loop-holds t c = (refl, λ m parent place body of keeps ends few. body-all m _ _ _ _ _ _ _ parent place _ body of keeps few)
+put-body-loop-holds t c = (refl, λ parent place body of keeps ends few. body-all _ _ _ _ _ _ _ parent place _ body of keeps few)
 
 -- src/concepts.rt:98:13
 put-body-put-between-requires : (t : ℕ) → put-body-lts.Need-put-between-requires (put-body-calls t) (put-body-at t) put-body.Post put-body-Inv-loop put-body-μ-loop
@@ -90,8 +89,8 @@ put-body-same-length t c = omega arith
 -- src/concepts.rt:102:13
 put-body-returns : (t : ℕ) → put-body-lts.Need-returns (put-body-calls t) (put-body-at t) put-body.Post put-body-Inv-loop put-body-μ-loop
 put-body-returns t c =
-    λ m parent place body of keeps ends few.
-    absurd (element-there m _ _ _ _ _ _ _ body ends (c .before .before .before .before .before .before .before .before .before .before .before .loop .inv .1 m parent place body of keeps ends few) (c .before .before .before .before .before .before .before .before .before .before .loop-test .taken) _ (c .before .before .before .before .before .before .before .before .put-between .ensures) (c .before .before .before .before .put-notes .ensures .1) (c .if1 .taken))
+    λ parent place body of keeps ends few.
+    absurd (element-there _ _ _ _ _ _ _ body ends (c .before .before .before .before .before .before .before .before .before .before .before .loop .inv .1 parent place body of keeps ends few) (c .before .before .before .before .before .before .before .before .before .before .loop-test .taken) _ (c .before .before .before .before .before .before .before .before .put-between .ensures) (c .before .before .before .before .put-notes .ensures .1) (c .if1 .taken))
 
 -- src/concepts.rt:104:13
 put-body-put-concept-requires : (t : ℕ) → put-body-lts.Need-put-concept-requires (put-body-calls t) (put-body-at t) put-body.Post put-body-Inv-loop put-body-μ-loop
@@ -113,8 +112,8 @@ put-body-loop-less t c = omega arith
 put-body-loop-again : (t : ℕ) → put-body-lts.Need-loop-again (put-body-calls t) (put-body-at t) put-body.Post put-body-Inv-loop put-body-μ-loop
 put-body-loop-again t c = (
   omega arith,
-  λ m parent place body of keeps ends few.
-      element-on m _ _ _ _ _ _ _ body ends (c .before .before .before .before .before .before .before .before .before .before .before .before .before .before .before .loop .inv .1 m parent place body of keeps ends few) (c .before .before .before .before .before .before .before .before .before .before .before .before .before .before .loop-test .taken) _ (c .before .before .before .before .before .before .before .before .before .before .before .before .put-between .ensures) (c .before .before .before .before .before .before .before .before .put-notes .ensures .1) _ (c .before .before .put-concept .ensures),
+  λ parent place body of keeps ends few.
+      element-on _ _ _ _ _ _ _ body ends (c .before .before .before .before .before .before .before .before .before .before .before .before .before .before .before .loop .inv .1 parent place body of keeps ends few) (c .before .before .before .before .before .before .before .before .before .before .before .before .before .before .loop-test .taken) _ (c .before .before .before .before .before .before .before .before .before .before .before .before .put-between .ensures) (c .before .before .before .before .before .before .before .before .put-notes .ensures .1) _ (c .before .before .put-concept .ensures),
 )
 
 -- src/concepts.rt:80:1
@@ -123,7 +122,7 @@ put-body-same-length-2 t c = omega arith
 
 -- src/concepts.rt:80:1
 put-body-returns-2 : (t : ℕ) → put-body-lts.Need-returns-2 (put-body-calls t) (put-body-at t) put-body.Post put-body-Inv-loop put-body-μ-loop
-put-body-returns-2 t c = λ m parent place body of keeps ends few. body-over m _ _ _ _ _ _ _ body ends (c .before .loop .inv .1 m parent place body of keeps ends few) (c .loop-test .left)
+put-body-returns-2 t c = λ parent place body of keeps ends few. body-over _ _ _ _ _ _ _ body ends (c .before .loop .inv .1 parent place body of keeps ends few) (c .loop-test .left)
 
 -- src/concepts.rt:46:34
 put-concept-step-requires : (t : ℕ) → put-concept-lts.Need-step-requires (put-concept-calls t) (put-concept-at t) put-concept.Post
@@ -139,7 +138,7 @@ put-concept-enum-told t c = search needs
 
 -- src/concepts.rt:47:9
 put-concept-returns : (t : ℕ) → put-concept-lts.Need-returns (put-concept-calls t) (put-concept-at t) put-concept.Post
-put-concept-returns t c = λ m parent place tabs k of keeps. let z = no-less (c .before .before .step .result) (c .before .before .before .before .before .before .args .nesting .left) (c .before .before .step .ensures) (c .enum-told .given .1) in absurd (omega (arith, some-depth k, keeps .deep))
+put-concept-returns t c = λ parent place tabs k of keeps. let z = no-less (c .before .before .step .result) (c .before .before .before .before .before .before .args .nesting .left) (c .before .before .step .ensures) (c .enum-told .given .1) in absurd (omega (arith, some-depth k, keeps .deep))
 
 -- src/concepts.rt:49:9
 put-concept-put-tabs-requires : (t : ℕ) → put-concept-lts.Need-put-tabs-requires (put-concept-calls t) (put-concept-at t) put-concept.Post
