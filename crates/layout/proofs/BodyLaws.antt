@@ -12,7 +12,8 @@ use Rattle.paper.specs.Tree.{Blank, Annotation, Concept, Body, done, blankLine,
 use Rattle.paper.specs.Grammar.{blankOnto, annotationsOnto, tabsOnto, conceptOnto, bodyOnto, blankRule, annotationRule, conceptRule, bodyRule}
 use Rattle.paper.specs.Limits.{listLimit, conceptFits, bodyFits, conceptDepth, bodyDepth}
 use Rattle.paper.specs.Entries.{Entry, annotationEntries, conceptSize, bodySize, bodyCount, conceptWidth, conceptEntry, insideEntries, bodyEntries}
-use Rattle.paper.specs.Canonical.{ConceptSense, BodySense, empty, with, annotationSense, conceptSense, bodySense, printNotes, printConcept, printBody, printMore}
+use Rattle.paper.specs.Canonical.{ConceptSense, BodySense, empty, with, annotationSense, conceptSense, bodySense, printNotes, printConcept, printBody}
+use Rattle.paper.specs.Canonical.{printMore}
 use Rattle.paper.proofs.Lists.{both}
 use Rattle.paper.proofs.Sizes.{notes-size, inside-size}
 use Rattle.paper.proofs.Concepts.{element-parts}
@@ -25,7 +26,8 @@ use Rattle.layout.proofs.Standing.{stand-entry, stand-front, stand-back
 
 -- ---- an empty line, where there is one
 
-pub between-put : (between : Bool) → between ≡ true → {out after : List ℕ} {at to : ℕ} → Puts out at (λ next. lf ∷ next) after to → Puts out at (λ next. pick between (lf ∷ next) next) after to
+pub between-put : (between : Bool) → between ≡ true → {out after : List ℕ} {at to : ℕ} → Puts out at (λ next. lf ∷ next) after to
+    → Puts out at (λ next. pick between (lf ∷ next) next) after to
 between-put between e h = record { same = λ next. rw e (h .same next) }
 
 pub between-none : (between : Bool) → between ≡ false → {out : List ℕ} {at : ℕ} → Puts out at (λ next. pick between (lf ∷ next) next) out at
@@ -34,10 +36,12 @@ between-none between e = record { same = λ next. rw e }
 -- ---- no trait stands where a body begins, if none stands behind it
 
 kind-ends : (cells : List ℕ) (n : ℕ) (e : Entry) → entryAt cells n ≡ e → (e .kind ≡ 2 → ⊥) → (e .kind ≡ 3 → ⊥) → Ends cells n
-kind-ends cells n e is a b = record { no-trait = λ k. a (sym (ap (λ (x : Entry). x .kind) is) ∙ k); no-item = λ k. b (sym (ap (λ (x : Entry). x .kind) is) ∙ k) }
+kind-ends cells n e is a b =
+    record { no-trait = λ k. a (sym (ap (λ (x : Entry). x .kind) is) ∙ k); no-item = λ k. b (sym (ap (λ (x : Entry). x .kind) is) ∙ k) }
 
 -- annotations and their Concept begin with no trait
-begin-ends : (cells : List ℕ) (n parent at : ℕ) (notes : List Annotation) (e : Entry) (es : List Entry) → e .kind ≡ 1 → Stand cells n (annotationEntries parent at notes ++ (e ∷ es)) → Ends cells n
+begin-ends : (cells : List ℕ) (n parent at : ℕ) (notes : List Annotation) (e : Entry) (es : List Entry) → e .kind ≡ 1
+    → Stand cells n (annotationEntries parent at notes ++ (e ∷ es)) → Ends cells n
 unfolding annotationEntries
 begin-ends cells n parent at [] e es k s = kind-ends cells n e (stand-entry cells n e es s) (λ q. omega arith) (λ q. omega arith)
 begin-ends cells n parent at (a ∷ notes) e es k s = kind-ends cells n _ (stand-entry cells n _ _ s) (λ q. omega arith) (λ q. omega arith)
@@ -70,7 +74,8 @@ pub record First (s cells : List ℕ) (left n parent : ℕ) (body : Body) : Type
   pub size : bodySize body ≡ length notes + conceptSize it + bodySize behind
   pub sense : bodySense body ≡ with (map annotationSense notes) (conceptSense it) (bodySense behind)
 
-pub first : (s cells : List ℕ) (left n parent at : ℕ) (body : Body) → OfBody s cells n parent at body → KeepsBody left body → Ends cells (n + bodySize body) → 0 < bodyCount body → First s cells left n parent body
+pub first : (s cells : List ℕ) (left n parent at : ℕ) (body : Body) → OfBody s cells n parent at body → KeepsBody left body → Ends cells (n + bodySize body)
+    → 0 < bodyCount body → First s cells left n parent body
 unfolding bodyCount bodySize bodySense bodyEntries bodyOnto bodyRule bodyFits bodyDepth
 first s cells left n parent at done of keeps none h = absurd (omega arith)
 first s cells left n parent at (blankLine b body) of keeps none h =
@@ -130,8 +135,19 @@ first s cells left n parent at (element notes tabs c rest body) of keeps none h 
       notes-at = at;
       at = start;
       behind-at = end;
-      of-notes = record { after = tabsOnto tabs (conceptOnto tabs c (blankOnto rest later)); spelt = of .spelt; stand = stand-front cells n noted concepts (of .stand) };
-      of = record { after = blankOnto rest later; spelt = spelt; stand = stand-front cells own (conceptEntry parent start tabs c ∷ inside) others stands; ends = body-ends s cells (own + conceptSize c) parent end body of-behind (rw whole at none) };
+      of-notes =
+          record {
+            after = tabsOnto tabs (conceptOnto tabs c (blankOnto rest later));
+            spelt = of .spelt;
+            stand = stand-front cells n noted concepts (of .stand);
+          };
+      of =
+          record {
+            after = blankOnto rest later;
+            spelt = spelt;
+            stand = stand-front cells own (conceptEntry parent start tabs c ∷ inside) others stands;
+            ends = body-ends s cells (own + conceptSize c) parent end body of-behind (rw whole at none);
+          };
       of-behind = of-behind;
       keeps = record { rule = r .1; within = w .0; deep = omega (arith, keeps .deep) };
       keeps-behind = record { rule = r .3; within = w .1; deep = omega (arith, keeps .deep) };
@@ -161,7 +177,8 @@ rest-none false depth t = refl
 -- an element: an empty line if it stands behind another, annotations, and the Concept
 rest-with : (between : Bool) (depth : ℕ) (notes : List (List ℕ)) (c : ConceptSense) (inner : BodySense) (t : List ℕ)
     → printRest between depth (with notes c inner) t
-    ≡ pick between (lf ∷ printNotes depth notes (tabsOnto depth (printConcept depth c (lf ∷ printMore depth inner t)))) (printNotes depth notes (tabsOnto depth (printConcept depth c (lf ∷ printMore depth inner t))))
+    ≡ pick between (lf ∷ printNotes depth notes (tabsOnto depth (printConcept depth c (lf ∷ printMore depth inner t))))
+    (printNotes depth notes (tabsOnto depth (printConcept depth c (lf ∷ printMore depth inner t))))
 unfolding printBody
 rest-with true depth notes c inner t = refl
 rest-with false depth notes c inner t = refl
@@ -191,7 +208,9 @@ module _ (s cells : List ℕ) (depth deep whole : ℕ) (out₀ : List ℕ) (at :
   module _ (none : Ends cells whole) {left next : ℕ} {between : Bool} {out : List ℕ} {to : ℕ} (so-far : BodyLeft left next between out to) where
     module _ (some : 0 < left) where
       abbrev one : First s cells deep next (so-far .parent) (so-far .more)
-      one = first s cells deep next (so-far .parent) (so-far .place) (so-far .more) (so-far .of) (so-far .keeps) (rw (so-far .total) none) (omega (arith, so-far .few))
+      one =
+          first s cells deep next (so-far .parent) (so-far .place) (so-far .more) (so-far .of) (so-far .keeps) (rw (so-far .total) none)
+          (omega (arith, so-far .few))
 
       no-note : kindAt cells (next + length (one .notes)) ≡ 4 → ⊥
       no-note k =
@@ -199,14 +218,16 @@ module _ (s cells : List ℕ) (depth deep whole : ℕ) (out₀ : List ℕ) (at :
           let z : _≡_ {A = ℕ} 1 4 = sym (ap (λ (e : Entry). e .kind) own) ∙ k in
           omega arith
 
-      module _ {mid more : List ℕ} {mark noted : ℕ} (n : ℕ) (gap : Puts out to (λ t. pick between (lf ∷ t) t) mid mark) (notes : NotesPut s cells next depth mid mark n more noted) where
+      module _ {mid more : List ℕ} {mark noted : ℕ} (n : ℕ) (gap : Puts out to (λ t. pick between (lf ∷ t) t) mid mark)
+          (notes : NotesPut s cells next depth mid mark n more noted) where
         -- a Concept stands behind the annotations
         pub element-there : left ≤ n - next → ⊥
         element-there h =
             let p = notes (so-far .parent) (one .notes-at) (one .notes) (one .of-notes) no-note in
             omega (arith, p .0, so-far .few, one .count)
 
-        pub element-on : (end : ℕ) {after : List ℕ} {past : ℕ} → ConceptPut s cells n depth deep more noted end after past → BodyLeft (left - (n - next) - 1) end true after past
+        pub element-on : (end : ℕ) {after : List ℕ} {past : ℕ} → ConceptPut s cells n depth deep more noted end after past
+            → BodyLeft (left - (n - next) - 1) end true after past
         element-on end {after} {past} concept =
             let p = notes (so-far .parent) (one .notes-at) (one .notes) (one .of-notes) no-note in
             let here : n ≡ next + length (one .notes) = p .0 in
@@ -224,18 +245,23 @@ module _ (s cells : List ℕ) (depth deep whole : ℕ) (out₀ : List ℕ) (at :
               same = λ t.
                   so-far .same t
                   ∙ ap (page out to)
-                  (ap (λ (b : BodySense). printRest between depth b t) (one .sense) ∙ rest-with between depth (map annotationSense (one .notes)) (conceptSense (one .it)) (bodySense (one .behind)) t)
-                  ∙ gap .same (printNotes depth (map annotationSense (one .notes)) (tabsOnto depth (printConcept depth (conceptSense (one .it)) (lf ∷ printMore depth (bodySense (one .behind)) t))))
+                  (ap (λ (b : BodySense). printRest between depth b t) (one .sense) ∙ rest-with between depth (map annotationSense (one .notes))
+                  (conceptSense (one .it)) (bodySense (one .behind)) t)
+                  ∙ gap .same (printNotes depth (map annotationSense (one .notes))
+                  (tabsOnto depth (printConcept depth (conceptSense (one .it)) (lf ∷ printMore depth (bodySense (one .behind)) t))))
                   ∙ p .1 .same (tabsOnto depth (printConcept depth (conceptSense (one .it)) (lf ∷ printMore depth (bodySense (one .behind)) t)))
                   ∙ q .1 .same (printMore depth (bodySense (one .behind)) t);
             }
 
     pub body-over : left ≤ 0 → (next ≡ whole) × Puts out₀ at (printBody depth (bodySense body)) out to
     body-over h =
-        let e = none-left (so-far .more) (omega (arith, so-far .few)) in
-        (omega (arith, so-far .total, e .0), record { same = λ t. so-far .same t ∙ ap (page out to) (ap (λ (b : BodySense). printRest between depth b t) (e .1) ∙ rest-none between depth t) })
+        let e = none-left (so-far .more) (omega (arith, so-far .few)) in (
+          omega (arith, so-far .total, e .0),
+          record { same = λ t. so-far .same t ∙ ap (page out to) (ap (λ (b : BodySense). printRest between depth b t) (e .1) ∙ rest-none between depth t) },
+        )
 
-pub body-all : (s cells : List ℕ) (depth deep : ℕ) (out₀ : List ℕ) (at n parent place left : ℕ) (body : Body) → OfBody s cells n parent place body → KeepsBody deep body → left ≡ bodyCount body
+pub body-all : (s cells : List ℕ) (depth deep : ℕ) (out₀ : List ℕ) (at n parent place left : ℕ) (body : Body) → OfBody s cells n parent place body
+    → KeepsBody deep body → left ≡ bodyCount body
     → BodyLeft s cells depth deep (n + bodySize body) out₀ at body left n false out₀ at
 body-all s cells depth deep out₀ at n parent place left body of keeps few =
     record { parent = parent; place = place; more = body; of = of; keeps = keeps; few = few; total = refl; same = λ t. refl }

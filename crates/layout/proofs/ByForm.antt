@@ -8,7 +8,8 @@ use lib.ListN.{length, take, drop, length-append}
 use lib.Seq.{take-append-seam}
 use borrow.Author.Tests.{eq-eqb, ne-eqb}
 use Rattle.paper.specs.Bytes.{byte, bytes, all, startsWith}
-use Rattle.paper.specs.Values.{Piece, piecesOnto, pieceRule, piecesMean, backtickRule, collapse, Leaf, string, character, backtick, word, leafOnto, leafForm, leafRule, wordForm}
+use Rattle.paper.specs.Values.{Piece, piecesOnto, pieceRule, piecesMean, backtickRule, collapse, Leaf, string, character, backtick, word, leafOnto, leafForm}
+use Rattle.paper.specs.Values.{leafRule, wordForm}
 use Rattle.paper.specs.Canonical.{bytesOnto, lower, leafSense, printValue}
 use Rattle.paper.proofs.Tests.{true-false}
 use Rattle.paper.proofs.Lists.{both}

@@ -12,10 +12,13 @@ use Rattle.paper.specs.Bytes.{byte, bytes, all, lf}
 use Rattle.paper.specs.Names.{nameLimit}
 use Rattle.paper.specs.Values.{Value, leaf, emptyList, list, More, close, comma}
 use Rattle.paper.specs.Tree.{Blank, Trait, Marker, Line, Concept, selfClosed, children, content, Body, block, self}
-use Rattle.paper.specs.Grammar.{blankOnto, tabsOnto, markerOnto, traitOnto, traitsOnto, endingOnto, closingOnto, linesOnto, conceptOnto, bodyOnto, blankRule, markerRule, opensBlock, inMode, lineRule, conceptRule, bodyRule}
+use Rattle.paper.specs.Grammar.{blankOnto, tabsOnto, markerOnto, traitOnto, traitsOnto, endingOnto, closingOnto, linesOnto, conceptOnto, bodyOnto, blankRule}
+use Rattle.paper.specs.Grammar.{markerRule, opensBlock, inMode, lineRule, conceptRule, bodyRule}
 use Rattle.paper.specs.declared.Mode.the-variants.{Children, Content, Absent}
 use Rattle.paper.specs.Limits.{listLimit, markerFits, conceptFits, bodyFits, conceptDepth, bodyDepth}
-use Rattle.paper.specs.Entries.{Entry, unnamed, valueWidth, itemSize, itemEntries, moreEntries, traitSize, traitValue, traitEntry, traitEntries, traitsSize, conceptSize, conceptCount, bodySize, bodyCount, markerOf, conceptForm, markerName, bodyStart, conceptEntry, insideEntries, bodyEntries}
+use Rattle.paper.specs.Entries.{Entry, unnamed, valueWidth, itemSize, itemEntries, moreEntries, traitSize, traitValue, traitEntry, traitEntries, traitsSize}
+use Rattle.paper.specs.Entries.{conceptSize, conceptCount, bodySize, bodyCount, markerOf, conceptForm, markerName, bodyStart, conceptEntry, insideEntries}
+use Rattle.paper.specs.Entries.{bodyEntries}
 use Rattle.paper.specs.Canonical.{MarkerSense, markerSense, lineSense, conceptSense, bodySense, printMarker, printLines, printConcept, printBody}
 use Rattle.paper.proofs.Lists.{both}
 use Rattle.paper.proofs.Sizes.{traits-size}
@@ -33,7 +36,8 @@ use Rattle.layout.proofs.BodyLaws.{own-entry, ConceptPut}
 -- ---- the closing marker
 
 pub closing-put : (name : List ℕ) (depth : ℕ) {out a b c after : List ℕ} {at mark start end to : ℕ}
-    → Puts out at (tabsOnto depth) a mark → Puts a mark (λ next. bytes "</" ++ next) b start → Puts b start (λ next. name ++ next) c end → Puts c end (λ next. bytes ">\n" ++ next) after to
+    → Puts out at (tabsOnto depth) a mark → Puts a mark (λ next. bytes "</" ++ next) b start → Puts b start (λ next. name ++ next) c end
+    → Puts c end (λ next. bytes ">\n" ++ next) after to
     → Puts out at (λ next. tabsOnto depth (closingOnto name (lf ∷ next))) after to
 closing-put name depth p q r t =
     record { same = λ next. p .same (closingOnto name (lf ∷ next)) ∙ q .same (name ++ (byte ">" ∷ lf ∷ next)) ∙ r .same (byte ">" ∷ lf ∷ next) ∙ t .same next }
@@ -45,7 +49,8 @@ unfolding traitsIn
 traits-append [] b = omega arith
 traits-append (e ∷ a) b = go (eqb (e .kind) 2) (traits-append a b)
   where
-    go : (t : Bool) → traitsIn (a ++ b) ≡ traitsIn a + traitsIn b → pick t (suc (traitsIn (a ++ b))) (traitsIn (a ++ b)) ≡ pick t (suc (traitsIn a)) (traitsIn a) + traitsIn b
+    go : (t : Bool) → traitsIn (a ++ b) ≡ traitsIn a + traitsIn b
+        → pick t (suc (traitsIn (a ++ b))) (traitsIn (a ++ b)) ≡ pick t (suc (traitsIn a)) (traitsIn a) + traitsIn b
     go true h = omega arith
     go false h = h
 
@@ -58,14 +63,24 @@ mutual
   items-none emptyList parent next at = refl
   items-none (list v more) parent next at =
       let end = at + 1 + valueWidth v in
-      omega (arith, traits-append (itemEntries next (next + 1) (at + 1) v) (moreEntries parent (next + 1 + itemSize v) end more), items-none v next (next + 1) (at + 1), more-none more parent (next + 1 + itemSize v) end)
+      omega (
+        arith,
+        traits-append (itemEntries next (next + 1) (at + 1) v) (moreEntries parent (next + 1 + itemSize v) end more),
+        items-none v next (next + 1) (at + 1),
+        more-none more parent (next + 1 + itemSize v) end,
+      )
 
   more-none : (more : More) (parent next at : ℕ) → traitsIn (moreEntries parent next at more) ≡ 0
   more-none close parent next at = refl
   more-none (comma white v more) parent next at =
       let start = at + 1 + length white in
       let end = start + valueWidth v in
-      omega (arith, traits-append (itemEntries next (next + 1) start v) (moreEntries parent (next + 1 + itemSize v) end more), items-none v next (next + 1) start, more-none more parent (next + 1 + itemSize v) end)
+      omega (
+        arith,
+        traits-append (itemEntries next (next + 1) start v) (moreEntries parent (next + 1 + itemSize v) end more),
+        items-none v next (next + 1) start,
+        more-none more parent (next + 1 + itemSize v) end,
+      )
 
 traits-count : (ts : List Trait) (parent next at : ℕ) → traitsIn (traitEntries parent next at ts) ≡ length ts
 unfolding traitsIn traitEntries
@@ -73,7 +88,12 @@ traits-count [] parent next at = refl
 traits-count (t ∷ ts) parent next at =
     let items = itemEntries next (next + 1) (traitValue at t) (t .value) in
     let end = at + length (traitOnto t []) in
-    omega (arith, traits-append items (traitEntries parent (next + traitSize t) end ts), items-none (t .value) next (next + 1) (traitValue at t), traits-count ts parent (next + traitSize t) end)
+    omega (
+      arith,
+      traits-append items (traitEntries parent (next + traitSize t) end ts),
+      items-none (t .value) next (next + 1) (traitValue at t),
+      traits-count ts parent (next + traitSize t) end,
+    )
 
 -- the entries that are left to count: what stands from number i on
 pub record TraitsLeft (cells : List ℕ) (to : ℕ) (es : List Entry) (i count : ℕ) : Type 0 where
@@ -127,7 +147,8 @@ some-depth (content k rest lines) = omega arith
 -- the marker of entry n was put with its line end; the elements of the body from entry n on were
 abbrev pub MarkerPut : List ℕ → List ℕ → ℕ → ℕ → List ℕ → ℕ → ℕ → List ℕ → ℕ → Type 0
 MarkerPut s cells n depth out at next after to =
-    (parent place tabs : ℕ) (c : Concept) → OfConcept s cells n parent place tabs c → markerRule (markerOf c) ≡ true → markerFits nameLimit listLimit (markerOf c) ≡ true
+    (parent place tabs : ℕ) (c : Concept) → OfConcept s cells n parent place tabs c → markerRule (markerOf c) ≡ true
+    → markerFits nameLimit listLimit (markerOf c) ≡ true
     → (next ≡ n + 1 + traitsSize (markerOf c .traits)) × Puts out at (λ t. printMarker depth (markerSense (markerOf c)) (endingOf c) (lf ∷ t)) after to
 
 abbrev pub BodyPut : List ℕ → List ℕ → ℕ → ℕ → ℕ → ℕ → List ℕ → ℕ → ℕ → List ℕ → ℕ → Type 0
@@ -142,24 +163,29 @@ unfolding conceptOnto
 name-is s cells n parent place tabs c of own is =
     ap (λ (e : Entry). take (e .nameEnd - e .nameStart) (drop (e .nameStart) s)) (is ∙ own-entry s cells n parent place tabs c of) ∙ go c (of .spelt)
   where
-    go : (c : Concept) → drop place s ≡ conceptOnto tabs c (of .after) → take (markerName place (markerOf c) - (place + 1)) (drop (place + 1) s) ≡ markerOf c .name
+    go : (c : Concept) → drop place s ≡ conceptOnto tabs c (of .after)
+        → take (markerName place (markerOf c) - (place + 1)) (drop (place + 1) s) ≡ markerOf c .name
     go (selfClosed k) e = part-is s (place + 1) (markerName place k) (k .name) _ (past-bytes s place (byte "<" ∷ []) _ e) refl
     go (children k rest body back) e = part-is s (place + 1) (markerName place k) (k .name) _ (past-bytes s place (byte "<" ∷ []) _ e) refl
     go (content k rest lines) e = part-is s (place + 1) (markerName place k) (k .name) _ (past-bytes s place (byte "<" ∷ []) _ e) refl
 
 named-put : (s cells : List ℕ) (n parent place tabs : ℕ) (c : Concept) → OfConcept s cells n parent place tabs c → (own : Entry) → own ≡ entryAt cells n
     → (name : List ℕ) → name ≡ take (own .nameEnd - own .nameStart) (drop (own .nameStart) s) → (depth : ℕ) {out after : List ℕ} {at to : ℕ}
-    → Puts out at (λ t. tabsOnto depth (closingOnto name (lf ∷ t))) after to → Puts out at (λ t. tabsOnto depth (closingOnto (markerOf c .name) (lf ∷ t))) after to
+    → Puts out at (λ t. tabsOnto depth (closingOnto name (lf ∷ t))) after to
+    → Puts out at (λ t. tabsOnto depth (closingOnto (markerOf c .name) (lf ∷ t))) after to
 named-put s cells n parent place tabs c of own is name named depth closing = rw (named ∙ name-is s cells n parent place tabs c of own is) at closing
 
 -- behind the marker's line
-body-start : (s : List ℕ) (place : ℕ) (k : Marker) (rest : Blank) (after : List ℕ) → drop place s ≡ markerOnto k (endingOnto block (blankOnto rest after)) → drop (bodyStart place k rest) s ≡ after
+body-start : (s : List ℕ) (place : ℕ) (k : Marker) (rest : Blank) (after : List ℕ) → drop place s ≡ markerOnto k (endingOnto block (blankOnto rest after))
+    → drop (bodyStart place k rest) s ≡ after
 body-start s place k rest after e =
     past-front s (place + length (markerOnto k []) + 1) (blankOnto rest) after (blank-front rest)
-    (past-bytes s (place + length (markerOnto k [])) (byte ">" ∷ []) (blankOnto rest after) (past-front s place (markerOnto k) (endingOnto block (blankOnto rest after)) (marker-front k) e))
+    (past-bytes s (place + length (markerOnto k [])) (byte ">" ∷ []) (blankOnto rest after)
+    (past-front s place (markerOnto k) (endingOnto block (blankOnto rest after)) (marker-front k) e))
 
 -- the Content of a Concept, and the body of one
-content-of : (s cells : List ℕ) (n parent place tabs : ℕ) (k : Marker) (rest : Blank) (lines : List Line) → OfConcept s cells n parent place tabs (content k rest lines)
+content-of : (s cells : List ℕ) (n parent place tabs : ℕ) (k : Marker) (rest : Blank) (lines : List Line)
+    → OfConcept s cells n parent place tabs (content k rest lines)
     → OfContent s cells (n + 1 + traitsSize (k .traits)) (bodyStart place k rest) tabs lines
 unfolding conceptOnto insideEntries
 content-of s cells n parent place tabs k rest lines of =
@@ -174,7 +200,8 @@ content-of s cells n parent place tabs k rest lines of =
       stand = rw size at (stand-back cells n (own ∷ traits) _ (of .stand));
     }
 
-module _ (s cells : List ℕ) (n parent place tabs : ℕ) (k : Marker) (rest : Blank) (body : Body) (back : ℕ) (of : OfConcept s cells n parent place tabs (children k rest body back)) where
+module _ (s cells : List ℕ) (n parent place tabs : ℕ) (k : Marker) (rest : Blank) (body : Body) (back : ℕ)
+    (of : OfConcept s cells n parent place tabs (children k rest body back)) where
   -- its own entry and those of its traits
   abbrev front : List Entry
   front = conceptEntry parent place tabs (children k rest body back) ∷ traitEntries n (n + 1) (markerName place k) (k .traits)
@@ -200,12 +227,17 @@ module _ (s cells : List ℕ) (n parent place tabs : ℕ) (k : Marker) (rest : B
   -- its traits stand in front of the body
   traits-there : (Stand cells n front) × (traitsIn front ≡ length (k .traits))
   unfolding insideEntries traitsIn
-  traits-there = (stand-front cells n front (bodyEntries n (n + 1 + traitsSize (k .traits)) (bodyStart place k rest) body) (of .stand), traits-count (k .traits) n (n + 1) (markerName place k))
+  traits-there = (
+    stand-front cells n front (bodyEntries n (n + 1 + traitsSize (k .traits)) (bodyStart place k rest) body) (of .stand),
+    traits-count (k .traits) n (n + 1) (markerName place k),
+  )
 
-form-is : (s cells : List ℕ) (n parent place tabs : ℕ) (c : Concept) → OfConcept s cells n parent place tabs c → (own : Entry) → own ≡ entryAt cells n → own .form ≡ conceptForm c
+form-is : (s cells : List ℕ) (n parent place tabs : ℕ) (c : Concept) → OfConcept s cells n parent place tabs c → (own : Entry) → own ≡ entryAt cells n
+    → own .form ≡ conceptForm c
 form-is s cells n parent place tabs c of own is = ap (λ (e : Entry). e .form) (is ∙ own-entry s cells n parent place tabs c of)
 
-module _ (s cells : List ℕ) (n depth left : ℕ) {out mid marked : List ℕ} {at start next end : ℕ} (tabbed : Puts out at (tabsOnto depth) mid start) (marker : MarkerPut s cells n depth mid start next marked end) (own : Entry) (is : own ≡ entryAt cells n) where
+module _ (s cells : List ℕ) (n depth left : ℕ) {out mid marked : List ℕ} {at start next end : ℕ} (tabbed : Puts out at (tabsOnto depth) mid start)
+    (marker : MarkerPut s cells n depth mid start next marked end) (own : Entry) (is : own ≡ entryAt cells n) where
   closed-one : (parent place tabs : ℕ) (k : Marker) → OfConcept s cells n parent place tabs (selfClosed k) → Keeps left (selfClosed k)
       → (next ≡ n + conceptSize (selfClosed k)) × Puts out at (λ t. tabsOnto depth (printConcept depth (conceptSense (selfClosed k)) (lf ∷ t))) marked end
   unfolding conceptSize conceptSense printConcept conceptRule conceptFits
@@ -216,15 +248,21 @@ module _ (s cells : List ℕ) (n depth left : ℕ) {out mid marked : List ℕ} {
   pub closed-put : (own .form ≡ 2 → ⊥) → (own .form ≡ 3 → ⊥) → ConceptPut s cells n depth left out at next marked end
   closed-put f g parent place tabs c of keeps = go c of keeps
     where
-      go : (c : Concept) → OfConcept s cells n parent place tabs c → Keeps left c → (next ≡ n + conceptSize c) × Puts out at (λ t. tabsOnto depth (printConcept depth (conceptSense c) (lf ∷ t))) marked end
+      go : (c : Concept) → OfConcept s cells n parent place tabs c → Keeps left c
+          → (next ≡ n + conceptSize c) × Puts out at (λ t. tabsOnto depth (printConcept depth (conceptSense c) (lf ∷ t))) marked end
       go (selfClosed k) of keeps = closed-one parent place tabs k of keeps
       go (children k rest body back) of keeps = absurd (f (form-is s cells n parent place tabs (children k rest body back) of own is))
       go (content k rest lines) of keeps = absurd (g (form-is s cells n parent place tabs (content k rest lines) of own is))
 
-  module _ {inner after : List ℕ} {last to : ℕ} (deeper : ℕ) (one-deeper : deeper ≡ suc depth) (name : List ℕ) (named : name ≡ take (own .nameEnd - own .nameStart) (drop (own .nameStart) s)) (closing : Puts inner last (λ t. tabsOnto depth (closingOnto name (lf ∷ t))) after to) where
-    module _ {behind : ℕ} (content′ : (place t : ℕ) (ls : List Line) → OfContent s cells next place t ls → all lineRule ls ≡ true → (behind ≡ next + 1) × Puts marked end (printLines deeper (map lineSense ls)) inner last) where
-      content-one : (parent place tabs : ℕ) (k : Marker) (rest : Blank) (lines : List Line) → OfConcept s cells n parent place tabs (content k rest lines) → Keeps left (content k rest lines)
-          → (behind ≡ n + conceptSize (content k rest lines)) × Puts out at (λ t. tabsOnto depth (printConcept depth (conceptSense (content k rest lines)) (lf ∷ t))) after to
+  module _ {inner after : List ℕ} {last to : ℕ} (deeper : ℕ) (one-deeper : deeper ≡ suc depth) (name : List ℕ)
+      (named : name ≡ take (own .nameEnd - own .nameStart) (drop (own .nameStart) s))
+      (closing : Puts inner last (λ t. tabsOnto depth (closingOnto name (lf ∷ t))) after to) where
+    module _ {behind : ℕ} (content′ : (place t : ℕ) (ls : List Line) → OfContent s cells next place t ls → all lineRule ls ≡ true → (behind ≡ next + 1) × Puts
+        marked end (printLines deeper (map lineSense ls)) inner last) where
+      content-one : (parent place tabs : ℕ) (k : Marker) (rest : Blank) (lines : List Line) → OfConcept s cells n parent place tabs (content k rest lines)
+          → Keeps left (content k rest lines)
+          → (behind ≡ n + conceptSize (content k rest lines))
+          × Puts out at (λ t. tabsOnto depth (printConcept depth (conceptSense (content k rest lines)) (lf ∷ t))) after to
       unfolding conceptSize conceptSense printConcept conceptRule conceptFits
       content-one parent place tabs k rest lines of keeps =
           let r = element-parts (markerRule k) (opensBlock k) (blankRule rest) (all lineRule lines) (keeps .rule) in
@@ -245,24 +283,33 @@ module _ (s cells : List ℕ) (n depth left : ℕ) {out mid marked : List ℕ} {
       pub content-put : own .form ≡ 3 → ConceptPut s cells n depth left out at behind after to
       content-put f parent place tabs c of keeps = go c of keeps
         where
-          go : (c : Concept) → OfConcept s cells n parent place tabs c → Keeps left c → (behind ≡ n + conceptSize c) × Puts out at (λ t. tabsOnto depth (printConcept depth (conceptSense c) (lf ∷ t))) after to
+          go : (c : Concept) → OfConcept s cells n parent place tabs c → Keeps left c
+              → (behind ≡ n + conceptSize c) × Puts out at (λ t. tabsOnto depth (printConcept depth (conceptSense c) (lf ∷ t))) after to
           go (selfClosed k) of keeps = absurd (omega (arith, f, form-is s cells n parent place tabs (selfClosed k) of own is))
           go (children k rest body back) of keeps = absurd (omega (arith, f, form-is s cells n parent place tabs (children k rest body back) of own is))
           go (content k rest lines) of keeps = content-one parent place tabs k rest lines of keeps
 
-    module _ {behind : ℕ} (elements : ℕ) (counted : Elements cells n next elements) (fewer : ℕ) (less : left ≡ suc fewer) (body′ : BodyPut s cells next elements deeper fewer marked end behind inner last) where
-      children-one : (parent place tabs : ℕ) (k : Marker) (rest : Blank) (body : Body) (back : ℕ) → OfConcept s cells n parent place tabs (children k rest body back) → Keeps left (children k rest body back)
-          → (behind ≡ n + conceptSize (children k rest body back)) × Puts out at (λ t. tabsOnto depth (printConcept depth (conceptSense (children k rest body back)) (lf ∷ t))) after to
+    module _ {behind : ℕ} (elements : ℕ) (counted : Elements cells n next elements) (fewer : ℕ) (less : left ≡ suc fewer)
+        (body′ : BodyPut s cells next elements deeper fewer marked end behind inner last) where
+      children-one : (parent place tabs : ℕ) (k : Marker) (rest : Blank) (body : Body) (back : ℕ)
+          → OfConcept s cells n parent place tabs (children k rest body back) → Keeps left (children k rest body back)
+          → (behind ≡ n + conceptSize (children k rest body back))
+          × Puts out at (λ t. tabsOnto depth (printConcept depth (conceptSense (children k rest body back)) (lf ∷ t))) after to
       unfolding conceptSize conceptSense printConcept conceptRule conceptFits conceptDepth
       children-one parent place tabs k rest body back of keeps =
           let r = element-parts (markerRule k) (opensBlock k) (blankRule rest) (bodyRule body) (keeps .rule) in
           let w = both (markerFits nameLimit listLimit k) (bodyFits nameLimit listLimit body) (keeps .within) in
           let p = marker parent place tabs (children k rest body back) of (r .0) (w .0) in
           let there = traits-there s cells n parent place tabs k rest body back of in
-          let far : next ≡ n + length (front s cells n parent place tabs k rest body back of) = p .0 ∙ sym (size s cells n parent place tabs k rest body back of) in
+          let far : next ≡ n + length (front s cells n parent place tabs k rest body back of) =
+          p .0 ∙ sym (size s cells n parent place tabs k rest body back of) in
           let count = ap (λ (e : Entry). e .count) (own-entry s cells n parent place tabs (children k rest body back) of) in
-          let few : elements ≡ bodyCount body = omega (arith, counted (front s cells n parent place tabs k rest body back of) (there .0) far, count, there .1) in
-          let q = body′ n (bodyStart place k rest) body (rw (p .0) (body-of s cells n parent place tabs k rest body back of)) (record { rule = r .3; within = w .1; deep = omega (arith, keeps .deep) }) (rw (p .0) (body-ended s cells n parent place tabs k rest body back of)) few in
+          let few : elements ≡ bodyCount body =
+          omega (arith, counted (front s cells n parent place tabs k rest body back of) (there .0) far, count, there .1) in
+          let q =
+          body′ n (bodyStart place k rest) body (rw (p .0) (body-of s cells n parent place tabs k rest body back of))
+          (record { rule = r .3; within = w .1; deep = omega (arith, keeps .deep) })
+          (rw (p .0) (body-ended s cells n parent place tabs k rest body back of)) few in
           let close = named-put s cells n parent place tabs (children k rest body back) of own is name named depth closing in (
             omega (arith, p .0, q .0),
             record {
@@ -278,7 +325,8 @@ module _ (s cells : List ℕ) (n depth left : ℕ) {out mid marked : List ℕ} {
       pub children-put : own .form ≡ 2 → ConceptPut s cells n depth left out at behind after to
       children-put f parent place tabs c of keeps = go c of keeps
         where
-          go : (c : Concept) → OfConcept s cells n parent place tabs c → Keeps left c → (behind ≡ n + conceptSize c) × Puts out at (λ t. tabsOnto depth (printConcept depth (conceptSense c) (lf ∷ t))) after to
+          go : (c : Concept) → OfConcept s cells n parent place tabs c → Keeps left c
+              → (behind ≡ n + conceptSize c) × Puts out at (λ t. tabsOnto depth (printConcept depth (conceptSense c) (lf ∷ t))) after to
           go (selfClosed k) of keeps = absurd (omega (arith, f, form-is s cells n parent place tabs (selfClosed k) of own is))
           go (children k rest body back) of keeps = children-one parent place tabs k rest body back of keeps
           go (content k rest lines) of keeps = absurd (omega (arith, f, form-is s cells n parent place tabs (content k rest lines) of own is))

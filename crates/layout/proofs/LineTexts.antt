@@ -60,18 +60,22 @@ module _ (line : List ℕ) (cut tabs : ℕ) {out after : List ℕ} {at to : ℕ}
   pub short-put : length line ≤ cut → Puts out at (λ next. lf ∷ next) after to → Puts out at (printLine tabs (inked (drop cut line))) after to
   short-put h p = empty-put (ap (all isBlank) (drop-of-length-le line h) ∙ all-nil isBlank) p
 
-  pub blank-put : (end : ℕ) → Stretch isBlank line cut end → end ≡ length line → Puts out at (λ next. lf ∷ next) after to → Puts out at (printLine tabs (inked (drop cut line))) after to
+  pub blank-put : (end : ℕ) → Stretch isBlank line cut end → end ≡ length line → Puts out at (λ next. lf ∷ next) after to
+      → Puts out at (printLine tabs (inked (drop cut line))) after to
   blank-put end run e p =
       let whole : lengthIn isBlank (drop cut line) ≡ length (drop cut line) = omega (arith, run .0, length-drop cut line) in
       empty-put (all-front isBlank (drop cut line) whole) p
 
   pub text-put : (end : ℕ) → Stretch isBlank line cut end → (end ≡ length line → ⊥) → cut < length line → {mid more : List ℕ} {start past : ℕ}
-      → Puts out at (tabsOnto tabs) mid start → Puts mid start (λ next. take (length line - cut) (drop cut line) ++ next) more past → Puts more past (λ next. lf ∷ next) after to
+      → Puts out at (tabsOnto tabs) mid start → Puts mid start (λ next. take (length line - cut) (drop cut line) ++ next) more past
+      → Puts more past (λ next. lf ∷ next) after to
       → Puts out at (printLine tabs (inked (drop cut line))) after to
   text-put end run n h {mid} {start = start} f g k =
-      let ink : all isBlank (drop cut line) ≡ false = split (all isBlank (drop cut line)) (λ a. absurd (n (omega (arith, run .0, front-whole isBlank (drop cut line) a, length-drop cut line)))) (λ a. a) in
+      let ink : all isBlank (drop cut line) ≡ false =
+      split (all isBlank (drop cut line)) (λ a. absurd (n (omega (arith, run .0, front-whole isBlank (drop cut line) a, length-drop cut line)))) (λ a. a) in
       let some : 0 < length (drop cut line) = omega (arith, length-drop cut line) in
-      let whole : take (length line - cut) (drop cut line) ≡ drop cut line = take-all (length line - cut) (drop cut line) (omega (arith, length-drop cut line)) in
+      let whole : take (length line - cut) (drop cut line) ≡ drop cut line =
+      take-all (length line - cut) (drop cut line) (omega (arith, length-drop cut line)) in
       record {
         same = λ next.
             ap (λ (t : List ℕ). page out at (printLine tabs t next)) (all-ink (drop cut line) ink)
@@ -81,14 +85,16 @@ module _ (line : List ℕ) (cut tabs : ℕ) {out after : List ℕ} {at to : ℕ}
 
 -- ---- the line end behind a line
 
-pub after-crlf : (s : List ℕ) (at : ℕ) → startsWith (cr ∷ []) (drop at s) ≡ true → (e : LineEnd) (next : List ℕ) → drop at s ≡ lineEndOnto e next → drop (at + 2) s ≡ next
+pub after-crlf : (s : List ℕ) (at : ℕ) → startsWith (cr ∷ []) (drop at s) ≡ true → (e : LineEnd) (next : List ℕ) → drop at s ≡ lineEndOnto e next
+    → drop (at + 2) s ≡ next
 unfolding startsWith
 after-crlf s at f LF next e = true-false (sym (rw e at f))
 after-crlf s at f CRLF next e =
     let two : at + 1 + 1 ≡ at + 2 = omega arith in
     ap (λ (n : ℕ). drop n s) (sym two) ∙ sym (front-behind s (at + 1) lf next (sym (front-behind s at cr (lf ∷ next) e)))
 
-pub after-lf : (s : List ℕ) (at : ℕ) → startsWith (cr ∷ []) (drop at s) ≡ false → (e : LineEnd) (next : List ℕ) → drop at s ≡ lineEndOnto e next → drop (at + 1) s ≡ next
+pub after-lf : (s : List ℕ) (at : ℕ) → startsWith (cr ∷ []) (drop at s) ≡ false → (e : LineEnd) (next : List ℕ) → drop at s ≡ lineEndOnto e next
+    → drop (at + 1) s ≡ next
 unfolding startsWith
 after-lf s at f LF next e = sym (front-behind s at lf next e)
 after-lf s at f CRLF next e = true-false (rw e at f)
@@ -151,8 +157,12 @@ line-put : (w : List ℕ) (i t cut tabs : ℕ) {out after : List ℕ} {to past :
 line-put w i t cut tabs {out} {to = to} end n c run f p l left e r =
     let x = shape t l left r in
     let whole = e ∙ x .is in
-    let front : take (end - i) (drop i w) ≡ x .front-bytes = sym (front-at isText w i end run) ∙ ap (front isText) whole ∙ front-of isText (x .front-bytes) (lineEndOnto (x .end) left) (x .on-line) (end-stops (x .end) left) in
-    let back : drop end w ≡ lineEndOnto (x .end) left = sym (behind-at isText w i end run) ∙ ap (behind isText) whole ∙ behind-of isText (x .front-bytes) (lineEndOnto (x .end) left) (x .on-line) (end-stops (x .end) left) in
+    let front : take (end - i) (drop i w) ≡ x .front-bytes =
+    sym (front-at isText w i end run) ∙ ap (front isText) whole
+    ∙ front-of isText (x .front-bytes) (lineEndOnto (x .end) left) (x .on-line) (end-stops (x .end) left) in
+    let back : drop end w ≡ lineEndOnto (x .end) left =
+    sym (behind-at isText w i end run) ∙ ap (behind isText) whole
+    ∙ behind-of isText (x .front-bytes) (lineEndOnto (x .end) left) (x .on-line) (end-stops (x .end) left) in
     let sense : inked (drop cut (take (end - i) (drop i w))) ≡ lineSense l = rw (front, c) (x .means) in
     (f (x .end) left back, rw sense at p)
 
@@ -162,7 +172,8 @@ end-longer CRLF next = omega arith
 
 pub line-longer : (t : ℕ) (l : Line) (next : List ℕ) → length next < length (lineOnto t l next)
 line-longer t (blank b) next = omega (arith, length-append (b .blanks) (lineEndOnto (b .end) next), end-longer (b .end) next)
-line-longer t (text w e) next = omega (arith, length-append (replicate (suc t) tab) (w ++ lineEndOnto e next), length-append w (lineEndOnto e next), end-longer e next)
+line-longer t (text w e) next =
+    omega (arith, length-append (replicate (suc t) tab) (w ++ lineEndOnto e next), length-append w (lineEndOnto e next), end-longer e next)
 
 -- lines one behind the other, put at so many tabs
 unfoldable pub lineRun : ℕ → ℕ → Sequence Line
@@ -221,6 +232,7 @@ module _ (s cells : List ℕ) (n place t : ℕ) (ls : List Line) (of : OfContent
   unfolding startsIn
   content-tabs tabs cut e f =
       let end : drop (own .end) s ≡ tabsOnto t (closingOnto (of .name) (of .after)) =
-      ap (λ (e : Entry). drop (e .end) s) content-entry ∙ past-front s place (linesOnto t ls) (tabsOnto t (closingOnto (of .name) (of .after))) (lines-front t ls) (of .spelt) in
+      ap (λ (e : Entry). drop (e .end) s) content-entry
+      ∙ past-front s place (linesOnto t ls) (tabsOnto t (closingOnto (of .name) (of .after))) (lines-front t ls) (of .spelt) in
       let many : tabs ≡ t = e ∙ ap (lengthIn isTab) end ∙ tabs-length t (closingOnto (of .name) (of .after)) refl in
       omega arith

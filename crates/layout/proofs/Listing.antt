@@ -10,7 +10,8 @@ use lib.Dec.{ltb}
 use borrow.Author.Tests.{lt-ltb}
 use Rattle.paper.specs.Found.{pick}
 use Rattle.paper.specs.Bytes.{byte, space, isWhite, all}
-use Rattle.paper.specs.Values.{Leaf, string, character, backtick, word, leafOnto, leafForm, leafRule, Value, leaf, emptyList, list, More, close, comma, valueOnto, moreOnto, spelling, valueForm, valueRule, moreRule, listEnders, listDepth, moreDepth}
+use Rattle.paper.specs.Values.{Leaf, string, character, backtick, word, leafOnto, leafForm, leafRule, Value, leaf, emptyList, list, More, close, comma}
+use Rattle.paper.specs.Values.{valueOnto, moreOnto, spelling, valueForm, valueRule, moreRule, listEnders, listDepth, moreDepth}
 use Rattle.paper.specs.Entries.{Entry, itemEntry, itemEntries, moreEntries, itemsOf, moreItems, itemSize, moreSize, valueWidth}
 use Rattle.paper.specs.Canonical.{ItemsSense, none, item, leafSense, valueSense, moreSense, printValue, printItems, printBehind}
 use Rattle.paper.proofs.Lists.{both}

@@ -11,9 +11,11 @@ use Rattle.paper.specs.Bytes.{byte, bytes, lf, space, isUpper, isWhite, all}
 use Rattle.paper.specs.Names.{nameLimit, nameRule}
 use Rattle.paper.specs.Values.{spelling, endsInSlash}
 use Rattle.paper.specs.Tree.{Trait, Marker, Concept, selfClosed, children, content, Body, done, blankLine, element, Ending, block, self}
-use Rattle.paper.specs.Grammar.{traitOnto, traitsOnto, markerOnto, endingOnto, tabsOnto, blankOnto, conceptOnto, traitRule, markerRule, bodyOnto, closingOnto, linesOnto}
+use Rattle.paper.specs.Grammar.{traitOnto, traitsOnto, markerOnto, endingOnto, tabsOnto, blankOnto, conceptOnto, traitRule, markerRule, bodyOnto, closingOnto}
+use Rattle.paper.specs.Grammar.{linesOnto}
 use Rattle.paper.specs.Limits.{listLimit, traitFits, markerFits}
-use Rattle.paper.specs.Entries.{Entry, unnamed, traitSize, traitsSize, traitEntries, annotationEntries, conceptSize, bodySize, conceptForm, conceptEntry, markerOf, markerName, bodyStart, insideEntries, bodyEntries}
+use Rattle.paper.specs.Entries.{Entry, unnamed, traitSize, traitsSize, traitEntries, annotationEntries, conceptSize, bodySize, conceptForm, conceptEntry}
+use Rattle.paper.specs.Entries.{markerOf, markerName, bodyStart, insideEntries, bodyEntries}
 use Rattle.paper.specs.Canonical.{TraitSense, MarkerSense, markerSense, printTrait, printBeside, printBelow, printMarker, lastInSlash, spaced}
 use Rattle.paper.proofs.Tests.{true-false}
 use Rattle.paper.proofs.Lists.{both, all-head}

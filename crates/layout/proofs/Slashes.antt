@@ -8,7 +8,8 @@ use lib.ListN.{length, getD}
 use lib.Dec.{eqb}
 use borrow.Author.Tests.{ne-eqb}
 use Rattle.paper.specs.Bytes.{byte, isUpper}
-use Rattle.paper.specs.Values.{Piece, piecesOnto, string, character, backtick, word, leafOnto, Value, leaf, emptyList, list, More, close, comma, valueOnto, moreOnto, spelling, endsInSlash}
+use Rattle.paper.specs.Values.{Piece, piecesOnto, string, character, backtick, word, leafOnto, Value, leaf, emptyList, list, More, close, comma, valueOnto}
+use Rattle.paper.specs.Values.{moreOnto, spelling, endsInSlash}
 use Rattle.paper.specs.Tree.{Trait}
 use Rattle.paper.specs.Canonical.{TraitSense, lower, leafSense, valueSense, senseInSlash, lastInSlash}
 use Rattle.paper.proofs.Tests.{split, in-range}

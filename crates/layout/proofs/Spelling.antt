@@ -9,7 +9,8 @@ use lib.Seq.{take-append-seam, drop-append-seam, drop-drop}
 use lib.Dec.{eqb, leb, ltb}
 use borrow.Author.Tests.{ne-eqb, eqb-true, eq-eqb, leb-true, le-leb, lt-leb}
 use Rattle.paper.specs.Bytes.{byte, bytes, isDigit, isHex, isScalar, all, elem, startsWith, startsIn, lengthIn, encode, within, lf, cr, tab}
-use Rattle.paper.specs.Values.{Piece, direct, escaped, four, braces, pieceOnto, piecesOnto, pieceRule, pieceMeans, piecesMean, letterMeans, hexValue, spellsScalar}
+use Rattle.paper.specs.Values.{Piece, direct, escaped, four, braces, pieceOnto, piecesOnto, pieceRule, pieceMeans, piecesMean, letterMeans, hexValue}
+use Rattle.paper.specs.Values.{spellsScalar}
 use Rattle.paper.specs.Canonical.{hexOnto, byteOnto, bytesOnto}
 use Rattle.paper.proofs.Tests.{true-false, split}
 use Rattle.text.proofs.Places.{here, front-behind}
@@ -83,7 +84,8 @@ pub bytes-one : (quote a : ℕ) {out after : List ℕ} {at to : ℕ} → Puts ou
 unfolding bytesOnto
 bytes-one quote a h = record { same = h .same }
 
-pub bytes-more : (quote a : ℕ) (l : List ℕ) {out mid after : List ℕ} {at to end : ℕ} → Puts out at (byteOnto quote a) mid to → Puts mid to (bytesOnto quote l) after end → Puts out at (bytesOnto quote (a ∷ l)) after end
+pub bytes-more : (quote a : ℕ) (l : List ℕ) {out mid after : List ℕ} {at to end : ℕ} → Puts out at (byteOnto quote a) mid to
+    → Puts mid to (bytesOnto quote l) after end → Puts out at (bytesOnto quote (a ∷ l)) after end
 unfolding bytesOnto
 bytes-more quote a l h k = record { same = λ next. h .same (bytesOnto quote l next) ∙ k .same next }
 
@@ -112,7 +114,8 @@ module _ (quote : ℕ) (left : List ℕ) where
         true-false (sym (rw (e, q) at r))
 
     -- a backslash and a byte other than "u"
-    pub letter-here : (b : ℕ) (l : List ℕ) (p : Piece) → byte "\\" ∷ b ∷ l ≡ pieceOnto p left → pieceRule quote p ≡ true → eqb b (byte "u") ≡ false → (l ≡ left) × (pieceMeans p ≡ letterMeans b ∷ [])
+    pub letter-here : (b : ℕ) (l : List ℕ) (p : Piece) → byte "\\" ∷ b ∷ l ≡ pieceOnto p left → pieceRule quote p ≡ true → eqb b (byte "u") ≡ false
+        → (l ≡ left) × (pieceMeans p ≡ letterMeans b ∷ [])
     unfolding pieceOnto pieceMeans
     letter-here b l (direct c) e r h = let z : c ≡ byte "\\" = cc in no-backslash c z r
     letter-here b l (escaped c) e r h = (cc, cc)
@@ -142,7 +145,8 @@ module _ (quote : ℕ) (left : List ℕ) where
         let z : d ≡ byte "{" = cc in
         true-false (sym (rw z at (both (all isHex (d ∷ ds)) (isScalar (hexValue 0 (d ∷ ds))) (both (eqb (length (d ∷ ds)) 4) (spellsScalar (d ∷ ds)) r .1) .0)))
 
-    pub braces-here : (l : List ℕ) (p : Piece) → byte "\\" ∷ byte "u" ∷ byte "{" ∷ l ≡ pieceOnto p left → pieceRule quote p ≡ true → Digits 6 l p (byte "}" ∷ left)
+    pub braces-here : (l : List ℕ) (p : Piece) → byte "\\" ∷ byte "u" ∷ byte "{" ∷ l ≡ pieceOnto p left → pieceRule quote p ≡ true
+        → Digits 6 l p (byte "}" ∷ left)
     unfolding pieceOnto pieceMeans pieceRule spellsScalar startsIn isHex isDigit
     braces-here l (direct c) e r = let z : c ≡ byte "\\" = cc in no-backslash c z r
     braces-here l (escaped c) e r = let z : c ≡ byte "u" = cc in no-u c z r
@@ -157,7 +161,8 @@ module _ (quote : ℕ) (left : List ℕ) where
         in-six : (n : ℕ) → within 1 6 n ≡ true → n ≤ 6
         in-six n e = leb-true n 6 (both (leb 1 n) (leb n 6) e .1)
 
-    pub four-here : (l : List ℕ) (p : Piece) → byte "\\" ∷ byte "u" ∷ l ≡ pieceOnto p left → pieceRule quote p ≡ true → startsWith (bytes "{") l ≡ false → Digits 4 l p left
+    pub four-here : (l : List ℕ) (p : Piece) → byte "\\" ∷ byte "u" ∷ l ≡ pieceOnto p left → pieceRule quote p ≡ true → startsWith (bytes "{") l ≡ false
+        → Digits 4 l p left
     unfolding pieceOnto pieceMeans pieceRule spellsScalar startsWith
     four-here l (direct c) e r f = let z : c ≡ byte "\\" = cc in no-backslash c z r
     four-here l (escaped c) e r f = let z : c ≡ byte "u" = cc in no-u c z r
@@ -193,7 +198,8 @@ pieceRun quote =
 -- the piece that stands at a place was put, and the spelling goes on at another
 abbrev pub Put : ℕ → List ℕ → ℕ → List ℕ → ℕ → ℕ → List ℕ → ℕ → Type 0
 Put quote w i out to n after end =
-    (p : Piece) (left : List ℕ) → drop i w ≡ pieceOnto p left → pieceRule quote p ≡ true → (drop n w ≡ left) × Puts out to (bytesOnto quote (pieceMeans p)) after end
+    (p : Piece) (left : List ℕ) → drop i w ≡ pieceOnto p left → pieceRule quote p ≡ true
+    → (drop n w ≡ left) × Puts out to (bytesOnto quote (pieceMeans p)) after end
 
 module _ (quote : ℕ) (w out₀ : List ℕ) (at : ℕ) (ps : List Piece) where
   pub rest-all : w ≡ piecesOnto ps [] → all (pieceRule quote) ps ≡ true → Left (pieceRun quote) w out₀ at ps 0 out₀ at
@@ -216,14 +222,16 @@ unfolding spellsScalar
 spelt-small digits e = byScalar (hexValue 0 digits) (both (all isHex digits) (isScalar (hexValue 0 digits)) e .1) (λ h. omega arith) (λ l h. h)
 
 -- the digits at a place, put
-pub digits-put : (quote : ℕ) (w digits left out after : List ℕ) (at most to end : ℕ) → drop at w ≡ digits ++ left → spellsScalar digits ≡ true → min most (lengthIn isHex (digits ++ left)) ≡ length digits
+pub digits-put : (quote : ℕ) (w digits left out after : List ℕ) (at most to end : ℕ) → drop at w ≡ digits ++ left → spellsScalar digits ≡ true
+    → min most (lengthIn isHex (digits ++ left)) ≡ length digits
     → (end′ v : ℕ) → end′ ≡ at + min most (lengthIn isHex (drop at w)) → v ≡ hexValue 0 (take (end′ - at) (drop at w))
     → (v ≤ 0x10FFFF → Puts out to (bytesOnto quote (encode v)) after end)
     → (drop end′ w ≡ left) × Puts out to (bytesOnto quote (encode (hexValue 0 digits))) after end
 digits-put quote w digits left out after at most to end e s m n v f g p =
     let size : n ≡ at + length digits = f ∙ ap (λ (l : List ℕ). at + min most (lengthIn isHex l)) e ∙ ap (λ (k : ℕ). at + k) m in
     let less : n - at ≡ length digits = omega arith in
-    let same : v ≡ hexValue 0 digits = g ∙ ap (hexValue 0) (ap (λ (k : ℕ). take k (drop at w)) less ∙ ap (take (length digits)) e ∙ take-append-seam digits left) in
+    let same : v ≡ hexValue 0 digits =
+    g ∙ ap (hexValue 0) (ap (λ (k : ℕ). take k (drop at w)) less ∙ ap (take (length digits)) e ∙ take-append-seam digits left) in
     let small : v ≤ 0x10FFFF = rw same (spelt-small digits s) in (
       ap (λ (k : ℕ). drop k w) size ∙ sym (drop-drop (length digits) at w) ∙ ap (drop (length digits)) e ∙ drop-append-seam digits left,
       rw same at (p small),
@@ -246,7 +254,8 @@ unfolding startsWith
 no-brace-there l e = e
 
 module _ (quote : ℕ) (w : List ℕ) (at : ℕ) (out after : List ℕ) (to end : ℕ) where
-  pub put-itself : at < length w → (getD w at 0 ≡ byte "\\" → ⊥) → Puts out to (byteOnto quote (getD w at 0)) after end → Put quote w at out to (at + 1) after end
+  pub put-itself : at < length w → (getD w at 0 ≡ byte "\\" → ⊥) → Puts out to (byteOnto quote (getD w at 0)) after end
+      → Put quote w at out to (at + 1) after end
   put-itself h n p piece left e r =
       let i = itself quote left (getD w at 0) (drop (at + 1) w) piece (sym (here w at h) ∙ e) (ne-eqb (getD w at 0) (byte "\\") n) in
       (i .0, rw (i .1) (bytes-one quote (getD w at 0) p))
@@ -257,26 +266,35 @@ module _ (quote : ℕ) (w : List ℕ) (at : ℕ) (out after : List ℕ) (to end 
     put-letter h b s x m p piece left e r =
         let h′ : at < length w = omega arith in
         let two : at + 1 + 1 ≡ at + 2 = omega arith in
-        let front : drop at w ≡ byte "\\" ∷ getD w (at + 1) 0 ∷ drop (at + 2) w = here w at h′ ∙ ap (λ (k : ℕ). k ∷ drop (at + 1) w) b ∙ ap (λ (l : List ℕ). byte "\\" ∷ l) (here w (at + 1) h ∙ ap (λ (k : ℕ). getD w (at + 1) 0 ∷ drop k w) two) in
-        let i = letter-here quote left small (getD w (at + 1) 0) (drop (at + 2) w) piece (sym front ∙ e) r (no-u-there (getD w (at + 1) 0) (drop (at + 2) w) (rw front at s)) in
+        let front : drop at w ≡ byte "\\" ∷ getD w (at + 1) 0 ∷ drop (at + 2) w =
+        here w at h′ ∙ ap (λ (k : ℕ). k ∷ drop (at + 1) w) b
+        ∙ ap (λ (l : List ℕ). byte "\\" ∷ l) (here w (at + 1) h ∙ ap (λ (k : ℕ). getD w (at + 1) 0 ∷ drop k w) two) in
+        let i =
+        letter-here quote left small (getD w (at + 1) 0) (drop (at + 2) w) piece (sym front ∙ e) r
+        (no-u-there (getD w (at + 1) 0) (drop (at + 2) w) (rw front at s)) in
         (i .0, rw (i .1, ← m) (bytes-one quote x p))
 
     pub put-cut : at < length w → length w - at < 2 → getD w at 0 ≡ byte "\\" → (n : ℕ) → Put quote w at out to n after end
     put-cut h s b n piece left e r =
         let over : length w ≤ at + 1 = omega arith in
-        let front : drop at w ≡ byte "\\" ∷ [] = here w at h ∙ ap (λ (k : ℕ). k ∷ drop (at + 1) w) b ∙ ap (λ (l : List ℕ). byte "\\" ∷ l) (drop-of-length-le w over) in
+        let front : drop at w ≡ byte "\\" ∷ [] =
+        here w at h ∙ ap (λ (k : ℕ). k ∷ drop (at + 1) w) b ∙ ap (λ (l : List ℕ). byte "\\" ∷ l) (drop-of-length-le w over) in
         no-piece quote left small piece (sym front ∙ e) r
 
-    pub put-braces : startsWith (bytes "\\u{") (drop at w) ≡ true → (n : ℕ) → Spelt quote w (at + 3) 6 out to n after end → Put quote w at out to (n + 1) after end
+    pub put-braces : startsWith (bytes "\\u{") (drop at w) ≡ true → (n : ℕ) → Spelt quote w (at + 3) 6 out to n after end
+        → Put quote w at out to (n + 1) after end
     put-braces s n f piece left e r =
-        let front : drop at w ≡ byte "\\" ∷ byte "u" ∷ byte "{" ∷ drop (at + 3) w = starts-is (bytes "\\u{") (drop at w) s ∙ ap (λ (l : List ℕ). byte "\\" ∷ byte "u" ∷ byte "{" ∷ l) (drop-drop 3 at w) in
+        let front : drop at w ≡ byte "\\" ∷ byte "u" ∷ byte "{" ∷ drop (at + 3) w =
+        starts-is (bytes "\\u{") (drop at w) s ∙ ap (λ (l : List ℕ). byte "\\" ∷ byte "u" ∷ byte "{" ∷ l) (drop-drop 3 at w) in
         let d = braces-here quote left small (drop (at + 3) w) piece (sym front ∙ e) r in
         let got = f (d .digits) (byte "}" ∷ left) (d .here) (d .spells) (d .many) in
         (sym (front-behind w n (byte "}") left (got .0)), rw (d .means) (got .1))
 
-    pub put-four : startsWith (bytes "\\u{") (drop at w) ≡ false → startsWith (bytes "\\u") (drop at w) ≡ true → (n : ℕ) → Spelt quote w (at + 2) 4 out to n after end → Put quote w at out to n after end
+    pub put-four : startsWith (bytes "\\u{") (drop at w) ≡ false → startsWith (bytes "\\u") (drop at w) ≡ true → (n : ℕ)
+        → Spelt quote w (at + 2) 4 out to n after end → Put quote w at out to n after end
     put-four off s n f piece left e r =
-        let front : drop at w ≡ byte "\\" ∷ byte "u" ∷ drop (at + 2) w = starts-is (bytes "\\u") (drop at w) s ∙ ap (λ (l : List ℕ). byte "\\" ∷ byte "u" ∷ l) (drop-drop 2 at w) in
+        let front : drop at w ≡ byte "\\" ∷ byte "u" ∷ drop (at + 2) w =
+        starts-is (bytes "\\u") (drop at w) s ∙ ap (λ (l : List ℕ). byte "\\" ∷ byte "u" ∷ l) (drop-drop 2 at w) in
         let d = four-here quote left small (drop (at + 2) w) piece (sym front ∙ e) r (no-brace-there (drop (at + 2) w) (rw front at off)) in
         let got = f (d .digits) left (d .here) (d .spells) (d .many) in
         (got .0, rw (d .means) (got .1))

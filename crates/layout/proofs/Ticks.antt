@@ -11,7 +11,8 @@ use lib.Dec.{eqb}
 use borrow.Author.Tests.{eqb-true}
 use Rattle.paper.specs.Found.{pick}
 use Rattle.paper.specs.Bytes.{byte, bytes, space, isWhite, startsWith}
-use Rattle.paper.specs.Values.{Piece, direct, escaped, four, braces, pieceOnto, piecesOnto, pieceMeans, piecesMean, letterMeans, backtickRule, collapse, collapseOn}
+use Rattle.paper.specs.Values.{Piece, direct, escaped, four, braces, pieceOnto, piecesOnto, pieceMeans, piecesMean, letterMeans, backtickRule, collapse}
+use Rattle.paper.specs.Values.{collapseOn}
 use Rattle.paper.specs.Canonical.{byteOnto, bytesOnto}
 use Rattle.paper.proofs.Tests.{true-false}
 use Rattle.paper.proofs.Lists.{both, starts-is}

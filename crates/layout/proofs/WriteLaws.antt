@@ -21,7 +21,8 @@ use Rattle.paper.specs.Modes.{Modes, modeTable}
 use Rattle.paper.specs.Tree.{Sheet}
 use Rattle.paper.specs.Grammar.{blanksOnto, annotationsOnto, tabsOnto, conceptOnto, sheetOnto, blankRule, annotationRule, conceptRule, sheetRule}
 use Rattle.paper.specs.Limits.{sheetLimit, conceptLimit, listLimit, conceptFits, conceptDepth, withinLimits}
-use Rattle.paper.specs.Entries.{Entry, entryCells, allCells, noParent, conceptSize, annotationEntries, conceptEntry, insideEntries, rootStart, sheetSize, entries}
+use Rattle.paper.specs.Entries.{Entry, entryCells, allCells, noParent, conceptSize, annotationEntries, conceptEntry, insideEntries, rootStart, sheetSize}
+use Rattle.paper.specs.Entries.{entries}
 use Rattle.paper.specs.Reading.{roomOf, sheetOf, Reading, reading}
 use Rattle.paper.specs.Canonical.{annotationSense, conceptSense, meaning, printNotes, printConcept, print, canonical}
 use Rattle.paper.specs.Writing.{Begun, tree, unread, begin, Writing, notWritten, writtenAt, formFits, writeForm, writing}
@@ -60,9 +61,11 @@ module _ (out after w : List ℕ) (at to : ℕ) (e : page out at w ≡ page afte
   pub page-done : at + length w ≤ length out → length after ≡ length out → (after ≡ sets out at w) × (to ≡ at + length w)
   page-done h l =
       split (leb to (length after))
-      (λ k. let q : holds (sets out at w) (at + length w) ≡ holds after to = sym (page-holds out at w h) ∙ e ∙ page-ends after to (leb-true to (length after) k) in (cc, cc))
+      (λ k. let q : holds (sets out at w) (at + length w) ≡ holds after to = sym (page-holds out at w h) ∙ e ∙ page-ends after to
+      (leb-true to (length after) k) in (cc, cc))
       (λ k.
-      let q : holds (sets out at w) (at + length w) ≡ full = sym (page-holds out at w h) ∙ e ∙ page-full after to [] (omega (arith, leb-false to (length after) k)) in
+      let q : holds (sets out at w) (at + length w) ≡ full =
+      sym (page-holds out at w h) ∙ e ∙ page-full after to [] (omega (arith, leb-false to (length after) k)) in
       let z : _≡_ {A = ℕ} 0 1 = cc in
       absurd (omega arith))
 
@@ -79,7 +82,8 @@ module _ (out after w : List ℕ) (at to : ℕ) (e : page out at w ≡ page afte
   page-short l k =
       split (leb (at + length w) (length out))
       (λ h.
-      let q : holds (sets out at w) (at + length w) ≡ full = sym (page-holds out at w (leb-true (at + length w) (length out) h)) ∙ e ∙ page-full after to [] (omega arith) in
+      let q : holds (sets out at w) (at + length w) ≡ full =
+      sym (page-holds out at w (leb-true (at + length w) (length out) h)) ∙ e ∙ page-full after to [] (omega arith) in
       let z : _≡_ {A = ℕ} 0 1 = cc in
       absurd (omega arith))
       (λ h. leb-false (at + length w) (length out) h)
@@ -113,7 +117,10 @@ module _ (s cells : List ℕ) (t : Sheet) (of : OfSheet s cells t) where
 
   front : drop before s ≡ annotationsOnto (t .annotations) (tabsOnto (t .tabs) (conceptOnto (t .tabs) (t .root) rest))
   unfolding sheetOnto
-  front = ap (λ (n : ℕ). drop n s) (sym (zero-add before)) ∙ past-front s 0 (blanksOnto (t .before)) (annotationsOnto (t .annotations) (tabsOnto (t .tabs) (conceptOnto (t .tabs) (t .root) rest))) (blanks-front (t .before)) (sym (of .covers))
+  front =
+      ap (λ (n : ℕ). drop n s) (sym (zero-add before))
+      ∙ past-front s 0 (blanksOnto (t .before)) (annotationsOnto (t .annotations) (tabsOnto (t .tabs) (conceptOnto (t .tabs) (t .root) rest)))
+      (blanks-front (t .before)) (sym (of .covers))
 
   notes-of : OfNotes s cells 0 noParent before (t .annotations)
   notes-of = record { after = tabsOnto (t .tabs) (conceptOnto (t .tabs) (t .root) rest); spelt = front; stand = stand-front cells 0 notes root stands }
@@ -122,14 +129,17 @@ module _ (s cells : List ℕ) (t : Sheet) (of : OfSheet s cells t) where
   none-behind : Ends cells (own + conceptSize (t .root))
   unfolding sheetSize
   none-behind =
-      let size : length cells ≡ (own + conceptSize (t .root)) * entryCells = ap length (of .are) ∙ cells-length (entries t) ∙ ap (λ (n : ℕ). n * entryCells) (entries-size t) in
+      let size : length cells ≡ (own + conceptSize (t .root)) * entryCells =
+      ap length (of .are) ∙ cells-length (entries t) ∙ ap (λ (n : ℕ). n * entryCells) (entries-size t) in
       let kind : kindAt cells (own + conceptSize (t .root)) ≡ 0 = ap (λ (e : Entry). e .kind) (at-none cells (own + conceptSize (t .root)) (omega arith)) in
       record { no-trait = λ k. omega (arith, sym kind ∙ k); no-item = λ k. omega (arith, sym kind ∙ k) }
 
   root-of : OfConcept s cells own noParent (rootStart t) (t .tabs) (t .root)
   root-of =
       let size : 0 + length notes ≡ own = omega (arith, notes-size (t .annotations) noParent before) in
-      let mark = past-front s before (annotationsOnto (t .annotations)) (tabsOnto (t .tabs) (conceptOnto (t .tabs) (t .root) rest)) (notes-front (t .annotations)) front in
+      let mark =
+      past-front s before (annotationsOnto (t .annotations)) (tabsOnto (t .tabs) (conceptOnto (t .tabs) (t .root) rest))
+      (notes-front (t .annotations)) front in
       record {
         after = rest;
         spelt = ap (λ (n : ℕ). drop (before + length (annotationsOnto (t .annotations) []) + n) s) (sym (length-replicate (t .tabs) tab))
@@ -144,7 +154,8 @@ module _ (s cells : List ℕ) (t : Sheet) (of : OfSheet s cells t) where
       let kind = ap (λ (e : Entry). e .kind) (own-entry s cells own noParent (rootStart t) (t .tabs) (t .root) root-of) in
       omega (arith, sym kind ∙ ap (kindAt cells) (sym z) ∙ k)
 
-  pub sheet-put : {out mid after : List ℕ} {noted to : ℕ} (n next : ℕ) → NotesPut s cells 0 0 out 0 n mid noted → ConceptPut s cells n 0 conceptLimit mid noted next after to
+  pub sheet-put : {out mid after : List ℕ} {noted to : ℕ} (n next : ℕ) → NotesPut s cells 0 0 out 0 n mid noted
+      → ConceptPut s cells n 0 conceptLimit mid noted next after to
       → page out 0 (canonical t) ≡ page after to []
   unfolding meaning print
   sheet-put n next put concept =
@@ -166,7 +177,8 @@ form-not : (lent : ℕ) (out w : List ℕ) → min (length out) sheetLimit < len
 unfolding writeForm
 form-not lent out w h = rw (lt-leb (length w) (min (length out) sheetLimit) h, writeForm)
 
-module _ (form₀ form w out : List ℕ) (end lent : ℕ) (e : page form₀ 0 w ≡ page form end []) (l : length form ≡ length form₀) (limit : length form₀ ≡ sheetLimit) where
+module _ (form₀ form w out : List ℕ) (end lent : ℕ) (e : page form₀ 0 w ≡ page form end []) (l : length form ≡ length form₀)
+    (limit : length form₀ ≡ sheetLimit) where
   abbrev Written : Answer → List ℕ → Type 0
   Written r after = record { answer = told r; out = after; cells = replicate lent 0 } ≡ writeForm lent out w
 
@@ -188,7 +200,8 @@ module _ (form₀ form w out : List ℕ) (end lent : ℕ) (e : page form₀ 0 w 
         let size : end ≡ length w = omega (arith, laid .1) in
         ap (λ (n : ℕ). take n form) size ∙ page-front form₀ form w (omega arith) (laid .0)
 
-    pub form-written : end ≤ length out → (after : List ℕ) (to : ℕ) → Puts out 0 (λ next. take end form ++ next) after to → length after ≡ length out → Written (Accepted 0 end) after
+    pub form-written : end ≤ length out → (after : List ℕ) (to : ℕ) → Puts out 0 (λ next. take end form ++ next) after to → length after ≡ length out
+        → Written (Accepted 0 end) after
     form-written k after to p same =
         let fits : length w ≤ min (length out) sheetLimit = omega (arith, laid .1) in
         let room : 0 + length w ≤ length out = omega arith in
@@ -221,13 +234,17 @@ pub none-counted : (r : Answer) (why : Refusal) (place : ℕ) → r ≡ Refused 
 none-counted r why place e = rw e
 
 -- the cells of entries that were laid from the first on
-laid-front : (cells mid : List ℕ) (es : List Entry) (count : ℕ) → count ≡ length es → length es * entryCells ≤ length cells → mid ≡ lay cells 0 es → take (count * entryCells) mid ≡ allCells es
+laid-front : (cells mid : List ℕ) (es : List Entry) (count : ℕ) → count ≡ length es → length es * entryCells ≤ length cells → mid ≡ lay cells 0 es
+    → take (count * entryCells) mid ≡ allCells es
 unfolding lay
 laid-front cells mid es count many fits e =
     let size : count * entryCells ≡ length (allCells es) = omega (arith, cells-length es) in
-    ap (take (count * entryCells)) e ∙ ap (λ (n : ℕ). take n (sets cells 0 (allCells es))) size ∙ page-front cells (sets cells 0 (allCells es)) (allCells es) (omega (arith, cells-length es)) refl
+    ap (take (count * entryCells)) e ∙ ap (λ (n : ℕ). take n (sets cells 0 (allCells es))) size
+    ∙ page-front cells (sets cells 0 (allCells es)) (allCells es) (omega (arith, cells-length es)) refl
 
-module _ (table s cells mid out : List ℕ) (r : Answer) (place count : ℕ) (valid : Valid table) (g : Reads s cells (sheetOf (modesOf table) (roomOf (length cells)) s) (told r) mid) (same : length mid ≡ length cells) (is : r ≡ Accepted place count) where
+module _ (table s cells mid out : List ℕ) (r : Answer) (place count : ℕ) (valid : Valid table)
+    (g : Reads s cells (sheetOf (modesOf table) (roomOf (length cells)) s) (told r) mid) (same : length mid ≡ length cells)
+    (is : r ≡ Accepted place count) where
   -- the cells of the entries are part of those that are lent
   pub cells-inside : count * entryCells ≤ length mid
   cells-inside = count-fits table s cells r mid count g same (sym (ap (λ (x : Told). x .count) (ap told is)))
@@ -242,7 +259,8 @@ module _ (table s cells mid out : List ℕ) (r : Answer) (place count : ℕ) (va
   unfolding withinLimits
   tree-read = go (sheetOf (modesOf table) (roomOf (length cells)) s) refl (sheet-answers (modesOf table) (roomOf (length cells)) s) (g .says)
     where
-      go : (x : Found Sheet) → sheetOf (modesOf table) (roomOf (length cells)) s ≡ x → Answers (modesOf table) (roomOf (length cells)) s x → told r ≡ answerOf s x → Read
+      go : (x : Found Sheet) → sheetOf (modesOf table) (roomOf (length cells)) s ≡ x → Answers (modesOf table) (roomOf (length cells)) s x
+          → told r ≡ answerOf s x → Read
       go (fault n left) e h q = absurd (omega (arith, h .least, sym (ap (λ (x : Told). x .number) (sym (ap told is) ∙ q))))
       go (found t left) e h q =
           let a = h .1 in
@@ -254,13 +272,18 @@ module _ (table s cells mid out : List ℕ) (r : Answer) (place count : ℕ) (va
             finds = e ∙ ap (found t) (h .0);
             of = record {
               covers = a .derives .covers;
-              keeps = record { rule = root-rule (modesOf table) t (a .derives .rule); within = w .1; deep = leb-true (conceptDepth (t .root)) conceptLimit (p .1) };
+              keeps =
+                  record { rule = root-rule (modesOf table) t (a .derives .rule); within = w .1; deep = leb-true (conceptDepth (t .root)) conceptLimit (p .1) };
               are = laid-front cells mid (entries t) count many (omega (arith, cells-inside)) (g .laid t left e);
             };
           }
 
   pub written : (answer : Answer) (after : List ℕ) (zeros : List ℕ) → zeros ≡ replicate (length cells) 0
-      → ((t : Sheet) (lent : ℕ) → OfSheet s (take (count * entryCells) mid) t → record { answer = told answer; out = after; cells = replicate lent 0 } ≡ writeForm lent out (canonical t))
+      → ((t : Sheet) (lent : ℕ) → OfSheet s (take (count * entryCells) mid) t → record {
+        answer = told answer;
+        out = after;
+        cells = replicate lent 0;
+      } ≡ writeForm lent out (canonical t))
       → record { answer = told answer; out = after; cells = zeros } ≡ writing table s (length cells) out
   unfolding writing
   written answer after zeros z f =

@@ -7,7 +7,8 @@ use lib.ListN.{length, drop}
 use Rattle.paper.specs.Values.{Value, valueOnto, valueForm}
 use Rattle.paper.specs.Tree.{Trait, Concept, Body}
 use Rattle.paper.specs.Grammar.{traitOnto, traitsOnto, conceptOnto, bodyOnto}
-use Rattle.paper.specs.Entries.{Entry, entryCells, allCells, itemsOf, valueWidth, itemEntries, traitValue, traitEntry, traitEntries, conceptSize, conceptEntry, insideEntries, bodyEntries}
+use Rattle.paper.specs.Entries.{Entry, entryCells, allCells, itemsOf, valueWidth, itemEntries, traitValue, traitEntry, traitEntries, conceptSize, conceptEntry}
+use Rattle.paper.specs.Entries.{insideEntries, bodyEntries}
 use Rattle.entries.specs.Laid.{entryAt}
 
 -- these entries stand in the cells from number n on

@@ -18,7 +18,8 @@ ghost use Rattle.layout.specs.Ticks.{First};
 // Where the byte is that the piece at `at` stands for: behind the backslash of an escaped backtick, else there.
 fn meant_at(w: &[u8], at: usize) -> usize
     requires { ⌜ at < length (now w) ⌝ }
-    ensures { λ r. ⌜ (at ≤ r) × (r < length (now (w .entry))) × ((after : Bool) (ps : List Piece) → drop at (now (w .entry)) ≡ piecesOnto ps [] → backtickRule after ps ≡ true → First (now (w .entry)) r ps) ⌝ }
+    ensures { λ r. ⌜ (at ≤ r) × (r < length (now (w .entry))) × ((after : Bool) (ps : List Piece)
+        → drop at (now (w .entry)) ≡ piecesOnto ps [] → backtickRule after ps ≡ true → First (now (w .entry)) r ps) ⌝ }
 {
     if starts_with(w, at, b"\\`") {
         return at + 1;
@@ -28,7 +29,8 @@ fn meant_at(w: &[u8], at: usize) -> usize
 
 // Puts what a spelling between backticks stands for, each run of white space as one space and none at the ends.
 pub fn put_backtick(out: &mut [u8], at: usize, w: &[u8]) -> usize
-    ensures { λ r. ⌜ ((ps : List Piece) → now (w .entry) ≡ piecesOnto ps [] → backtickRule false ps ≡ true → Puts (now (out .entry)) at (bytesOnto (byte "\"") (collapse (piecesMean ps))) (now (out .exit)) r) ⌝ }
+    ensures { λ r. ⌜ ((ps : List Piece) → now (w .entry) ≡ piecesOnto ps [] → backtickRule false ps ≡ true
+        → Puts (now (out .entry)) at (bytesOnto (byte "\"") (collapse (piecesMean ps))) (now (out .exit)) r) ⌝ }
 {
     let mut to = at;
     let mut i = 0;

@@ -31,7 +31,8 @@ ghost use Rattle.layout.specs.Walking.{Keeps, KeepsBody, OfSheet, Traits
 
 // Puts the canonical form of the sheet that has just these entries, from the first byte on.
 pub fn put_sheet(out: &mut [u8], s: &[u8], cells: &[u32]) -> usize
-    ensures { λ r. ⌜ ((t : Sheet) → OfSheet (now (s .entry)) (now (cells .entry)) t → page (now (out .entry)) 0 (canonical t) ≡ page (now (out .exit)) r []) ⌝ }
+    ensures { λ r. ⌜ ((t : Sheet) → OfSheet (now (s .entry)) (now (cells .entry)) t
+        → page (now (out .entry)) 0 (canonical t) ≡ page (now (out .exit)) r []) ⌝ }
 {
     let notes = put_notes(out, 0, s, cells, 0, 0);
     let root = put_concept(
@@ -57,7 +58,11 @@ fn put_concept(
     nesting: Nesting,
 ) -> Walk
     requires { ⌜ depth + nesting .left ≤ conceptLimit ⌝ }
-    ensures { λ r. ⌜ ((parent place tabs : ℕ) (c : Concept) → OfConcept (now (s .entry)) (now (cells .entry)) n parent place tabs c → Keeps (nesting .left) c → (r .next ≡ n + conceptSize c) × Puts (now (out .entry)) at (λ next. tabsOnto depth (printConcept depth (conceptSense c) (lf ∷ next))) (now (out .exit)) (r .at)) ⌝ }
+    ensures { λ r. ⌜ ((parent place tabs : ℕ) (c : Concept) → OfConcept (now (s .entry)) (now (cells .entry)) n parent place tabs c
+        → Keeps (nesting .left) c
+        → (r .next ≡ n + conceptSize c)
+        × Puts (now (out .entry)) at (λ next. tabsOnto depth (printConcept depth (conceptSense c) (lf ∷ next))) (now (out .exit))
+        (r .at)) ⌝ }
 {
     let Deeper::Inside(inside) = nesting.step() else {
         return Walk { at, next: n };
@@ -104,7 +109,9 @@ fn put_body(
     nesting: Nesting,
 ) -> Walk
     requires { ⌜ depth + nesting .left ≤ conceptLimit ⌝ }
-    ensures { λ r. ⌜ ((parent place : ℕ) (body : Body) → OfBody (now (s .entry)) (now (cells .entry)) n parent place body → KeepsBody (nesting .left) body → Ends (now (cells .entry)) (n + bodySize body) → elements ≡ bodyCount body → (r .next ≡ n + bodySize body) × Puts (now (out .entry)) at (printBody depth (bodySense body)) (now (out .exit)) (r .at)) ⌝ }
+    ensures { λ r. ⌜ ((parent place : ℕ) (body : Body) → OfBody (now (s .entry)) (now (cells .entry)) n parent place body
+        → KeepsBody (nesting .left) body → Ends (now (cells .entry)) (n + bodySize body) → elements ≡ bodyCount body
+        → (r .next ≡ n + bodySize body) × Puts (now (out .entry)) at (printBody depth (bodySense body)) (now (out .exit)) (r .at)) ⌝ }
 {
     let mut to = at;
     let mut next = n;
@@ -145,7 +152,8 @@ fn name_of(s: &[u8], own: Entry) -> &[u8]
 
 // Puts the closing marker of this name, with its line end.
 fn put_closing(out: &mut [u8], at: usize, name: &[u8], depth: usize) -> usize
-    ensures { λ r. ⌜ Puts (now (out .entry)) at (λ next. tabsOnto depth (closingOnto (now (name .entry)) (lf ∷ next))) (now (out .exit)) r ⌝ }
+    ensures { λ r. ⌜ Puts (now (out .entry)) at (λ next. tabsOnto depth (closingOnto (now (name .entry)) (lf ∷ next)))
+        (now (out .exit)) r ⌝ }
 {
     let mark = put_tabs(out, at, depth);
     let start = put(out, mark, b"</");

@@ -33,7 +33,9 @@ pub fn put_content(
     n: usize,
     tabs: usize,
 ) -> Walk
-    ensures { λ r. ⌜ ((place t : ℕ) (ls : List Line) → OfContent (now (s .entry)) (now (cells .entry)) n place t ls → all lineRule ls ≡ true → (r .next ≡ n + 1) × Puts (now (out .entry)) at (printLines tabs (map lineSense ls)) (now (out .exit)) (r .at)) ⌝ }
+    ensures { λ r. ⌜ ((place t : ℕ) (ls : List Line) → OfContent (now (s .entry)) (now (cells .entry)) n place t ls
+        → all lineRule ls ≡ true
+        → (r .next ≡ n + 1) × Puts (now (out .entry)) at (printLines tabs (map lineSense ls)) (now (out .exit)) (r .at)) ⌝ }
 {
     if cells.len() / CELLS <= n {
         return Walk { at, next: n };
@@ -58,7 +60,8 @@ fn tabs_at(s: &[u8], at: usize) -> usize
 
 // Puts lines whose text stands behind `cut` tabs, with their text at so many tabs.
 fn put_lines(out: &mut [u8], at: usize, lines: &[u8], cut: usize, tabs: usize) -> usize
-    ensures { λ r. ⌜ ((t : ℕ) (ls : List Line) → now (lines .entry) ≡ linesOnto t ls [] → cut ≡ suc t → all lineRule ls ≡ true → Puts (now (out .entry)) at (printLines tabs (map lineSense ls)) (now (out .exit)) r) ⌝ }
+    ensures { λ r. ⌜ ((t : ℕ) (ls : List Line) → now (lines .entry) ≡ linesOnto t ls [] → cut ≡ suc t → all lineRule ls ≡ true
+        → Puts (now (out .entry)) at (printLines tabs (map lineSense ls)) (now (out .exit)) r) ⌝ }
 {
     let mut to = at;
     let mut i = 0;
@@ -88,7 +91,8 @@ fn put_line(out: &mut [u8], at: usize, line: &[u8], cut: usize, tabs: usize) -> 
 // Behind the line end that stands at `at`.
 fn line_after(s: &[u8], at: usize) -> usize
     requires { ⌜ at ≤ length (now s) ⌝ }
-    ensures { λ r. ⌜ (at < r) × ((e : LineEnd) (next : List ℕ) → drop at (now (s .entry)) ≡ lineEndOnto e next → drop r (now (s .entry)) ≡ next) ⌝ }
+    ensures { λ r. ⌜ (at < r) × ((e : LineEnd) (next : List ℕ) → drop at (now (s .entry)) ≡ lineEndOnto e next
+        → drop r (now (s .entry)) ≡ next) ⌝ }
 {
     if starts_with(s, at, b"\r") {
         at + 2

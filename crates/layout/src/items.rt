@@ -49,7 +49,8 @@ fn put_comma(out: &mut [u8], at: usize, left: u32) -> usize
 
 // Puts the value of entry n, in which at most so many lists stand in one another.
 pub fn put_value(out: &mut [u8], at: usize, s: &[u8], cells: &[u32], n: usize, lists: usize) -> Walk
-    ensures { λ r. ⌜ Ahead (now (cells .entry)) n (r .next) × ValuePut (now (s .entry)) (now (cells .entry)) n lists (now (out .entry)) at (r .next) (now (out .exit)) (r .at) ⌝ }
+    ensures { λ r. ⌜ Ahead (now (cells .entry)) n (r .next)
+        × ValuePut (now (s .entry)) (now (cells .entry)) n lists (now (out .entry)) at (r .next) (now (out .exit)) (r .at) ⌝ }
 {
     if cells.len() / CELLS <= n {
         return Walk { at, next: n };

@@ -22,7 +22,8 @@ ghost use Rattle.layout.specs.Wholes.{LeafPut};
 // Puts a spelling that stands between two of this quote, quoted anew.
 fn put_quoted(out: &mut [u8], at: usize, quote: u8, w: &[u8]) -> usize
     requires { ⌜ quote < byte "\\" ⌝ }
-    ensures { λ r. ⌜ ((ps : List Piece) → now (w .entry) ≡ quote ∷ piecesOnto ps (quote ∷ []) → all (pieceRule quote) ps ≡ true → Puts (now (out .entry)) at (λ next. quote ∷ bytesOnto quote (piecesMean ps) (quote ∷ next)) (now (out .exit)) r) ⌝ }
+    ensures { λ r. ⌜ ((ps : List Piece) → now (w .entry) ≡ quote ∷ piecesOnto ps (quote ∷ []) → all (pieceRule quote) ps ≡ true
+        → Puts (now (out .entry)) at (λ next. quote ∷ bytesOnto quote (piecesMean ps) (quote ∷ next)) (now (out .exit)) r) ⌝ }
 {
     let spelling = inner(w);
     if are_plain(quote, spelling) {

@@ -32,7 +32,8 @@ ghost use Rattle.layout.specs.Walking.{OfSheet};
 // Writes the canonical form of a sheet that reads without refusal. The cells are lent to the reading, and zero after every answer.
 // A refusal leaves `out` as it came.
 pub fn write(table: &[u8], sheet: &[u8], cells: &mut [u32], out: &mut [u8]) -> Answer
-    ensures { λ r. ⌜ record { answer = told r; out = now (out .exit); cells = now (cells .exit) } ≡ writing (now (table .entry)) (now (sheet .entry)) (length (now (cells .entry))) (now (out .entry)) ⌝ }
+    ensures { λ r. ⌜ record { answer = told r; out = now (out .exit); cells = now (cells .exit) }
+        ≡ writing (now (table .entry)) (now (sheet .entry)) (length (now (cells .entry))) (now (out .entry)) ⌝ }
 {
     let modes = modes::read(table);
     let Answer::Accepted { place: _, count: _ } = modes else {
@@ -50,9 +51,12 @@ pub fn write(table: &[u8], sheet: &[u8], cells: &mut [u32], out: &mut [u8]) -> A
     answer
 }
 
-// Writes the canonical form of the sheet that has just these entries. It is laid out on a page first, so that nothing is written where it does not fit.
+// Writes the canonical form of the sheet that has just these entries. It is laid out on a page first, so that nothing is
+// written where it does not fit.
 fn write_form(sheet: &[u8], cells: &[u32], out: &mut [u8]) -> Answer
-    ensures { λ r. ⌜ ((t : Sheet) (lent : ℕ) → OfSheet (now (sheet .entry)) (now (cells .entry)) t → record { answer = told r; out = now (out .exit); cells = replicate lent 0 } ≡ writeForm lent (now (out .entry)) (canonical t)) ⌝ }
+    ensures { λ r. ⌜ ((t : Sheet) (lent : ℕ) → OfSheet (now (sheet .entry)) (now (cells .entry)) t
+        → record { answer = told r; out = now (out .exit); cells = replicate lent 0 }
+        ≡ writeForm lent (now (out .entry)) (canonical t)) ⌝ }
 {
     let mut form = [0; Cursor::LIMIT];
     let end = put_sheet(&mut form, sheet, cells);

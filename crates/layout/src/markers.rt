@@ -48,7 +48,8 @@ fn past_items(cells: &[u32], n: usize) -> usize
 
 // Whether three traits or more stand from entry n on.
 fn has_three(cells: &[u32], n: usize) -> bool
-    ensures { λ r. ⌜ ((parent at : ℕ) (ts : List Trait) → Stand (now (cells .entry)) n (traitEntries parent n at ts) → Ends (now (cells .entry)) (n + traitsSize ts) → r ≡ not (leb (length ts) 2)) ⌝ }
+    ensures { λ r. ⌜ ((parent at : ℕ) (ts : List Trait) → Stand (now (cells .entry)) n (traitEntries parent n at ts)
+        → Ends (now (cells .entry)) (n + traitsSize ts) → r ≡ not (leb (length ts) 2)) ⌝ }
 {
     if kind_of(cells, n) != kinds::TRAIT {
         return false;
@@ -63,7 +64,8 @@ fn has_three(cells: &[u32], n: usize) -> bool
 
 // Puts the trait of entry n: name, "=", value.
 fn put_trait(out: &mut [u8], at: usize, s: &[u8], cells: &[u32], n: usize) -> Walk
-    ensures { λ r. ⌜ Ahead (now (cells .entry)) n (r .next) × TraitPut (now (s .entry)) (now (cells .entry)) n (now (out .entry)) at (r .next) (now (out .exit)) (r .at) ⌝ }
+    ensures { λ r. ⌜ Ahead (now (cells .entry)) n (r .next)
+        × TraitPut (now (s .entry)) (now (cells .entry)) n (now (out .entry)) at (r .next) (now (out .exit)) (r .at) ⌝ }
 {
     let own = get(cells, n);
     let name = part(s, own.name_start as usize, own.start as usize);
@@ -109,7 +111,9 @@ fn put_traits(
     below: bool,
     depth: usize,
 ) -> Traits
-    ensures { λ r. ⌜ (n ≤ r .next) × TraitsPut (now (s .entry)) (now (cells .entry)) n below depth (now (out .entry)) at (r .next) (r .slash) (now (out .exit)) (r .at) ⌝ }
+    ensures { λ r. ⌜ (n ≤ r .next)
+        × TraitsPut (now (s .entry)) (now (cells .entry)) n below depth (now (out .entry)) at (r .next) (r .slash) (now (out .exit))
+        (r .at) ⌝ }
 {
     let mut to = at;
     let mut next = n;
@@ -145,7 +149,8 @@ fn put_break(out: &mut [u8], at: usize, below: bool, spaced: bool, depth: usize)
 
 // Puts the end of a marker, and the line end.
 fn put_end(out: &mut [u8], at: usize, closed: bool) -> usize
-    ensures { λ r. ⌜ ((e : Ending) → closed ≡ isSelf e → Puts (now (out .entry)) at (λ next. endingOnto e (lf ∷ next)) (now (out .exit)) r) ⌝ }
+    ensures { λ r. ⌜ ((e : Ending) → closed ≡ isSelf e
+        → Puts (now (out .entry)) at (λ next. endingOnto e (lf ∷ next)) (now (out .exit)) r) ⌝ }
 {
     if closed {
         return put(out, at, b"/>\n");
@@ -162,7 +167,8 @@ pub fn put_marker(
     n: usize,
     depth: usize,
 ) -> Walk
-    ensures { λ r. ⌜ Ahead (now (cells .entry)) n (r .next) × MarkerPut (now (s .entry)) (now (cells .entry)) n depth (now (out .entry)) at (r .next) (now (out .exit)) (r .at) ⌝ }
+    ensures { λ r. ⌜ Ahead (now (cells .entry)) n (r .next)
+        × MarkerPut (now (s .entry)) (now (cells .entry)) n depth (now (out .entry)) at (r .next) (now (out .exit)) (r .at) ⌝ }
 {
     if cells.len() / CELLS <= n {
         return Walk { at, next: n };

@@ -21,7 +21,10 @@ ghost use Rattle.layout.specs.Walking.{OfNotes};
 
 // Puts the annotations from entry n on.
 pub fn put_notes(out: &mut [u8], at: usize, s: &[u8], cells: &[u32], n: usize, depth: usize) -> Walk
-    ensures { λ r. ⌜ (n ≤ r .next) × ((parent place : ℕ) (notes : List Annotation) → OfNotes (now (s .entry)) (now (cells .entry)) n parent place notes → (kindAt (now (cells .entry)) (n + length notes) ≡ 4 → ⊥) → (r .next ≡ n + length notes) × Puts (now (out .entry)) at (printNotes depth (map annotationSense notes)) (now (out .exit)) (r .at)) ⌝ }
+    ensures { λ r. ⌜ (n ≤ r .next) × ((parent place : ℕ) (notes : List Annotation)
+        → OfNotes (now (s .entry)) (now (cells .entry)) n parent place notes → (kindAt (now (cells .entry)) (n + length notes) ≡ 4 → ⊥)
+        → (r .next ≡ n + length notes)
+        × Puts (now (out .entry)) at (printNotes depth (map annotationSense notes)) (now (out .exit)) (r .at)) ⌝ }
 {
     let mut to = at;
     let mut next = n;

@@ -34,7 +34,8 @@ fn hex_letter(n: u8) -> u8
 
 // Puts a control as `\u{..}`, in lower case without leading zeros.
 fn put_control(out: &mut [u8], at: usize, b: u8) -> usize
-    ensures { λ r. ⌜ Puts (now (out .entry)) at (λ next. byte "\\" ∷ byte "u" ∷ byte "{" ∷ hexOnto b (byte "}" ∷ next)) (now (out .exit)) r ⌝ }
+    ensures { λ r. ⌜ Puts (now (out .entry)) at (λ next. byte "\\" ∷ byte "u" ∷ byte "{" ∷ hexOnto b (byte "}" ∷ next))
+        (now (out .exit)) r ⌝ }
 {
     let digits = put(out, at, b"\\u{");
     if b < 16 {
@@ -156,7 +157,11 @@ fn digits_end(w: &[u8], at: usize, most: usize) -> usize
 // Puts what the hex digits at `at` stand for, of which there are at most so many.
 fn put_spelt(out: &mut [u8], to: usize, quote: u8, w: &[u8], at: usize, most: usize) -> Put
     requires { ⌜ (at ≤ length (now w)) × (most ≤ 6) ⌝ }
-    ensures { λ r. ⌜ (at ≤ r .next) × (r .next ≤ length (now (w .entry))) × ((digits left : List ℕ) → drop at (now (w .entry)) ≡ digits ++ left → spellsScalar digits ≡ true → min most (lengthIn isHex (digits ++ left)) ≡ length digits → (drop (r .next) (now (w .entry)) ≡ left) × Puts (now (out .entry)) to (bytesOnto quote (encode (hexValue 0 digits))) (now (out .exit)) (r .at)) ⌝ }
+    ensures { λ r. ⌜ (at ≤ r .next) × (r .next ≤ length (now (w .entry))) × ((digits left : List ℕ)
+        → drop at (now (w .entry)) ≡ digits ++ left → spellsScalar digits ≡ true
+        → min most (lengthIn isHex (digits ++ left)) ≡ length digits
+        → (drop (r .next) (now (w .entry)) ≡ left)
+        × Puts (now (out .entry)) to (bytesOnto quote (encode (hexValue 0 digits))) (now (out .exit)) (r .at)) ⌝ }
 {
     let end = digits_end(w, at, most);
     let value = hex_value(&w[at..end]);
@@ -169,7 +174,10 @@ fn put_spelt(out: &mut [u8], to: usize, quote: u8, w: &[u8], at: usize, most: us
 // Puts what one piece stands for, which begins at `at`.
 fn put_piece(out: &mut [u8], to: usize, quote: u8, w: &[u8], at: usize) -> Put
     requires { ⌜ (at < length (now w)) × (quote < byte "\\") ⌝ }
-    ensures { λ r. ⌜ (at < r .next) × ((p : Piece) (left : List ℕ) → drop at (now (w .entry)) ≡ pieceOnto p left → pieceRule quote p ≡ true → (drop (r .next) (now (w .entry)) ≡ left) × Puts (now (out .entry)) to (bytesOnto quote (pieceMeans p)) (now (out .exit)) (r .at)) ⌝ }
+    ensures { λ r. ⌜ (at < r .next) × ((p : Piece) (left : List ℕ) → drop at (now (w .entry)) ≡ pieceOnto p left
+        → pieceRule quote p ≡ true
+        → (drop (r .next) (now (w .entry)) ≡ left)
+        × Puts (now (out .entry)) to (bytesOnto quote (pieceMeans p)) (now (out .exit)) (r .at)) ⌝ }
 {
     if w[at] != b'\\' {
         return Put {
@@ -202,7 +210,8 @@ fn put_piece(out: &mut [u8], to: usize, quote: u8, w: &[u8], at: usize) -> Put
 // Puts what a spelling between two of this quote stands for.
 pub fn put_pieces(out: &mut [u8], at: usize, quote: u8, w: &[u8]) -> usize
     requires { ⌜ quote < byte "\\" ⌝ }
-    ensures { λ r. ⌜ ((ps : List Piece) → now (w .entry) ≡ piecesOnto ps [] → all (pieceRule quote) ps ≡ true → Puts (now (out .entry)) at (bytesOnto quote (piecesMean ps)) (now (out .exit)) r) ⌝ }
+    ensures { λ r. ⌜ ((ps : List Piece) → now (w .entry) ≡ piecesOnto ps [] → all (pieceRule quote) ps ≡ true
+        → Puts (now (out .entry)) at (bytesOnto quote (piecesMean ps)) (now (out .exit)) r) ⌝ }
 {
     let mut to = at;
     let mut i = 0;

@@ -38,8 +38,15 @@ same-length c = search needs
 -- src/lib.rt:41:9
 returns : tie.Need-returns
 returns c =
-    refused-through (c .before .before .before .before .before .before .before .before .before .before .before .args .table .now) (c .before .before .before .before .before .before .before .before .before .before .before .args .sheet .now) (c .before .before .before .before .before .before .before .before .before .before .before .args .out .now) _ (c .before .before .before .before .before .before .read .result) _ _ (c .before .before .before .before .enum-told2 .given .1) _
-    (table-refused (c .before .before .before .before .before .before .before .before .before .before .before .args .table .now) (c .before .before .before .before .before .before .before .before .before .before .before .args .sheet .now) (c .before .before .before .before .before .before .before .before .before .before .before .args .cells .now) (c .before .before .before .before .before .before .read .result) _ _ (c .before .before .before .before .before .before .read .ensures) (c .before .before .before .before .enum-told2 .given .1) _ (c .before .before .zero-from .ensures))
+    refused-through (c .before .before .before .before .before .before .before .before .before .before .before .args .table .now)
+    (c .before .before .before .before .before .before .before .before .before .before .before .args .sheet .now)
+    (c .before .before .before .before .before .before .before .before .before .before .before .args .out .now) _
+    (c .before .before .before .before .before .before .read .result) _ _ (c .before .before .before .before .enum-told2 .given .1) _
+    (table-refused (c .before .before .before .before .before .before .before .before .before .before .before .args .table .now)
+    (c .before .before .before .before .before .before .before .before .before .before .before .args .sheet .now)
+    (c .before .before .before .before .before .before .before .before .before .before .before .args .cells .now)
+    (c .before .before .before .before .before .before .read .result) _ _ (c .before .before .before .before .before .before .read .ensures)
+    (c .before .before .before .before .enum-told2 .given .1) _ (c .before .before .zero-from .ensures))
 
 -- src/lib.rt:43:9
 read-under-requires : tie.Need-read-under-requires
@@ -66,28 +73,45 @@ returns-2 : tie.Need-returns-2
 returns-2 c =
     refused-through (c .before .before .before .before .before .before .before .before .before .before .before .before .before .before .before .before .before .args .table .now) (c .before .before .before .before .before .before .before .before .before .before .before .before .before .before .before .before .before .args .sheet .now) (c .before .before .before .before .before .before .before .before .before .before .before .before .before .before .before .before .before .args .out .now) _ (c .before .before .before .before .before .before .before .before .read-under .result) _ _ (c .before .before .before .before .enum-told3 .given .1) _
     (sheet-done (c .before .before .before .before .before .before .before .before .before .before .before .before .before .before .before .before .before .args .table .now) (c .before .before .before .before .before .before .before .before .before .before .before .before .before .before .before .before .before .args .sheet .now) (c .before .before .before .before .before .before .before .before .before .before .before .before .before .before .before .before .before .args .cells .now) (c .before .before .before .before .before .before .before .before .read-under .result) _ 0 (c .before .before .before .before .before .before .before .before .read-under .ensures) (c .before .before .before .before .before .before .before .before .read-under .kept .1 .1 .0)
-    (none-counted _ _ _ (c .before .before .before .before .enum-told3 .given .1)) _ (accepted-valid _ _ _ _ (c .before .before .before .before .before .before .before .before .before .before .before .before .read .ensures) (c .before .before .before .before .before .before .before .before .before .before .enum-told .given .1)) (c .before .before .zero-from2 .ensures))
+    (none-counted _ _ _ (c .before .before .before .before .enum-told3 .given .1)) _
+    (accepted-valid _ _ _ _ (c .before .before .before .before .before .before .before .before .before .before .before .before .read .ensures)
+    (c .before .before .before .before .before .before .before .before .before .before .enum-told .given .1)) (c .before .before .zero-from2 .ensures))
 
 -- src/lib.rt:48:15
 mul-end : tie.Need-mul-end
 mul-end c =
     omega (
       arith,
-      cells-inside (c .before .before .before .before .before .before .before .before .before .before .before .before .before .before .args .table .now) (c .before .before .before .before .before .before .before .before .before .before .before .before .before .before .args .sheet .now) (c .before .before .before .before .before .before .before .before .before .before .before .before .before .before .args .cells .now) _ (c .before .before .before .before .before .before .before .before .before .before .before .before .before .before .args .out .now) (c .before .before .before .before .before .read-under .result) _ _
-          (accepted-valid _ _ _ _ (c .before .before .before .before .before .before .before .before .before .read .ensures) (c .before .before .before .before .before .before .before .enum-told .given .1)) (c .before .before .before .before .before .read-under .ensures) (c .before .before .before .before .before .read-under .kept .1 .1 .0) (c .before .reading .given .1),
+      cells-inside (c .before .before .before .before .before .before .before .before .before .before .before .before .before .before .args .table .now)
+          (c .before .before .before .before .before .before .before .before .before .before .before .before .before .before .args .sheet .now)
+          (c .before .before .before .before .before .before .before .before .before .before .before .before .before .before .args .cells .now) _
+          (c .before .before .before .before .before .before .before .before .before .before .before .before .before .before .args .out .now)
+          (c .before .before .before .before .before .read-under .result) _ _
+          (accepted-valid _ _ _ _ (c .before .before .before .before .before .before .before .before .before .read .ensures)
+          (c .before .before .before .before .before .before .before .enum-told .given .1)) (c .before .before .before .before .before .read-under .ensures)
+          (c .before .before .before .before .before .read-under .kept .1 .1 .0) (c .before .reading .given .1),
     )
 
 -- src/lib.rt:49:36
 slice-reshare-prefix-write-form : tie.Need-slice-reshare-prefix-write-form
 slice-reshare-prefix-write-form c =
-    cells-inside (c .before .before .before .before .before .before .before .before .before .before .before .before .before .before .args .table .now) (c .before .before .before .before .before .before .before .before .before .before .before .before .before .before .args .sheet .now) (c .before .before .before .before .before .before .before .before .before .before .before .before .before .before .args .cells .now) _ (c .before .before .before .before .before .before .before .before .before .before .before .before .before .before .args .out .now) (c .before .before .before .before .before .read-under .result) _ _
-    (accepted-valid _ _ _ _ (c .before .before .before .before .before .before .before .before .before .read .ensures) (c .before .before .before .before .before .before .before .enum-told .given .1)) (c .before .before .before .before .before .read-under .ensures) (c .before .before .before .before .before .read-under .kept .1 .1 .0) (c .before .reading .given .1)
+    cells-inside (c .before .before .before .before .before .before .before .before .before .before .before .before .before .before .args .table .now)
+    (c .before .before .before .before .before .before .before .before .before .before .before .before .before .before .args .sheet .now)
+    (c .before .before .before .before .before .before .before .before .before .before .before .before .before .before .args .cells .now) _
+    (c .before .before .before .before .before .before .before .before .before .before .before .before .before .before .args .out .now)
+    (c .before .before .before .before .before .read-under .result) _ _
+    (accepted-valid _ _ _ _ (c .before .before .before .before .before .before .before .before .before .read .ensures)
+    (c .before .before .before .before .before .before .before .enum-told .given .1)) (c .before .before .before .before .before .read-under .ensures)
+    (c .before .before .before .before .before .read-under .kept .1 .1 .0) (c .before .reading .given .1)
 
 -- src/lib.rt:49:36
 slice-aggregate-write-form : tie.Need-slice-aggregate-write-form
 slice-aggregate-write-form c =
     sym (length-take-le _ _ (cells-inside (c .before .before .before .before .before .before .before .before .before .before .before .before .before .before .before .args .table .now) (c .before .before .before .before .before .before .before .before .before .before .before .before .before .before .before .args .sheet .now) (c .before .before .before .before .before .before .before .before .before .before .before .before .before .before .before .args .cells .now) _ (c .before .before .before .before .before .before .before .before .before .before .before .before .before .before .before .args .out .now) (c .before .before .before .before .before .before .read-under .result) _ _
-    (accepted-valid _ _ _ _ (c .before .before .before .before .before .before .before .before .before .before .read .ensures) (c .before .before .before .before .before .before .before .before .enum-told .given .1)) (c .before .before .before .before .before .before .read-under .ensures) (c .before .before .before .before .before .before .read-under .kept .1 .1 .0) (c .before .before .reading .given .1)))
+    (accepted-valid _ _ _ _ (c .before .before .before .before .before .before .before .before .before .before .read .ensures)
+    (c .before .before .before .before .before .before .before .before .enum-told .given .1))
+    (c .before .before .before .before .before .before .read-under .ensures)
+    (c .before .before .before .before .before .before .read-under .kept .1 .1 .0) (c .before .before .reading .given .1)))
 
 -- src/lib.rt:49:9
 write-form-requires : tie.Need-write-form-requires
@@ -110,7 +134,10 @@ returns-3 : tie.Need-returns-3
 returns-3 c =
     written (c .before .before .before .before .before .before .before .before .before .before .before .before .before .before .before .before .before .before .before .before .before .before .before .args .table .now) (c .before .before .before .before .before .before .before .before .before .before .before .before .before .before .before .before .before .before .before .before .before .before .before .args .sheet .now) (c .before .before .before .before .before .before .before .before .before .before .before .before .before .before .before .before .before .before .before .before .before .before .before .args .cells .now) (c .before .before .before .before .before .before .before .before .before .before .before .before .before .before .read-under .last .1 .1 .0) (c .before .before .before .before .before .before .before .before .before .before .before .before .before .before .before .before .before .before .before .before .before .before .before .args .out .now) (c .before .before .before .before .before .before .before .before .before .before .before .before .before .before .read-under .result) _ _
     (accepted-valid _ _ _ _ (c .before .before .before .before .before .before .before .before .before .before .before .before .before .before .before .before .before .before .read .ensures) (c .before .before .before .before .before .before .before .before .before .before .before .before .before .before .before .before .enum-told .given .1)) (c .before .before .before .before .before .before .before .before .before .before .before .before .before .before .read-under .ensures) (c .before .before .before .before .before .before .before .before .before .before .before .before .before .before .read-under .kept .1 .1 .0) (c .before .before .before .before .before .before .before .before .before .before .reading .given .1)
-    (c .before .before .before .before .before .before .write-form .result) _ _ (c .before .before .zero-from3 .ensures ∙ all-zero (c .before .before .before .before .before .before .before .before .before .before .before .before .before .before .read-under .last .1 .1 .0) ∙ ap (λ (n : ℕ). replicate n 0) (c .before .before .before .before .before .before .before .before .before .before .before .before .before .before .read-under .kept .1 .1 .0)) (c .before .before .before .before .before .before .write-form .ensures)
+    (c .before .before .before .before .before .before .write-form .result) _ _
+    (c .before .before .zero-from3 .ensures ∙ all-zero
+    (c .before .before .before .before .before .before .before .before .before .before .before .before .before .before .read-under .last .1 .1 .0)
+    ∙ ap (λ (n : ℕ). replicate n 0) (c .before .before .before .before .before .before .before .before .before .before .before .before .before .before .read-under .kept .1 .1 .0)) (c .before .before .before .before .before .before .write-form .ensures)
 
 pub write-spec : {M : Type 1} → statement M
 write-spec =

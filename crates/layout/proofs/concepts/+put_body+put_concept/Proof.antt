@@ -55,7 +55,10 @@ put-concept-below t =
     and 3 put-concept-kinds.ps (falls 3 put-concept-kinds.ps _<_ μ-put-concept t) put-concept.Pre
 
 abbrev put-body-Inv-loop : put-body-lts.InvT-loop
-put-body-Inv-loop out₀ at s cells n elements depth nesting to₀ next₀ left₀ between₀ out to next left between = (length out ≡ length out₀) × ((parent place : ℕ) (body : Body) → OfBody s cells n parent place body → KeepsBody (nesting .left) body → Ends cells (n + bodySize body) → elements ≡ bodyCount body → BodyLeft s cells depth (nesting .left) (n + bodySize body) out₀ at body left next between out to)
+put-body-Inv-loop out₀ at s cells n elements depth nesting to₀ next₀ left₀ between₀ out to next left between =
+    (length out ≡ length out₀)
+    × ((parent place : ℕ) (body : Body) → OfBody s cells n parent place body → KeepsBody (nesting .left) body → Ends cells (n + bodySize body) → elements ≡
+    bodyCount body → BodyLeft s cells depth (nesting .left) (n + bodySize body) out₀ at body left next between out to)
 
 abbrev put-body-μ-loop : put-body-lts.MeasureT-loop
 put-body-μ-loop out₀ at s cells n elements depth nesting to₀ next₀ left₀ between₀ out to next left between = left
@@ -64,14 +67,34 @@ abbrev put-body-calls : ℕ → put-body-lts.Claims
 put-body-calls t = (put-between-reads.Asked, put-between-reads.Learnt, put-notes-reads.Asked, put-notes-reads.Learnt, put-concept-below t, put-concept.Post)
 
 abbrev put-concept-calls : ℕ → put-concept-lts.Claims
-put-concept-calls t = (step-reads.Asked, step-reads.Learnt, put-tabs-reads.Asked, put-tabs-reads.Learnt, put-marker-reads.Asked, put-marker-reads.Learnt, get-reads.Asked, get-reads.Learnt, count-elements-reads.Asked, count-elements-reads.Learnt, put-body-below t, put-body.Post, name-of-reads.Asked, name-of-reads.Learnt, put-closing-reads.Asked, put-closing-reads.Learnt, put-content-reads.Asked, put-content-reads.Learnt)
+put-concept-calls t = (
+  step-reads.Asked,
+  step-reads.Learnt,
+  put-tabs-reads.Asked,
+  put-tabs-reads.Learnt,
+  put-marker-reads.Asked,
+  put-marker-reads.Learnt,
+  get-reads.Asked,
+  get-reads.Learnt,
+  count-elements-reads.Asked,
+  count-elements-reads.Learnt,
+  put-body-below t,
+  put-body.Post,
+  name-of-reads.Asked,
+  name-of-reads.Learnt,
+  put-closing-reads.Asked,
+  put-closing-reads.Learnt,
+  put-content-reads.Asked,
+  put-content-reads.Learnt,
+)
 
 -- src/concepts.rt:97:5
 put-body-loop-holds : (t : ℕ) → put-body-lts.Need-loop-holds (put-body-calls t) (put-body-at t) put-body.Post put-body-Inv-loop put-body-μ-loop
 put-body-loop-holds t c = (refl, λ parent place body of keeps ends few. body-all _ _ _ _ _ _ _ parent place _ body of keeps few)
 
 -- src/concepts.rt:98:13
-put-body-put-between-requires : (t : ℕ) → put-body-lts.Need-put-between-requires (put-body-calls t) (put-body-at t) put-body.Post put-body-Inv-loop put-body-μ-loop
+put-body-put-between-requires : (t : ℕ)
+    → put-body-lts.Need-put-between-requires (put-body-calls t) (put-body-at t) put-body.Post put-body-Inv-loop put-body-μ-loop
 put-body-put-between-requires t c κs = search needs
 
 -- src/concepts.rt:99:13
@@ -90,11 +113,16 @@ put-body-same-length t c = omega arith
 put-body-returns : (t : ℕ) → put-body-lts.Need-returns (put-body-calls t) (put-body-at t) put-body.Post put-body-Inv-loop put-body-μ-loop
 put-body-returns t c =
     λ parent place body of keeps ends few.
-    absurd (element-there _ _ _ _ _ _ _ body ends (c .before .before .before .before .before .before .before .before .before .before .before .loop .inv .1 parent place body of keeps ends few) (c .before .before .before .before .before .before .before .before .before .before .loop-test .taken) _ (c .before .before .before .before .before .before .before .before .put-between .ensures) (c .before .before .before .before .put-notes .ensures .1) (c .if1 .taken))
+    absurd (element-there _ _ _ _ _ _ _ body ends (c .before .before .before .before .before .before .before .before .before .before .before .loop .inv .1
+    parent place body of keeps ends few) (c .before .before .before .before .before .before .before .before .before .before .loop-test .taken) _
+    (c .before .before .before .before .before .before .before .before .put-between .ensures) (c .before .before .before .before .put-notes .ensures .1)
+    (c .if1 .taken))
 
 -- src/concepts.rt:104:13
-put-body-put-concept-requires : (t : ℕ) → put-body-lts.Need-put-concept-requires (put-body-calls t) (put-body-at t) put-body.Post put-body-Inv-loop put-body-μ-loop
-put-body-put-concept-requires t c κs = omega (arith, c .before .before .before .before .before .before .before .before .before .before .before .before .before .before .before .before .pre)
+put-body-put-concept-requires : (t : ℕ)
+    → put-body-lts.Need-put-concept-requires (put-body-calls t) (put-body-at t) put-body.Post put-body-Inv-loop put-body-μ-loop
+put-body-put-concept-requires t c κs =
+    omega (arith, c .before .before .before .before .before .before .before .before .before .before .before .before .before .before .before .before .pre)
 
 -- src/concepts.rt:107:16
 put-body-sub-left : (t : ℕ) → put-body-lts.Need-sub-left (put-body-calls t) (put-body-at t) put-body.Post put-body-Inv-loop put-body-μ-loop
@@ -122,7 +150,8 @@ put-body-same-length-2 t c = omega arith
 
 -- src/concepts.rt:80:1
 put-body-returns-2 : (t : ℕ) → put-body-lts.Need-returns-2 (put-body-calls t) (put-body-at t) put-body.Post put-body-Inv-loop put-body-μ-loop
-put-body-returns-2 t c = λ parent place body of keeps ends few. body-over _ _ _ _ _ _ _ body ends (c .before .loop .inv .1 parent place body of keeps ends few) (c .loop-test .left)
+put-body-returns-2 t c =
+    λ parent place body of keeps ends few. body-over _ _ _ _ _ _ _ body ends (c .before .loop .inv .1 parent place body of keeps ends few) (c .loop-test .left)
 
 -- src/concepts.rt:46:34
 put-concept-step-requires : (t : ℕ) → put-concept-lts.Need-step-requires (put-concept-calls t) (put-concept-at t) put-concept.Post
@@ -138,7 +167,10 @@ put-concept-enum-told t c = search needs
 
 -- src/concepts.rt:47:9
 put-concept-returns : (t : ℕ) → put-concept-lts.Need-returns (put-concept-calls t) (put-concept-at t) put-concept.Post
-put-concept-returns t c = λ parent place tabs k of keeps. let z = no-less (c .before .before .step .result) (c .before .before .before .before .before .before .args .nesting .left) (c .before .before .step .ensures) (c .enum-told .given .1) in absurd (omega (arith, some-depth k, keeps .deep))
+put-concept-returns t c =
+    λ parent place tabs k of keeps. let z =
+    no-less (c .before .before .step .result) (c .before .before .before .before .before .before .args .nesting .left) (c .before .before .step .ensures)
+    (c .enum-told .given .1) in absurd (omega (arith, some-depth k, keeps .deep))
 
 -- src/concepts.rt:49:9
 put-concept-put-tabs-requires : (t : ℕ) → put-concept-lts.Need-put-tabs-requires (put-concept-calls t) (put-concept-at t) put-concept.Post
@@ -158,11 +190,17 @@ put-concept-count-elements-requires t c κs = search needs
 
 -- src/concepts.rt:61:13
 put-concept-add-put-body : (t : ℕ) → put-concept-lts.Need-add-put-body (put-concept-calls t) (put-concept-at t) put-concept.Post
-put-concept-add-put-body t c = omega (arith, c .before .before .before .before .before .before .before .before .before .before .before .before .before .before .before .before .before .before .before .before .pre)
+put-concept-add-put-body t c =
+    omega (
+      arith,
+      c .before .before .before .before .before .before .before .before .before .before .before .before .before .before .before .before .before .before .before .before .pre,
+    )
 
 -- src/concepts.rt:54:13
 put-concept-put-body-requires : (t : ℕ) → put-concept-lts.Need-put-body-requires (put-concept-calls t) (put-concept-at t) put-concept.Post
-put-concept-put-body-requires t c κs = let less = one-less (c .before .before .before .before .before .before .before .before .before .before .before .before .before .before .before .before .step .result) (c .before .before .before .before .before .before .before .before .before .before .before .before .before .before .before .before .before .before .before .before .args .nesting .left) (c .before .before .before .before .before .before .before .before .before .before .before .before .before .before .before .before .step .ensures) (c .before .before .before .before .before .before .before .before .before .before .before .before .before .before .inside .given .0 .0) (c .before .before .before .before .before .before .before .before .before .before .before .before .before .before .inside .given .1) in omega (arith, c .before .before .before .before .before .before .before .before .before .before .before .before .before .before .before .before .before .before .before .before .pre)
+put-concept-put-body-requires t c κs =
+    let less =
+    one-less (c .before .before .before .before .before .before .before .before .before .before .before .before .before .before .before .before .step .result) (c .before .before .before .before .before .before .before .before .before .before .before .before .before .before .before .before .before .before .before .before .args .nesting .left) (c .before .before .before .before .before .before .before .before .before .before .before .before .before .before .before .before .step .ensures) (c .before .before .before .before .before .before .before .before .before .before .before .before .before .before .inside .given .0 .0) (c .before .before .before .before .before .before .before .before .before .before .before .before .before .before .inside .given .1) in omega (arith, c .before .before .before .before .before .before .before .before .before .before .before .before .before .before .before .before .before .before .before .before .pre)
 
 -- src/concepts.rt:65:43
 put-concept-name-of-requires : (t : ℕ) → put-concept-lts.Need-name-of-requires (put-concept-calls t) (put-concept-at t) put-concept.Post
@@ -174,7 +212,12 @@ put-concept-put-closing-requires t c κs = search needs
 
 -- src/concepts.rt:64:9
 put-concept-same-length : (t : ℕ) → put-concept-lts.Need-same-length (put-concept-calls t) (put-concept-at t) put-concept.Post
-put-concept-same-length t c = omega (arith, c .before .before .before .before .before .before .before .before .before .before .before .before .before .before .before .before .before .before .before .put-tabs .kept .0, c .before .before .before .before .before .before .before .before .before .before .before .before .before .before .before .put-marker .kept .0)
+put-concept-same-length t c =
+    omega (
+      arith,
+      c .before .before .before .before .before .before .before .before .before .before .before .before .before .before .before .before .before .before .before .put-tabs .kept .0,
+      c .before .before .before .before .before .before .before .before .before .before .before .before .before .before .before .put-marker .kept .0,
+    )
 
 -- src/concepts.rt:64:9
 put-concept-returns-2 : (t : ℕ) → put-concept-lts.Need-returns-2 (put-concept-calls t) (put-concept-at t) put-concept.Post
@@ -184,7 +227,11 @@ put-concept-returns-2 t c =
 
 -- src/concepts.rt:70:72
 put-concept-add-put-content : (t : ℕ) → put-concept-lts.Need-add-put-content (put-concept-calls t) (put-concept-at t) put-concept.Post
-put-concept-add-put-content t c = omega (arith, c .before .before .before .before .before .before .before .before .before .before .before .before .before .before .before .before .before .before .before .before .before .pre)
+put-concept-add-put-content t c =
+    omega (
+      arith,
+      c .before .before .before .before .before .before .before .before .before .before .before .before .before .before .before .before .before .before .before .before .before .pre,
+    )
 
 -- src/concepts.rt:70:13
 put-concept-put-content-requires : (t : ℕ) → put-concept-lts.Need-put-content-requires (put-concept-calls t) (put-concept-at t) put-concept.Post
@@ -200,7 +247,12 @@ put-concept-put-closing-requires-2 t c κs = search needs
 
 -- src/concepts.rt:71:9
 put-concept-same-length-2 : (t : ℕ) → put-concept-lts.Need-same-length-2 (put-concept-calls t) (put-concept-at t) put-concept.Post
-put-concept-same-length-2 t c = omega (arith, c .before .before .before .before .before .before .before .before .before .before .before .before .before .before .before .before .before .before .before .before .put-tabs .kept .0, c .before .before .before .before .before .before .before .before .before .before .before .before .before .before .before .before .put-marker .kept .0)
+put-concept-same-length-2 t c =
+    omega (
+      arith,
+      c .before .before .before .before .before .before .before .before .before .before .before .before .before .before .before .before .before .before .before .before .put-tabs .kept .0,
+      c .before .before .before .before .before .before .before .before .before .before .before .before .before .before .before .before .put-marker .kept .0,
+    )
 
 -- src/concepts.rt:71:9
 put-concept-returns-3 : (t : ℕ) → put-concept-lts.Need-returns-3 (put-concept-calls t) (put-concept-at t) put-concept.Post
@@ -214,7 +266,8 @@ put-concept-same-length-3 t c = omega arith
 
 -- src/concepts.rt:34:1
 put-concept-returns-4 : (t : ℕ) → put-concept-lts.Need-returns-4 (put-concept-calls t) (put-concept-at t) put-concept.Post
-put-concept-returns-4 t c = closed-put _ _ (c .before .before .before .before .before .before .before .before .before .before .before .before .before .before .before .before .before .before .before .before .args .n) (c .before .before .before .before .before .before .before .before .before .before .before .before .before .before .before .before .before .before .before .before .args .depth) (c .before .before .before .before .before .before .before .before .before .before .before .before .before .before .before .before .before .before .before .before .args .nesting .left) (c .before .before .before .before .before .before .before .before .before .before .before .put-tabs .ensures) (c .before .before .before .before .before .before .before .put-marker .ensures .1) (entryOf (c .before .before .before .before .get .result)) (c .before .before .before .before .get .ensures) (c .before .before .if1 .left) (c .if2 .left)
+put-concept-returns-4 t c =
+    closed-put _ _ (c .before .before .before .before .before .before .before .before .before .before .before .before .before .before .before .before .before .before .before .before .args .n) (c .before .before .before .before .before .before .before .before .before .before .before .before .before .before .before .before .before .before .before .before .args .depth) (c .before .before .before .before .before .before .before .before .before .before .before .before .before .before .before .before .before .before .before .before .args .nesting .left) (c .before .before .before .before .before .before .before .before .before .before .before .put-tabs .ensures) (c .before .before .before .before .before .before .before .put-marker .ensures .1) (entryOf (c .before .before .before .before .get .result)) (c .before .before .before .before .get .ensures) (c .before .before .if1 .left) (c .if2 .left)
 
 pub +put-body+put-concept-spec : {M : Type 1} → statement M
 +put-body+put-concept-spec = close μ-put-body μ-put-concept (λ t. put-body-lts.spec (put-body-calls t)

@@ -23,11 +23,13 @@ count-traits-requires c κs = search needs
 
 -- src/concepts.rt:148:9
 returns : tie.Need-returns
-returns c = λ es s e. omega (arith, c .before .count-traits .ensures es s e, ap (λ (x : Entry). x .count) (c .before .before .before .get .ensures), c .if1 .taken)
+returns c =
+    λ es s e. omega (arith, c .before .count-traits .ensures es s e, ap (λ (x : Entry). x .count) (c .before .before .before .get .ensures), c .if1 .taken)
 
 -- src/concepts.rt:141:1
 returns-2 : tie.Need-returns-2
-returns-2 c = λ es s e. omega (arith, c .before .count-traits .ensures es s e, ap (λ (x : Entry). x .count) (c .before .before .before .get .ensures), c .if1 .left)
+returns-2 c =
+    λ es s e. omega (arith, c .before .count-traits .ensures es s e, ap (λ (x : Entry). x .count) (c .before .before .before .get .ensures), c .if1 .left)
 
 pub count-elements-spec : {M : Type 1} → statement M
 count-elements-spec =

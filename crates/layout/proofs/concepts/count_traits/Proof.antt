@@ -45,8 +45,10 @@ loop-again : tie.Need-loop-again Inv-loop μ-loop
 loop-again c = (
   ⊎-elim (λ w. omega arith) (λ w. omega arith) (c .if1 .came),
   λ es s e. ⊎-elim
-      (λ w. rw (w .1) (trait-on _ _ es _ _ (c .before .before .before .before .loop .inv .1 es s e) (c .before .before .before .loop-test .taken) (sym (ap (λ (x : Entry). x .kind) (c .before .before .get .ensures)) ∙ w .0 .taken)))
-      (λ w. rw (w .1) (other-on _ _ es _ _ (c .before .before .before .before .loop .inv .1 es s e) (c .before .before .before .loop-test .taken) (λ k. w .0 .left (ap (λ (x : Entry). x .kind) (c .before .before .get .ensures) ∙ k))))
+      (λ w. rw (w .1) (trait-on _ _ es _ _ (c .before .before .before .before .loop .inv .1 es s e) (c .before .before .before .loop-test .taken)
+      (sym (ap (λ (x : Entry). x .kind) (c .before .before .get .ensures)) ∙ w .0 .taken)))
+      (λ w. rw (w .1) (other-on _ _ es _ _ (c .before .before .before .before .loop .inv .1 es s e) (c .before .before .before .loop-test .taken)
+      (λ k. w .0 .left (ap (λ (x : Entry). x .kind) (c .before .before .get .ensures) ∙ k))))
       (c .if1 .came),
 )
 

@@ -27,7 +27,9 @@ same-length c = search needs
 
 -- src/concepts.rt:34:1
 returns : tie.Need-returns
-returns c = λ t of. sheet-put _ _ t of _ _ (c .before .before .before .before .before .before .before .put-notes .ensures .1) (rw (c .before .before .before .new .ensures) at (c .before .before .put-concept .ensures))
+returns c =
+    λ t of. sheet-put _ _ t of _ _ (c .before .before .before .before .before .before .before .put-notes .ensures .1)
+    (rw (c .before .before .before .new .ensures) at (c .before .before .put-concept .ensures))
 
 pub put-sheet-spec : {M : Type 1} → statement M
 put-sheet-spec =

@@ -26,11 +26,19 @@ add-result-2 c = search needs
 
 -- src/content.rt:51:1
 returns : tie.Need-returns
-returns c = (omega arith, after-crlf (c .before .before .before .before .args .s .now) (c .before .before .before .before .args .at) (sym (c .before .starts-with .ensures) ∙ c .if1 .taken))
+returns c = (
+  omega arith,
+  after-crlf (c .before .before .before .before .args .s .now) (c .before .before .before .before .args .at)
+      (sym (c .before .starts-with .ensures) ∙ c .if1 .taken),
+)
 
 -- src/content.rt:51:1
 returns-2 : tie.Need-returns-2
-returns-2 c = (omega arith, after-lf (c .before .before .before .before .args .s .now) (c .before .before .before .before .args .at) (sym (c .before .starts-with .ensures) ∙ c .if1 .left))
+returns-2 c = (
+  omega arith,
+  after-lf (c .before .before .before .before .args .s .now) (c .before .before .before .before .args .at)
+      (sym (c .before .starts-with .ensures) ∙ c .if1 .left),
+)
 
 pub line-after-spec : {M : Type 1} → statement M
 line-after-spec =

@@ -51,7 +51,16 @@ same-length c = search needs
 
 -- src/content.rt:28:1
 returns-2 : tie.Need-returns-2
-returns-2 c = λ place t ls of rule. (refl, c .before .before .put-lines .ensures t ls (c .before .before .before .spelling-of .ensures ∙ content-lines _ _ _ place t ls of (entryOf (c .before .before .before .before .before .before .before .get .result)) (c .before .before .before .before .before .before .before .get .ensures)) (content-tabs _ _ _ place t ls of (entryOf (c .before .before .before .before .before .before .before .get .result)) (c .before .before .before .before .before .before .before .get .ensures) _ _ (c .before .before .before .before .before .tabs-at .ensures .0) refl) rule)
+returns-2 c =
+    λ place t ls of rule. (
+      refl,
+      c .before .before .put-lines .ensures t ls (c .before .before .before .spelling-of .ensures ∙ content-lines _ _ _ place t ls of
+          (entryOf (c .before .before .before .before .before .before .before .get .result))
+          (c .before .before .before .before .before .before .before .get .ensures)) (content-tabs _ _ _ place t ls of
+          (entryOf (c .before .before .before .before .before .before .before .get .result))
+          (c .before .before .before .before .before .before .before .get .ensures) _ _
+          (c .before .before .before .before .before .tabs-at .ensures .0) refl) rule,
+    )
 
 pub put-content-spec : {M : Type 1} → statement M
 put-content-spec =

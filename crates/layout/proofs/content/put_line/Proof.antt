@@ -19,7 +19,10 @@ same-length c = search needs
 
 -- src/content.rt:40:9
 returns : tie.Need-returns
-returns c = short-put (c .before .before .before .before .before .before .before .args .line .now) (c .before .before .before .before .before .before .before .args .cut) (c .before .before .before .before .before .before .before .args .tabs) (c .before .before .before .before .if1 .taken) (c .before .before .put-byte .ensures)
+returns c =
+    short-put (c .before .before .before .before .before .before .before .args .line .now)
+    (c .before .before .before .before .before .before .before .args .cut) (c .before .before .before .before .before .before .before .args .tabs)
+    (c .before .before .before .before .if1 .taken) (c .before .before .put-byte .ensures)
 
 -- src/content.rt:42:8
 end-requires : tie.Need-end-requires
@@ -35,7 +38,12 @@ same-length-2 c = search needs
 
 -- src/content.rt:43:9
 returns-2 : tie.Need-returns-2
-returns-2 c = blank-put (c .before .before .before .before .before .before .before .before .before .args .line .now) (c .before .before .before .before .before .before .before .before .before .args .cut) (c .before .before .before .before .before .before .before .before .before .args .tabs) (c .before .before .before .before .before .end .result) (c .before .before .before .before .before .end .ensures) (c .before .before .before .before .if2 .taken) (c .before .before .put-byte2 .ensures)
+returns-2 c =
+    blank-put (c .before .before .before .before .before .before .before .before .before .args .line .now)
+    (c .before .before .before .before .before .before .before .before .before .args .cut)
+    (c .before .before .before .before .before .before .before .before .before .args .tabs) (c .before .before .before .before .before .end .result)
+    (c .before .before .before .before .before .end .ensures) (c .before .before .before .before .if2 .taken)
+    (c .before .before .put-byte2 .ensures)
 
 -- src/content.rt:45:9
 put-tabs-requires : tie.Need-put-tabs-requires
@@ -67,7 +75,8 @@ same-length-3 c = search needs
 
 -- src/content.rt:36:1
 returns-3 : tie.Need-returns-3
-returns-3 c = text-put (c .before .before .before .before .before .before .before .before .before .before .before .before .before .before .before .before .before .before .args .line .now) (c .before .before .before .before .before .before .before .before .before .before .before .before .before .before .before .before .before .before .args .cut) (c .before .before .before .before .before .before .before .before .before .before .before .before .before .before .before .before .before .before .args .tabs) (c .before .before .before .before .before .before .before .before .before .before .before .before .before .before .end .result) (c .before .before .before .before .before .before .before .before .before .before .before .before .before .before .end .ensures) (c .before .before .before .before .before .before .before .before .before .before .before .before .before .if2 .left) (c .before .before .before .before .before .before .before .before .before .before .before .before .before .before .before .if1 .left) (c .before .before .before .before .before .before .before .before .before .before .before .put-tabs .ensures) (c .before .before .before .before .before .before .put .ensures) (c .before .before .put-byte3 .ensures)
+returns-3 c =
+    text-put (c .before .before .before .before .before .before .before .before .before .before .before .before .before .before .before .before .before .before .args .line .now) (c .before .before .before .before .before .before .before .before .before .before .before .before .before .before .before .before .before .before .args .cut) (c .before .before .before .before .before .before .before .before .before .before .before .before .before .before .before .before .before .before .args .tabs) (c .before .before .before .before .before .before .before .before .before .before .before .before .before .before .end .result) (c .before .before .before .before .before .before .before .before .before .before .before .before .before .before .end .ensures) (c .before .before .before .before .before .before .before .before .before .before .before .before .before .if2 .left) (c .before .before .before .before .before .before .before .before .before .before .before .before .before .before .before .if1 .left) (c .before .before .before .before .before .before .before .before .before .before .before .put-tabs .ensures) (c .before .before .before .before .before .before .put .ensures) (c .before .before .put-byte3 .ensures)
 
 pub put-line-spec : {M : Type 1} → statement M
 put-line-spec =

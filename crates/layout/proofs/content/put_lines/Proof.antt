@@ -19,7 +19,9 @@ use Rattle.layout.proofs.content.put_line.Reads as put-line-reads
 use Rattle.text.proofs.runs.end.Reads as end-reads
 
 abbrev Inv-loop : tie.InvT-loop
-Inv-loop out₀ at lines cut tabs to₀ i₀ out to i = (length out ≡ length out₀) × ((t : ℕ) (ls : List Line) → lines ≡ linesOnto t ls [] → cut ≡ suc t → all lineRule ls ≡ true → Left (lineRun t tabs) lines out₀ at ls i out to)
+Inv-loop out₀ at lines cut tabs to₀ i₀ out to i =
+    (length out ≡ length out₀)
+    × ((t : ℕ) (ls : List Line) → lines ≡ linesOnto t ls [] → cut ≡ suc t → all lineRule ls ≡ true → Left (lineRun t tabs) lines out₀ at ls i out to)
 
 abbrev μ-loop : tie.MeasureT-loop
 μ-loop out₀ at lines cut tabs to₀ i₀ out to i = length lines - i
@@ -60,8 +62,14 @@ loop-less c = omega arith
 loop-again : tie.Need-loop-again Inv-loop μ-loop
 loop-again c = (
   omega arith,
-  λ t ls e f r. lines-on t (c .before .before .before .before .before .before .before .before .before .before .before .args .tabs) (c .before .before .before .before .before .before .before .before .before .before .before .args .lines .now) ls (c .before .before .before .before .before .before .before .before .loop .i) (c .before .before .before .before .before .before .before .before .loop .inv .1 t ls e f r) (c .before .before .before .before .before .before .before .loop-test .taken)
-      (c .before .before .before .before .before .before .before .before .before .before .before .args .cut) (c .before .before .before .before .before .before .end .result) (c .line-after .result) f (c .before .before .before .before .before .before .end .ensures) (c .line-after .ensures .1) (c .before .before .before .put-line .ensures),
+  λ t ls e f r. lines-on t (c .before .before .before .before .before .before .before .before .before .before .before .args .tabs)
+      (c .before .before .before .before .before .before .before .before .before .before .before .args .lines .now) ls
+      (c .before .before .before .before .before .before .before .before .loop .i)
+      (c .before .before .before .before .before .before .before .before .loop .inv .1 t ls e f r)
+      (c .before .before .before .before .before .before .before .loop-test .taken)
+      (c .before .before .before .before .before .before .before .before .before .before .before .args .cut)
+      (c .before .before .before .before .before .before .end .result) (c .line-after .result) f
+      (c .before .before .before .before .before .before .end .ensures) (c .line-after .ensures .1) (c .before .before .before .put-line .ensures),
 )
 
 -- src/content.rt:22:1

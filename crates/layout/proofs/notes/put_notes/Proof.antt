@@ -20,7 +20,10 @@ use Rattle.layout.proofs.items.spelling_of.Reads as spelling-of-reads
 use Rattle.layout.proofs.notes.put_note.Reads as put-note-reads
 
 abbrev Inv-loop : tie.InvT-loop
-Inv-loop out₀ at s cells n depth to₀ next₀ out to next = (length out ≡ length out₀) × (n ≤ next) × ((parent place : ℕ) (notes : List Annotation) → OfNotes s cells n parent place notes → (kindAt cells (n + length notes) ≡ 4 → ⊥) → NotesLeft s cells depth (n + length notes) out₀ at notes next out to)
+Inv-loop out₀ at s cells n depth to₀ next₀ out to next =
+    (length out ≡ length out₀) × (n ≤ next)
+    × ((parent place : ℕ) (notes : List Annotation) → OfNotes s cells n parent place notes → (kindAt cells (n + length notes) ≡ 4 → ⊥) → NotesLeft s cells
+    depth (n + length notes) out₀ at notes next out to)
 
 abbrev μ-loop : tie.MeasureT-loop
 μ-loop out₀ at s cells n depth to₀ next₀ out to next = length cells - next
@@ -43,7 +46,11 @@ same-length c = omega arith
 
 -- src/notes.rt:31:13
 returns : tie.Need-returns Inv-loop μ-loop
-returns c = (c .before .before .before .loop .inv .1, λ parent place notes of none. notes-over _ _ _ _ _ _ notes (c .before .before .before .loop .inv .2 parent place notes of none) (λ k. c .if1 .taken (ap (λ (e : Entry). e .kind) (c .before .before .get .ensures) ∙ k)))
+returns c = (
+  c .before .before .before .loop .inv .1,
+  λ parent place notes of none. notes-over _ _ _ _ _ _ notes (c .before .before .before .loop .inv .2 parent place notes of none)
+      (λ k. c .if1 .taken (ap (λ (e : Entry). e .kind) (c .before .before .get .ensures) ∙ k)),
+)
 
 -- src/notes.rt:33:32
 spelling-of-requires : tie.Need-spelling-of-requires Inv-loop μ-loop
@@ -55,19 +62,36 @@ put-note-requires c κs = search needs
 
 -- src/notes.rt:34:9
 add-next : tie.Need-add-next Inv-loop μ-loop
-add-next c = let h = is-inside (c .before .before .before .before .before .before .before .before .before .before .before .before .args .cells .now) (c .before .before .before .before .before .before .before .before .loop .next) (c .before .before .before .before .before .before .before .get .result .kind) (ap (λ (e : Entry). e .kind) (c .before .before .before .before .before .before .before .get .ensures)) (c .before .before .before .before .before .if1 .left) in omega arith
+add-next c =
+    let h =
+    is-inside (c .before .before .before .before .before .before .before .before .before .before .before .before .args .cells .now)
+    (c .before .before .before .before .before .before .before .before .loop .next)
+    (c .before .before .before .before .before .before .before .get .result .kind)
+    (ap (λ (e : Entry). e .kind) (c .before .before .before .before .before .before .before .get .ensures))
+    (c .before .before .before .before .before .if1 .left) in omega arith
 
 -- src/notes.rt:28:5
 loop-less : tie.Need-loop-less Inv-loop μ-loop
-loop-less c = let h = is-inside (c .before .before .before .before .before .before .before .before .before .before .before .before .args .cells .now) (c .before .before .before .before .before .before .before .before .loop .next) (c .before .before .before .before .before .before .before .get .result .kind) (ap (λ (e : Entry). e .kind) (c .before .before .before .before .before .before .before .get .ensures)) (c .before .before .before .before .before .if1 .left) in omega arith
+loop-less c =
+    let h =
+    is-inside (c .before .before .before .before .before .before .before .before .before .before .before .before .args .cells .now)
+    (c .before .before .before .before .before .before .before .before .loop .next)
+    (c .before .before .before .before .before .before .before .get .result .kind)
+    (ap (λ (e : Entry). e .kind) (c .before .before .before .before .before .before .before .get .ensures))
+    (c .before .before .before .before .before .if1 .left) in omega arith
 
 -- src/notes.rt:28:5
 loop-again : tie.Need-loop-again Inv-loop μ-loop
 loop-again c = (
   omega arith,
   omega (arith, c .before .before .before .before .before .before .before .before .loop .inv .1),
-  λ parent place notes of none. notes-on _ _ _ _ _ _ notes (c .before .before .before .before .before .before .before .before .loop .inv .2 parent place notes of none) none
-      (sym (ap (λ (e : Entry). e .kind) (c .before .before .before .before .before .before .before .get .ensures)) ∙ c .before .before .before .before .before .if1 .left) (entryOf (c .before .before .before .before .before .before .before .get .result)) (c .before .before .before .before .before .before .before .get .ensures) _ (c .before .before .before .spelling-of .ensures) (c .before .before .put-note .ensures),
+  λ parent place notes of none. notes-on _ _ _ _ _ _ notes
+      (c .before .before .before .before .before .before .before .before .loop .inv .2 parent place notes of none) none
+      (sym (ap (λ (e : Entry). e .kind) (c .before .before .before .before .before .before .before .get .ensures)) ∙
+      c .before .before .before .before .before .if1 .left) (entryOf
+      (c .before .before .before .before .before .before .before .get .result))
+      (c .before .before .before .before .before .before .before .get .ensures) _ (c .before .before .before .spelling-of .ensures)
+      (c .before .before .put-note .ensures),
 )
 
 pub put-notes-spec : {M : Type 1} → statement M

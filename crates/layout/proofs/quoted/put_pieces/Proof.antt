@@ -16,7 +16,8 @@ use Rattle.layout.proofs.quoted.put_pieces.Lts as lts
 use Rattle.layout.proofs.quoted.put_piece.Reads as put-piece-reads
 
 abbrev Inv-loop : tie.InvT-loop
-Inv-loop out₀ at quote w to₀ i₀ out to i = (length out ≡ length out₀) × ((ps : List Piece) → w ≡ piecesOnto ps [] → all (pieceRule quote) ps ≡ true → Left (pieceRun quote) w out₀ at ps i out to)
+Inv-loop out₀ at quote w to₀ i₀ out to i =
+    (length out ≡ length out₀) × ((ps : List Piece) → w ≡ piecesOnto ps [] → all (pieceRule quote) ps ≡ true → Left (pieceRun quote) w out₀ at ps i out to)
 
 abbrev μ-loop : tie.MeasureT-loop
 μ-loop out₀ at quote w to₀ i₀ out to i = length w - i
@@ -35,7 +36,11 @@ loop-less c = omega arith
 
 -- src/quoted.rt:183:5
 loop-again : tie.Need-loop-again Inv-loop μ-loop
-loop-again c = (omega arith, λ ps e r. rest-on _ _ _ _ ps _ _ _ (c .before .before .before .before .before .loop .inv .1 ps e r) (c .before .before .before .before .loop-test .taken) _ _ _ (c .before .before .put-piece .ensures .1))
+loop-again c = (
+  omega arith,
+  λ ps e r. rest-on _ _ _ _ ps _ _ _ (c .before .before .before .before .before .loop .inv .1 ps e r)
+      (c .before .before .before .before .loop-test .taken) _ _ _ (c .before .before .put-piece .ensures .1),
+)
 
 -- src/quoted.rt:177:1
 same-length : tie.Need-same-length Inv-loop μ-loop
