@@ -289,4 +289,4 @@ module _ (table s cells mid out : List ℕ) (r : Answer) (place count : ℕ) (va
   written answer after zeros z f =
       let read = tree-read in
       let b : begin table s (length cells) ≡ tree (read .it) = begins-tree (record { modes = modesOf table; valid = valid; read = read .finds }) in
-      rw (b, writing, z) (f (modesOf table) (read .it) (length cells) (read .of))
+      rw (b, writing, z) (f (read .it) (length cells) (read .of))
