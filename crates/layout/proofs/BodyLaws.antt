@@ -21,7 +21,7 @@ use Rattle.paper.proofs.Fronts.{blank-front, notes-front, whole-front, concept-
 use Rattle.entries.specs.Laid.{entryAt}
 use Rattle.layout.specs.Page.{page, Puts}
 use Rattle.layout.specs.Standing.{Stand, kindAt, Ends, OfConcept, OfBody}
-use Rattle.layout.specs.Walking.{OfNotes, Keeps, KeepsBody, printRest}
+use Rattle.layout.specs.Walking.{OfNotes, Keeps, KeepsBody, printRest, NotesPut, ConceptPut}
 use Rattle.layout.proofs.Standing.{stand-entry, stand-front, stand-back}
 
 -- ---- an empty line, where there is one
@@ -74,8 +74,8 @@ pub record First (s cells : List ℕ) (left n parent : ℕ) (body : Body) : Type
   pub size : bodySize body ≡ length notes + conceptSize it + bodySize behind
   pub sense : bodySense body ≡ with (map annotationSense notes) (conceptSense it) (bodySense behind)
 
-pub first : (s cells : List ℕ) (left n parent at : ℕ) (body : Body) → OfBody s cells n parent at body → KeepsBody left body → Ends cells (n + bodySize body)
-    → 0 < bodyCount body → First s cells left n parent body
+pub first : (s cells : List ℕ) (left n parent at : ℕ) (body : Body) → OfBody s cells n parent at body → KeepsBody left body
+    → Ends cells (n + bodySize body) → 0 < bodyCount body → First s cells left n parent body
 unfolding bodyCount bodySize bodySense bodyEntries bodyOnto bodyRule bodyFits bodyDepth
 first s cells left n parent at done of keeps none h = absurd (omega arith)
 first s cells left n parent at (blankLine b body) of keeps none h =
@@ -135,19 +135,18 @@ first s cells left n parent at (element notes tabs c rest body) of keeps none h 
       notes-at = at;
       at = start;
       behind-at = end;
-      of-notes =
-          record {
-            after = tabsOnto tabs (conceptOnto tabs c (blankOnto rest later));
-            spelt = of .spelt;
-            stand = stand-front cells n noted concepts (of .stand);
-          };
-      of =
-          record {
-            after = blankOnto rest later;
-            spelt = spelt;
-            stand = stand-front cells own (conceptEntry parent start tabs c ∷ inside) others stands;
-            ends = body-ends s cells (own + conceptSize c) parent end body of-behind (rw whole at none);
-          };
+      of-notes = record {
+        after = tabsOnto tabs (conceptOnto tabs c (blankOnto rest later));
+        spelt = of .spelt;
+        stand = stand-front cells n noted concepts
+            (of .stand);
+      };
+      of = record {
+        after = blankOnto rest later;
+        spelt = spelt;
+        stand = stand-front cells own (conceptEntry parent start tabs c ∷ inside) others stands;
+        ends = body-ends s cells (own + conceptSize c) parent end body of-behind (rw whole at none);
+      };
       of-behind = of-behind;
       keeps = record { rule = r .1; within = w .0; deep = omega (arith, keeps .deep) };
       keeps-behind = record { rule = r .3; within = w .1; deep = omega (arith, keeps .deep) };
@@ -183,17 +182,6 @@ unfolding printBody
 rest-with true depth notes c inner t = refl
 rest-with false depth notes c inner t = refl
 
--- the annotations from entry n on were put, and the Concept of entry n was
-abbrev pub NotesPut : List ℕ → List ℕ → ℕ → ℕ → List ℕ → ℕ → ℕ → List ℕ → ℕ → Type 0
-NotesPut s cells n depth out at next after to =
-    (parent place : ℕ) (notes : List Annotation) → OfNotes s cells n parent place notes → (kindAt cells (n + length notes) ≡ 4 → ⊥)
-    → (next ≡ n + length notes) × Puts out at (printNotes depth (map annotationSense notes)) after to
-
-abbrev pub ConceptPut : List ℕ → List ℕ → ℕ → ℕ → ℕ → List ℕ → ℕ → ℕ → List ℕ → ℕ → Type 0
-ConceptPut s cells n depth left out at next after to =
-    (parent place tabs : ℕ) (c : Concept) → OfConcept s cells n parent place tabs c → Keeps left c
-    → (next ≡ n + conceptSize c) × Puts out at (λ t. tabsOnto depth (printConcept depth (conceptSense c) (lf ∷ t))) after to
-
 module _ (s cells : List ℕ) (depth deep whole : ℕ) (out₀ : List ℕ) (at : ℕ) (body : Body) where
   pub record BodyLeft (left next : ℕ) (between : Bool) (out : List ℕ) (to : ℕ) : Type 0 where
     pub parent : ℕ
@@ -208,8 +196,7 @@ module _ (s cells : List ℕ) (depth deep whole : ℕ) (out₀ : List ℕ) (at :
   module _ (none : Ends cells whole) {left next : ℕ} {between : Bool} {out : List ℕ} {to : ℕ} (so-far : BodyLeft left next between out to) where
     module _ (some : 0 < left) where
       abbrev one : First s cells deep next (so-far .parent) (so-far .more)
-      one =
-          first s cells deep next (so-far .parent) (so-far .place) (so-far .more) (so-far .of) (so-far .keeps) (rw (so-far .total) none)
+      one = first s cells deep next (so-far .parent) (so-far .place) (so-far .more) (so-far .of) (so-far .keeps) (rw (so-far .total) none)
           (omega (arith, so-far .few))
 
       no-note : kindAt cells (next + length (one .notes)) ≡ 4 → ⊥
@@ -245,8 +232,8 @@ module _ (s cells : List ℕ) (depth deep whole : ℕ) (out₀ : List ℕ) (at :
               same = λ t.
                   so-far .same t
                   ∙ ap (page out to)
-                  (ap (λ (b : BodySense). printRest between depth b t) (one .sense) ∙ rest-with between depth (map annotationSense (one .notes))
-                  (conceptSense (one .it)) (bodySense (one .behind)) t)
+                  (ap (λ (b : BodySense). printRest between depth b t) (one .sense)
+                  ∙ rest-with between depth (map annotationSense (one .notes)) (conceptSense (one .it)) (bodySense (one .behind)) t)
                   ∙ gap .same (printNotes depth (map annotationSense (one .notes))
                   (tabsOnto depth (printConcept depth (conceptSense (one .it)) (lf ∷ printMore depth (bodySense (one .behind)) t))))
                   ∙ p .1 .same (tabsOnto depth (printConcept depth (conceptSense (one .it)) (lf ∷ printMore depth (bodySense (one .behind)) t)))
@@ -257,7 +244,8 @@ module _ (s cells : List ℕ) (depth deep whole : ℕ) (out₀ : List ℕ) (at :
     body-over h =
         let e = none-left (so-far .more) (omega (arith, so-far .few)) in (
           omega (arith, so-far .total, e .0),
-          record { same = λ t. so-far .same t ∙ ap (page out to) (ap (λ (b : BodySense). printRest between depth b t) (e .1) ∙ rest-none between depth t) },
+          record
+              { same = λ t. so-far .same t ∙ ap (page out to) (ap (λ (b : BodySense). printRest between depth b t) (e .1) ∙ rest-none between depth t) },
         )
 
 pub body-all : (s cells : List ℕ) (depth deep : ℕ) (out₀ : List ℕ) (at n parent place left : ℕ) (body : Body) → OfBody s cells n parent place body

@@ -27,11 +27,11 @@ use Rattle.paper.proofs.Fronts.{marker-front, blank-front, past-front, past-byt
 use Rattle.entries.specs.Laid.{entryAt}
 use Rattle.layout.specs.Page.{page, Puts}
 use Rattle.layout.specs.Standing.{Stand, Ends, OfConcept, OfBody}
-use Rattle.layout.specs.Marking.{endingOf}
-use Rattle.layout.specs.Walking.{OfContent, Keeps, KeepsBody, traitsIn, Elements}
+use Rattle.layout.specs.Walking.{OfContent, Keeps, KeepsBody, traitsIn, Elements, ContentPut, ConceptPut, BodyPut}
+use Rattle.layout.specs.Wholes.{MarkerPut}
 use Rattle.layout.proofs.Standing.{stand-entry, stand-front, stand-back}
 use Rattle.layout.proofs.Parts.{part-is}
-use Rattle.layout.proofs.BodyLaws.{own-entry, ConceptPut}
+use Rattle.layout.proofs.BodyLaws.{own-entry}
 
 -- ---- the closing marker
 
@@ -49,8 +49,8 @@ unfolding traitsIn
 traits-append [] b = omega arith
 traits-append (e ∷ a) b = go (eqb (e .kind) 2) (traits-append a b)
   where
-    go : (t : Bool) → traitsIn (a ++ b) ≡ traitsIn a + traitsIn b
-        → pick t (suc (traitsIn (a ++ b))) (traitsIn (a ++ b)) ≡ pick t (suc (traitsIn a)) (traitsIn a) + traitsIn b
+    go : (t : Bool) → traitsIn (a ++ b) ≡ traitsIn a + traitsIn b → pick t (suc (traitsIn (a ++ b))) (traitsIn (a ++ b))
+        ≡ pick t (suc (traitsIn a)) (traitsIn a) + traitsIn b
     go true h = omega arith
     go false h = h
 
@@ -66,7 +66,8 @@ mutual
       omega (
         arith,
         traits-append (itemEntries next (next + 1) (at + 1) v) (moreEntries parent (next + 1 + itemSize v) end more),
-        items-none v next (next + 1) (at + 1),
+        items-none v next (next + 1)
+            (at + 1),
         more-none more parent (next + 1 + itemSize v) end,
       )
 
@@ -78,7 +79,8 @@ mutual
       omega (
         arith,
         traits-append (itemEntries next (next + 1) start v) (moreEntries parent (next + 1 + itemSize v) end more),
-        items-none v next (next + 1) start,
+        items-none v next (next + 1)
+            start,
         more-none more parent (next + 1 + itemSize v) end,
       )
 
@@ -92,7 +94,8 @@ traits-count (t ∷ ts) parent next at =
       arith,
       traits-append items (traitEntries parent (next + traitSize t) end ts),
       items-none (t .value) next (next + 1) (traitValue at t),
-      traits-count ts parent (next + traitSize t) end,
+      traits-count
+          ts parent (next + traitSize t) end,
     )
 
 -- the entries that are left to count: what stands from number i on
@@ -144,18 +147,6 @@ some-depth (selfClosed k) = omega arith
 some-depth (children k rest body back) = omega arith
 some-depth (content k rest lines) = omega arith
 
--- the marker of entry n was put with its line end; the elements of the body from entry n on were
-abbrev pub MarkerPut : List ℕ → List ℕ → ℕ → ℕ → List ℕ → ℕ → ℕ → List ℕ → ℕ → Type 0
-MarkerPut s cells n depth out at next after to =
-    (parent place tabs : ℕ) (c : Concept) → OfConcept s cells n parent place tabs c → markerRule (markerOf c) ≡ true
-    → markerFits nameLimit listLimit (markerOf c) ≡ true
-    → (next ≡ n + 1 + traitsSize (markerOf c .traits)) × Puts out at (λ t. printMarker depth (markerSense (markerOf c)) (endingOf c) (lf ∷ t)) after to
-
-abbrev pub BodyPut : List ℕ → List ℕ → ℕ → ℕ → ℕ → ℕ → List ℕ → ℕ → ℕ → List ℕ → ℕ → Type 0
-BodyPut s cells n elements depth left out at next after to =
-    (parent place : ℕ) (body : Body) → OfBody s cells n parent place body → KeepsBody left body → Ends cells (n + bodySize body) → elements ≡ bodyCount body
-    → (next ≡ n + bodySize body) × Puts out at (printBody depth (bodySense body)) after to
-
 -- the name of a Concept
 name-is : (s cells : List ℕ) (n parent place tabs : ℕ) (c : Concept) → OfConcept s cells n parent place tabs c → (own : Entry) → own ≡ entryAt cells n
     → take (own .nameEnd - own .nameStart) (drop (own .nameStart) s) ≡ markerOf c .name
@@ -163,8 +154,8 @@ unfolding conceptOnto
 name-is s cells n parent place tabs c of own is =
     ap (λ (e : Entry). take (e .nameEnd - e .nameStart) (drop (e .nameStart) s)) (is ∙ own-entry s cells n parent place tabs c of) ∙ go c (of .spelt)
   where
-    go : (c : Concept) → drop place s ≡ conceptOnto tabs c (of .after)
-        → take (markerName place (markerOf c) - (place + 1)) (drop (place + 1) s) ≡ markerOf c .name
+    go : (c : Concept) → drop place s ≡ conceptOnto tabs c (of .after) → take (markerName place (markerOf c) - (place + 1)) (drop (place + 1) s)
+        ≡ markerOf c .name
     go (selfClosed k) e = part-is s (place + 1) (markerName place k) (k .name) _ (past-bytes s place (byte "<" ∷ []) _ e) refl
     go (children k rest body back) e = part-is s (place + 1) (markerName place k) (k .name) _ (past-bytes s place (byte "<" ∷ []) _ e) refl
     go (content k rest lines) e = part-is s (place + 1) (markerName place k) (k .name) _ (past-bytes s place (byte "<" ∷ []) _ e) refl
@@ -229,7 +220,8 @@ module _ (s cells : List ℕ) (n parent place tabs : ℕ) (k : Marker) (rest : B
   unfolding insideEntries traitsIn
   traits-there = (
     stand-front cells n front (bodyEntries n (n + 1 + traitsSize (k .traits)) (bodyStart place k rest) body) (of .stand),
-    traits-count (k .traits) n (n + 1) (markerName place k),
+    traits-count
+        (k .traits) n (n + 1) (markerName place k),
   )
 
 form-is : (s cells : List ℕ) (n parent place tabs : ℕ) (c : Concept) → OfConcept s cells n parent place tabs c → (own : Entry) → own ≡ entryAt cells n
@@ -257,12 +249,11 @@ module _ (s cells : List ℕ) (n depth left : ℕ) {out mid marked : List ℕ} {
   module _ {inner after : List ℕ} {last to : ℕ} (deeper : ℕ) (one-deeper : deeper ≡ suc depth) (name : List ℕ)
       (named : name ≡ take (own .nameEnd - own .nameStart) (drop (own .nameStart) s))
       (closing : Puts inner last (λ t. tabsOnto depth (closingOnto name (lf ∷ t))) after to) where
-    module _ {behind : ℕ} (content′ : (place t : ℕ) (ls : List Line) → OfContent s cells next place t ls → all lineRule ls ≡ true → (behind ≡ next + 1) × Puts
-        marked end (printLines deeper (map lineSense ls)) inner last) where
-      content-one : (parent place tabs : ℕ) (k : Marker) (rest : Blank) (lines : List Line) → OfConcept s cells n parent place tabs (content k rest lines)
-          → Keeps left (content k rest lines)
-          → (behind ≡ n + conceptSize (content k rest lines))
-          × Puts out at (λ t. tabsOnto depth (printConcept depth (conceptSense (content k rest lines)) (lf ∷ t))) after to
+    module _ {behind : ℕ} (content′ : ContentPut s cells next deeper marked end behind inner last) where
+      content-one : (parent place tabs : ℕ) (k : Marker) (rest : Blank) (lines : List Line)
+          → OfConcept s cells n parent place tabs (content k rest lines) → Keeps left (content k rest lines)
+          → (behind ≡ n + conceptSize (content k rest lines)) × Puts out at
+          (λ t. tabsOnto depth (printConcept depth (conceptSense (content k rest lines)) (lf ∷ t))) after to
       unfolding conceptSize conceptSense printConcept conceptRule conceptFits
       content-one parent place tabs k rest lines of keeps =
           let r = element-parts (markerRule k) (opensBlock k) (blankRule rest) (all lineRule lines) (keeps .rule) in
@@ -293,21 +284,20 @@ module _ (s cells : List ℕ) (n depth left : ℕ) {out mid marked : List ℕ} {
         (body′ : BodyPut s cells next elements deeper fewer marked end behind inner last) where
       children-one : (parent place tabs : ℕ) (k : Marker) (rest : Blank) (body : Body) (back : ℕ)
           → OfConcept s cells n parent place tabs (children k rest body back) → Keeps left (children k rest body back)
-          → (behind ≡ n + conceptSize (children k rest body back))
-          × Puts out at (λ t. tabsOnto depth (printConcept depth (conceptSense (children k rest body back)) (lf ∷ t))) after to
+          → (behind ≡ n + conceptSize (children k rest body back)) × Puts out at
+          (λ t. tabsOnto depth (printConcept depth (conceptSense (children k rest body back)) (lf ∷ t))) after to
       unfolding conceptSize conceptSense printConcept conceptRule conceptFits conceptDepth
       children-one parent place tabs k rest body back of keeps =
           let r = element-parts (markerRule k) (opensBlock k) (blankRule rest) (bodyRule body) (keeps .rule) in
           let w = both (markerFits nameLimit listLimit k) (bodyFits nameLimit listLimit body) (keeps .within) in
           let p = marker parent place tabs (children k rest body back) of (r .0) (w .0) in
           let there = traits-there s cells n parent place tabs k rest body back of in
-          let far : next ≡ n + length (front s cells n parent place tabs k rest body back of) =
-          p .0 ∙ sym (size s cells n parent place tabs k rest body back of) in
+          let far : next ≡ n + length (front s cells n parent place tabs k rest body back of) = p .0
+          ∙ sym (size s cells n parent place tabs k rest body back of) in
           let count = ap (λ (e : Entry). e .count) (own-entry s cells n parent place tabs (children k rest body back) of) in
           let few : elements ≡ bodyCount body =
           omega (arith, counted (front s cells n parent place tabs k rest body back of) (there .0) far, count, there .1) in
-          let q =
-          body′ n (bodyStart place k rest) body (rw (p .0) (body-of s cells n parent place tabs k rest body back of))
+          let q = body′ n (bodyStart place k rest) body (rw (p .0) (body-of s cells n parent place tabs k rest body back of))
           (record { rule = r .3; within = w .1; deep = omega (arith, keeps .deep) })
           (rw (p .0) (body-ended s cells n parent place tabs k rest body back of)) few in
           let close = named-put s cells n parent place tabs (children k rest body back) of own is name named depth closing in (

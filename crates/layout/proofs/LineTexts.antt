@@ -23,7 +23,7 @@ use Rattle.text.proofs.Places.{front-behind}
 use Rattle.text.proofs.Stretch.{Stretch, front-at, behind-at}
 use Rattle.entries.specs.Laid.{entryAt}
 use Rattle.layout.specs.Page.{page, Puts}
-use Rattle.layout.specs.Texts.{inked}
+use Rattle.layout.specs.Texts.{inked, PastEnd}
 use Rattle.layout.specs.Walking.{OfContent}
 use Rattle.layout.proofs.Standing.{stand-entry}
 use Rattle.layout.proofs.Parts.{part-is}
@@ -71,8 +71,9 @@ module _ (line : List ℕ) (cut tabs : ℕ) {out after : List ℕ} {at to : ℕ}
       → Puts more past (λ next. lf ∷ next) after to
       → Puts out at (printLine tabs (inked (drop cut line))) after to
   text-put end run n h {mid} {start = start} f g k =
-      let ink : all isBlank (drop cut line) ≡ false =
-      split (all isBlank (drop cut line)) (λ a. absurd (n (omega (arith, run .0, front-whole isBlank (drop cut line) a, length-drop cut line)))) (λ a. a) in
+      let ink : all isBlank (drop cut line)
+      ≡ false = split (all isBlank (drop cut line)) (λ a. absurd (n (omega (arith, run .0, front-whole isBlank (drop cut line) a, length-drop cut line))))
+      (λ a. a) in
       let some : 0 < length (drop cut line) = omega (arith, length-drop cut line) in
       let whole : take (length line - cut) (drop cut line) ≡ drop cut line =
       take-all (length line - cut) (drop cut line) (omega (arith, length-drop cut line)) in
@@ -151,20 +152,18 @@ shape t (text w e) left r =
     }
 
 line-put : (w : List ℕ) (i t cut tabs : ℕ) {out after : List ℕ} {to past : ℕ} (end n : ℕ) → cut ≡ suc t → Stretch isText w i end
-    → ((e : LineEnd) (next : List ℕ) → drop end w ≡ lineEndOnto e next → drop n w ≡ next)
+    → PastEnd w end n
     → Puts out to (printLine tabs (inked (drop cut (take (end - i) (drop i w))))) after past
     → (l : Line) (left : List ℕ) → drop i w ≡ lineOnto t l left → lineRule l ≡ true → (drop n w ≡ left) × Puts out to (printLine tabs (lineSense l)) after past
 line-put w i t cut tabs {out} {to = to} end n c run f p l left e r =
     let x = shape t l left r in
     let whole = e ∙ x .is in
-    let front : take (end - i) (drop i w) ≡ x .front-bytes =
-    sym (front-at isText w i end run) ∙ ap (front isText) whole
+    let front : take (end - i) (drop i w) ≡ x .front-bytes = sym (front-at isText w i end run) ∙ ap (front isText) whole
     ∙ front-of isText (x .front-bytes) (lineEndOnto (x .end) left) (x .on-line) (end-stops (x .end) left) in
-    let back : drop end w ≡ lineEndOnto (x .end) left =
-    sym (behind-at isText w i end run) ∙ ap (behind isText) whole
+    let back : drop end w ≡ lineEndOnto (x .end) left = sym (behind-at isText w i end run) ∙ ap (behind isText) whole
     ∙ behind-of isText (x .front-bytes) (lineEndOnto (x .end) left) (x .on-line) (end-stops (x .end) left) in
     let sense : inked (drop cut (take (end - i) (drop i w))) ≡ lineSense l = rw (front, c) (x .means) in
-    (f (x .end) left back, rw sense at p)
+    (f .left (x .end) left back, rw sense at p)
 
 end-longer : (e : LineEnd) (next : List ℕ) → length next < length (lineEndOnto e next)
 end-longer LF next = omega arith
@@ -172,8 +171,8 @@ end-longer CRLF next = omega arith
 
 pub line-longer : (t : ℕ) (l : Line) (next : List ℕ) → length next < length (lineOnto t l next)
 line-longer t (blank b) next = omega (arith, length-append (b .blanks) (lineEndOnto (b .end) next), end-longer (b .end) next)
-line-longer t (text w e) next =
-    omega (arith, length-append (replicate (suc t) tab) (w ++ lineEndOnto e next), length-append w (lineEndOnto e next), end-longer e next)
+line-longer t (text w e) next = omega
+    (arith, length-append (replicate (suc t) tab) (w ++ lineEndOnto e next), length-append w (lineEndOnto e next), end-longer e next)
 
 -- lines one behind the other, put at so many tabs
 unfoldable pub lineRun : ℕ → ℕ → Sequence Line
@@ -201,7 +200,7 @@ module _ (t tabs : ℕ) (w : List ℕ) {out₀ : List ℕ} {at : ℕ} (ls : List
 
   module _ (i : ℕ) {out : List ℕ} {to : ℕ} (so-far : Left (lineRun t tabs) w out₀ at ls i out to) where
     pub lines-on : i < length w → (cut end n : ℕ) {after : List ℕ} {past : ℕ} → cut ≡ suc t → Stretch isText w i end
-        → ((e : LineEnd) (next : List ℕ) → drop end w ≡ lineEndOnto e next → drop n w ≡ next)
+        → PastEnd w end n
         → Puts out to (printLine tabs (inked (drop cut (take (end - i) (drop i w))))) after past
         → Left (lineRun t tabs) w out₀ at ls n after past
     unfolding lineRun

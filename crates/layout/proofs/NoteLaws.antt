@@ -21,8 +21,9 @@ use Rattle.layout.proofs.Parts.{part-is}
 -- ---- one annotation
 
 pub note-put : (text : List ℕ) (depth : ℕ) {out a b c after : List ℕ} {at mark start end to : ℕ}
-    → Puts out at (tabsOnto depth) a mark → Puts a mark (λ next. byte "[" ∷ next) b start → Puts b start (λ next. collapse text ++ next) c end
-    → Puts c end (λ next. bytes "]\n" ++ next) after to
+    → Puts out at (tabsOnto depth) a mark
+    → Puts a mark (λ next. byte "[" ∷ next) b start → Puts b start (λ next. collapse text ++ next) c end → Puts c end (λ next. bytes "]\n" ++ next) after
+    to
     → Puts out at (printNotes depth (collapse text ∷ [])) after to
 unfolding printNotes
 note-put text depth p q r t =
@@ -46,8 +47,8 @@ module _ (s cells : List ℕ) (depth whole : ℕ) (out₀ : List ℕ) (at : ℕ)
   module _ (next : ℕ) (out : List ℕ) (to : ℕ) (parent place : ℕ) where
     on : (more : List Annotation) → OfNotes s cells next parent place more → next + length more ≡ whole
         → ((t : List ℕ) → page out₀ at (printNotes depth (map annotationSense notes) t) ≡ page out to (printNotes depth (map annotationSense more) t))
-        → (kindAt cells whole ≡ 4 → ⊥) → kindAt cells next ≡ 4 → (e : Entry) → e ≡ entryAt cells next → (text : List ℕ)
-        → text ≡ take (e .end - e .start) (drop (e .start) s)
+        → (kindAt cells whole ≡ 4 → ⊥) → kindAt cells next ≡ 4 → (e : Entry) → e ≡ entryAt cells next → (text : List ℕ) → text
+        ≡ take (e .end - e .start) (drop (e .start) s)
         → {after : List ℕ} {end : ℕ} → Puts out to (printNotes depth (collapse text ∷ [])) after end → NotesLeft (next + 1) after end
     unfolding annotationsOnto annotationEntries printNotes
     on [] of total same none k e is text t p = let z : next ≡ whole = omega (arith, total) in absurd (none (ap (λ (i : ℕ). kindAt cells i) (sym z) ∙ k))
@@ -59,8 +60,8 @@ module _ (s cells : List ℕ) (depth whole : ℕ) (out₀ : List ℕ) (at : ℕ)
         let mark : drop (place + a .tabs) s ≡ byte "[" ∷ (a .text ++ (byte "]" ∷ rest)) =
         ap (λ (n : ℕ). drop (place + n) s) (sym (length-replicate (a .tabs) tab))
         ∙ past-bytes s place tabs (byte "[" ∷ (a .text ++ (byte "]" ∷ rest))) (of .spelt) in
-        let start : drop (place + a .tabs + 1) s ≡ a .text ++ (byte "]" ∷ rest) =
-        past-bytes s (place + a .tabs) (byte "[" ∷ []) (a .text ++ (byte "]" ∷ rest)) mark in
+        let start : drop (place + a .tabs + 1) s ≡ a .text ++ (byte "]" ∷ rest) = past-bytes s (place + a .tabs)
+        (byte "[" ∷ []) (a .text ++ (byte "]" ∷ rest)) mark in
         let says : text ≡ a .text =
         t ∙ ap (λ (x : Entry). take (x .end - x .start) (drop (x .start) s)) entry
         ∙ part-is s (place + a .tabs + 1) (place + a .tabs + 1 + length (a .text)) (a .text) (byte "]" ∷ rest) start refl in
@@ -85,8 +86,8 @@ module _ (s cells : List ℕ) (depth whole : ℕ) (out₀ : List ℕ) (at : ℕ)
     over (a ∷ more) of total same k = absurd (k (ap (λ (x : Entry). x .kind) (stand-entry cells next _ _ (of .stand))))
 
   module _ {next : ℕ} {out : List ℕ} {to : ℕ} (so-far : NotesLeft next out to) where
-    pub notes-on : (kindAt cells whole ≡ 4 → ⊥) → kindAt cells next ≡ 4 → (e : Entry) → e ≡ entryAt cells next → (text : List ℕ)
-        → text ≡ take (e .end - e .start) (drop (e .start) s)
+    pub notes-on : (kindAt cells whole ≡ 4 → ⊥) → kindAt cells next ≡ 4 → (e : Entry) → e ≡ entryAt cells next → (text : List ℕ) → text
+        ≡ take (e .end - e .start) (drop (e .start) s)
         → {after : List ℕ} {end : ℕ} → Puts out to (printNotes depth (collapse text ∷ [])) after end → NotesLeft (next + 1) after end
     notes-on = on next out to (so-far .parent) (so-far .place) (so-far .more) (so-far .stands) (so-far .total) (so-far .same)
 

@@ -42,10 +42,10 @@ use Rattle.sheets.specs.Sheets.{answerOf, Reads}
 use Rattle.sheets.proofs.SheetLaws.{count-fits}
 use Rattle.layout.specs.Page.{Page, holds, full, page, Puts}
 use Rattle.layout.specs.Standing.{Stand, kindAt, Ends, OfConcept}
-use Rattle.layout.specs.Walking.{OfNotes, OfSheet, Keeps}
+use Rattle.layout.specs.Walking.{OfNotes, OfSheet, Keeps, NotesPut, ConceptPut, FormWritten}
 use Rattle.layout.proofs.Putting.{page-full}
 use Rattle.layout.proofs.Standing.{stand-front, stand-back}
-use Rattle.layout.proofs.BodyLaws.{own-entry, NotesPut, ConceptPut}
+use Rattle.layout.proofs.BodyLaws.{own-entry}
 
 -- ---- a page that bytes were put on and nothing follows
 
@@ -61,11 +61,11 @@ module _ (out after w : List ℕ) (at to : ℕ) (e : page out at w ≡ page afte
   pub page-done : at + length w ≤ length out → length after ≡ length out → (after ≡ sets out at w) × (to ≡ at + length w)
   page-done h l =
       split (leb to (length after))
-      (λ k. let q : holds (sets out at w) (at + length w) ≡ holds after to = sym (page-holds out at w h) ∙ e ∙ page-ends after to
-      (leb-true to (length after) k) in (cc, cc))
+      (λ k. let q : holds (sets out at w) (at + length w) ≡ holds after to = sym (page-holds out at w h) ∙ e
+      ∙ page-ends after to (leb-true to (length after) k) in (cc, cc))
       (λ k.
-      let q : holds (sets out at w) (at + length w) ≡ full =
-      sym (page-holds out at w h) ∙ e ∙ page-full after to [] (omega (arith, leb-false to (length after) k)) in
+      let q : holds (sets out at w) (at + length w) ≡ full = sym (page-holds out at w h) ∙ e
+      ∙ page-full after to [] (omega (arith, leb-false to (length after) k)) in
       let z : _≡_ {A = ℕ} 0 1 = cc in
       absurd (omega arith))
 
@@ -82,8 +82,8 @@ module _ (out after w : List ℕ) (at to : ℕ) (e : page out at w ≡ page afte
   page-short l k =
       split (leb (at + length w) (length out))
       (λ h.
-      let q : holds (sets out at w) (at + length w) ≡ full =
-      sym (page-holds out at w (leb-true (at + length w) (length out) h)) ∙ e ∙ page-full after to [] (omega arith) in
+      let q : holds (sets out at w) (at + length w) ≡ full = sym (page-holds out at w (leb-true (at + length w) (length out) h)) ∙ e
+      ∙ page-full after to [] (omega arith) in
       let z : _≡_ {A = ℕ} 0 1 = cc in
       absurd (omega arith))
       (λ h. leb-false (at + length w) (length out) h)
@@ -117,8 +117,7 @@ module _ (s cells : List ℕ) (t : Sheet) (of : OfSheet s cells t) where
 
   front : drop before s ≡ annotationsOnto (t .annotations) (tabsOnto (t .tabs) (conceptOnto (t .tabs) (t .root) rest))
   unfolding sheetOnto
-  front =
-      ap (λ (n : ℕ). drop n s) (sym (zero-add before))
+  front = ap (λ (n : ℕ). drop n s) (sym (zero-add before))
       ∙ past-front s 0 (blanksOnto (t .before)) (annotationsOnto (t .annotations) (tabsOnto (t .tabs) (conceptOnto (t .tabs) (t .root) rest)))
       (blanks-front (t .before)) (sym (of .covers))
 
@@ -129,16 +128,15 @@ module _ (s cells : List ℕ) (t : Sheet) (of : OfSheet s cells t) where
   none-behind : Ends cells (own + conceptSize (t .root))
   unfolding sheetSize
   none-behind =
-      let size : length cells ≡ (own + conceptSize (t .root)) * entryCells =
-      ap length (of .are) ∙ cells-length (entries t) ∙ ap (λ (n : ℕ). n * entryCells) (entries-size t) in
+      let size : length cells ≡ (own + conceptSize (t .root)) * entryCells = ap length (of .are) ∙ cells-length (entries t)
+      ∙ ap (λ (n : ℕ). n * entryCells) (entries-size t) in
       let kind : kindAt cells (own + conceptSize (t .root)) ≡ 0 = ap (λ (e : Entry). e .kind) (at-none cells (own + conceptSize (t .root)) (omega arith)) in
       record { no-trait = λ k. omega (arith, sym kind ∙ k); no-item = λ k. omega (arith, sym kind ∙ k) }
 
   root-of : OfConcept s cells own noParent (rootStart t) (t .tabs) (t .root)
   root-of =
       let size : 0 + length notes ≡ own = omega (arith, notes-size (t .annotations) noParent before) in
-      let mark =
-      past-front s before (annotationsOnto (t .annotations)) (tabsOnto (t .tabs) (conceptOnto (t .tabs) (t .root) rest))
+      let mark = past-front s before (annotationsOnto (t .annotations)) (tabsOnto (t .tabs) (conceptOnto (t .tabs) (t .root) rest))
       (notes-front (t .annotations)) front in
       record {
         after = rest;
@@ -177,6 +175,11 @@ form-not : (lent : ℕ) (out w : List ℕ) → min (length out) sheetLimit < len
 unfolding writeForm
 form-not lent out w h = rw (lt-leb (length w) (min (length out) sheetLimit) h, writeForm)
 
+written-is : (lent : ℕ) (out after w : List ℕ) (end : ℕ) → end ≡ 0 + length w → after ≡ w ++ drop (0 + length w) out → length w ≤ min (length out) sheetLimit
+    → record { answer = accepted 0 end; out = after; cells = replicate lent 0 } ≡ writeForm lent out w
+written-is lent out after w end e s h =
+    ap₂ (λ (n : ℕ) (o : List ℕ). record { answer = accepted 0 n; out = o; cells = replicate lent 0 }) e s ∙ sym (form-fits lent out w h)
+
 module _ (form₀ form w out : List ℕ) (end lent : ℕ) (e : page form₀ 0 w ≡ page form end []) (l : length form ≡ length form₀)
     (limit : length form₀ ≡ sheetLimit) where
   abbrev Written : Answer → List ℕ → Type 0
@@ -207,7 +210,7 @@ module _ (form₀ form w out : List ℕ) (end lent : ℕ) (e : page form₀ 0 w 
         let room : 0 + length w ≤ length out = omega arith in
         let put : page out 0 w ≡ page after to [] = ap (page out 0) (sym (append-nil w) ∙ ap (λ (v : List ℕ). v ++ []) (sym is-form)) ∙ p .same [] in
         let stored : after ≡ w ++ drop (0 + length w) out = page-done out after w 0 to put room same .0 ∙ sets-eq w out 0 room in
-        ap₂ (λ (n : ℕ) (o : List ℕ). record { answer = accepted 0 n; out = o; cells = replicate lent 0 }) (laid .1) stored ∙ sym (form-fits lent out w fits)
+        written-is lent out after w end (laid .1) stored fits
 
 -- ---- writing
 
@@ -259,8 +262,8 @@ module _ (table s cells mid out : List ℕ) (r : Answer) (place count : ℕ) (va
   unfolding withinLimits
   tree-read = go (sheetOf (modesOf table) (roomOf (length cells)) s) refl (sheet-answers (modesOf table) (roomOf (length cells)) s) (g .says)
     where
-      go : (x : Found Sheet) → sheetOf (modesOf table) (roomOf (length cells)) s ≡ x → Answers (modesOf table) (roomOf (length cells)) s x
-          → told r ≡ answerOf s x → Read
+      go : (x : Found Sheet) → sheetOf (modesOf table) (roomOf (length cells)) s ≡ x → Answers (modesOf table) (roomOf (length cells)) s x → told r
+          ≡ answerOf s x → Read
       go (fault n left) e h q = absurd (omega (arith, h .least, sym (ap (λ (x : Told). x .number) (sym (ap told is) ∙ q))))
       go (found t left) e h q =
           let a = h .1 in
@@ -272,18 +275,18 @@ module _ (table s cells mid out : List ℕ) (r : Answer) (place count : ℕ) (va
             finds = e ∙ ap (found t) (h .0);
             of = record {
               covers = a .derives .covers;
-              keeps =
-                  record { rule = root-rule (modesOf table) t (a .derives .rule); within = w .1; deep = leb-true (conceptDepth (t .root)) conceptLimit (p .1) };
+              keeps = record {
+                rule = root-rule (modesOf table) t (a .derives .rule);
+                within = w .1;
+                deep = leb-true (conceptDepth (t .root)) conceptLimit
+                    (p .1);
+              };
               are = laid-front cells mid (entries t) count many (omega (arith, cells-inside)) (g .laid t left e);
             };
           }
 
   pub written : (answer : Answer) (after : List ℕ) (zeros : List ℕ) → zeros ≡ replicate (length cells) 0
-      → ((t : Sheet) (lent : ℕ) → OfSheet s (take (count * entryCells) mid) t → record {
-        answer = told answer;
-        out = after;
-        cells = replicate lent 0;
-      } ≡ writeForm lent out (canonical t))
+      → FormWritten s (take (count * entryCells) mid) out (told answer) after
       → record { answer = told answer; out = after; cells = zeros } ≡ writing table s (length cells) out
   unfolding writing
   written answer after zeros z f =

@@ -3,18 +3,23 @@
 use Prim.Native.Nat.{ℕ, suc, _+_, _-_, _≤_}
 use mathlib.Core.Path.{_≡_}
 use mathlib.Core.Bool.{Bool, true}
-use mathlib.Core.List.{List, [], _∷_}
-use lib.ListN.{length, drop}
+use mathlib.Core.List.{List, [], _∷_, map}
+use lib.ListN.{length, drop, replicate}
 use lib.Dec.{eqb}
+use Rattle.paper.specs.Answer.{Told}
 use Rattle.paper.specs.Found.{pick}
+use Rattle.paper.specs.Bytes.{all, lf}
 use Rattle.paper.specs.Names.{nameLimit}
 use Rattle.paper.specs.Tree.{Annotation, Line, Concept, Body, Sheet}
-use Rattle.paper.specs.Grammar.{tabsOnto, annotationsOnto, closingOnto, linesOnto, sheetOnto, conceptRule, bodyRule}
+use Rattle.paper.specs.Grammar.{tabsOnto, annotationsOnto, closingOnto, linesOnto, sheetOnto, lineRule, conceptRule, bodyRule}
 use Rattle.paper.specs.Limits.{listLimit, conceptLimit, conceptFits, bodyFits, conceptDepth, bodyDepth}
-use Rattle.paper.specs.Entries.{Entry, unnamed, annotationEntries, allCells, entries}
-use Rattle.paper.specs.Canonical.{BodySense, printBody, printMore}
+use Rattle.paper.specs.Entries.{Entry, unnamed, annotationEntries, conceptSize, bodySize, bodyCount, allCells, entries}
+use Rattle.paper.specs.Canonical.{BodySense, annotationSense, lineSense, conceptSense, bodySense, printNotes, printLines, printConcept, printBody, printMore}
+use Rattle.paper.specs.Canonical.{canonical}
+use Rattle.paper.specs.Writing.{writeForm}
 use Rattle.entries.specs.Laid.{entryAt}
-use Rattle.layout.specs.Standing.{Stand}
+use Rattle.layout.specs.Page.{page, Puts}
+use Rattle.layout.specs.Standing.{Stand, kindAt, Ends, OfConcept, OfBody}
 
 -- annotations from entry n on, whose lines start at `at`
 pub record OfNotes (s cells : List ℕ) (n parent at : ℕ) (notes : List Annotation) : Type 0 where
@@ -62,3 +67,38 @@ Elements cells n next count = (es : List Entry) → Stand cells n es → next �
 -- the elements that are left of a body: the first of them, or those behind another
 abbrev pub printRest : Bool → ℕ → BodySense → List ℕ → List ℕ
 printRest between depth inner next = pick between (printMore depth inner next) (printBody depth inner next)
+
+-- ---- what a function that puts such a part leaves of the page, for every tree that stands there, and the entry that comes next
+
+-- the annotations from entry n on, behind which stands none
+abbrev pub NotesPut : List ℕ → List ℕ → ℕ → ℕ → List ℕ → ℕ → ℕ → List ℕ → ℕ → Type 0
+NotesPut s cells n depth out at next after to =
+    (parent place : ℕ) (notes : List Annotation) → OfNotes s cells n parent place notes → (kindAt cells (n + length notes) ≡ 4 → ⊥)
+    → (next ≡ n + length notes) × Puts out at (printNotes depth (map annotationSense notes)) after to
+
+-- the Content of entry n
+abbrev pub ContentPut : List ℕ → List ℕ → ℕ → ℕ → List ℕ → ℕ → ℕ → List ℕ → ℕ → Type 0
+ContentPut s cells n tabs out at next after to =
+    (place t : ℕ) (ls : List Line) → OfContent s cells n place t ls → all lineRule ls ≡ true
+    → (next ≡ n + 1) × Puts out at (printLines tabs (map lineSense ls)) after to
+
+-- the Concept of entry n, with its line end
+abbrev pub ConceptPut : List ℕ → List ℕ → ℕ → ℕ → ℕ → List ℕ → ℕ → ℕ → List ℕ → ℕ → Type 0
+ConceptPut s cells n depth left out at next after to =
+    (parent place tabs : ℕ) (c : Concept) → OfConcept s cells n parent place tabs c → Keeps left c
+    → (next ≡ n + conceptSize c) × Puts out at (λ t. tabsOnto depth (printConcept depth (conceptSense c) (lf ∷ t))) after to
+
+-- so many elements of a body, from entry n on
+abbrev pub BodyPut : List ℕ → List ℕ → ℕ → ℕ → ℕ → ℕ → List ℕ → ℕ → ℕ → List ℕ → ℕ → Type 0
+BodyPut s cells n elements depth left out at next after to =
+    (parent place : ℕ) (body : Body) → OfBody s cells n parent place body → KeepsBody left body → Ends cells (n + bodySize body)
+    → elements ≡ bodyCount body → (next ≡ n + bodySize body) × Puts out at (printBody depth (bodySense body)) after to
+
+-- a whole sheet, from the first byte on; and its form written to lent room, or not at all
+abbrev pub SheetPut : List ℕ → List ℕ → List ℕ → List ℕ → ℕ → Type 0
+SheetPut s cells out after to = (t : Sheet) → OfSheet s cells t → page out 0 (canonical t) ≡ page after to []
+
+abbrev pub FormWritten : List ℕ → List ℕ → List ℕ → Told → List ℕ → Type 0
+FormWritten s cells out answer after =
+    (t : Sheet) (lent : ℕ) → OfSheet s cells t → record { answer = answer; out = after; cells = replicate lent 0 }
+    ≡ writeForm lent out (canonical t)

@@ -18,8 +18,9 @@ ghost use Rattle.layout.specs.Ticks.{First};
 // Where the byte is that the piece at `at` stands for: behind the backslash of an escaped backtick, else there.
 fn meant_at(w: &[u8], at: usize) -> usize
     requires { ⌜ at < length (now w) ⌝ }
-    ensures { λ r. ⌜ (at ≤ r) × (r < length (now (w .entry))) × ((after : Bool) (ps : List Piece)
-        → drop at (now (w .entry)) ≡ piecesOnto ps [] → backtickRule after ps ≡ true → First (now (w .entry)) r ps) ⌝ }
+    ensures { λ r. ⌜ (at ≤ r) × (r < length (now (w .entry)))
+        × ((after : Bool) (ps : List Piece) → drop at (now (w .entry)) ≡ piecesOnto ps [] → backtickRule after ps ≡ true
+        → First (now (w .entry)) r ps) ⌝ }
 {
     if starts_with(w, at, b"\\`") {
         return at + 1;

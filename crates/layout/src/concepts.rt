@@ -15,24 +15,19 @@ use paper::kinds;
 use values::nesting::Deeper;
 use values::nesting::Nesting;
 ghost use mathlib.Core.Path.{_≡_};
-ghost use mathlib.Core.List.{[], _∷_};
-ghost use Prim.Native.Nat.{ℕ, _+_, _-_, _≤_};
+ghost use mathlib.Core.List.{_∷_};
+ghost use Prim.Native.Nat.{_+_, _-_, _≤_};
 ghost use lib.ListN.{take, drop};
 ghost use Rattle.paper.specs.Found.{pick};
 ghost use Rattle.paper.specs.Bytes.{lf};
 ghost use Rattle.paper.specs.Limits.{conceptLimit};
-ghost use Rattle.paper.specs.Tree.{Concept, Body, Sheet};
 ghost use Rattle.paper.specs.Grammar.{tabsOnto, closingOnto};
-ghost use Rattle.paper.specs.Entries.{conceptSize, bodySize, bodyCount};
-ghost use Rattle.paper.specs.Canonical.{conceptSense, bodySense, printConcept, printBody, canonical};
-ghost use Rattle.layout.specs.Page.{page, Puts};
-ghost use Rattle.layout.specs.Standing.{Ends, OfConcept, OfBody};
-ghost use Rattle.layout.specs.Walking.{Keeps, KeepsBody, OfSheet, Traits, Elements};
+ghost use Rattle.layout.specs.Page.{Puts};
+ghost use Rattle.layout.specs.Walking.{ConceptPut, BodyPut, SheetPut, Traits, Elements};
 
 // Puts the canonical form of the sheet that has just these entries, from the first byte on.
 pub fn put_sheet(out: &mut [u8], s: &[u8], cells: &[u32]) -> usize
-    ensures { λ r. ⌜ ((t : Sheet) → OfSheet (now (s .entry)) (now (cells .entry)) t
-        → page (now (out .entry)) 0 (canonical t) ≡ page (now (out .exit)) r []) ⌝ }
+    ensures { λ r. ⌜ SheetPut (now (s .entry)) (now (cells .entry)) (now (out .entry)) (now (out .exit)) r ⌝ }
 {
     let notes = put_notes(out, 0, s, cells, 0, 0);
     let root = put_concept(
@@ -58,11 +53,8 @@ fn put_concept(
     nesting: Nesting,
 ) -> Walk
     requires { ⌜ depth + nesting .left ≤ conceptLimit ⌝ }
-    ensures { λ r. ⌜ ((parent place tabs : ℕ) (c : Concept) → OfConcept (now (s .entry)) (now (cells .entry)) n parent place tabs c
-        → Keeps (nesting .left) c
-        → (r .next ≡ n + conceptSize c)
-        × Puts (now (out .entry)) at (λ next. tabsOnto depth (printConcept depth (conceptSense c) (lf ∷ next))) (now (out .exit))
-        (r .at)) ⌝ }
+    ensures { λ r. ⌜ ConceptPut (now (s .entry)) (now (cells .entry)) n depth (nesting .left) (now (out .entry)) at (r .next)
+        (now (out .exit)) (r .at) ⌝ }
 {
     let Deeper::Inside(inside) = nesting.step() else {
         return Walk { at, next: n };
@@ -109,9 +101,8 @@ fn put_body(
     nesting: Nesting,
 ) -> Walk
     requires { ⌜ depth + nesting .left ≤ conceptLimit ⌝ }
-    ensures { λ r. ⌜ ((parent place : ℕ) (body : Body) → OfBody (now (s .entry)) (now (cells .entry)) n parent place body
-        → KeepsBody (nesting .left) body → Ends (now (cells .entry)) (n + bodySize body) → elements ≡ bodyCount body
-        → (r .next ≡ n + bodySize body) × Puts (now (out .entry)) at (printBody depth (bodySense body)) (now (out .exit)) (r .at)) ⌝ }
+    ensures { λ r. ⌜ BodyPut (now (s .entry)) (now (cells .entry)) n elements depth (nesting .left) (now (out .entry)) at (r .next)
+        (now (out .exit)) (r .at) ⌝ }
 {
     let mut to = at;
     let mut next = n;

@@ -11,18 +11,14 @@ use text::parts::starts_with;
 use text::runs;
 use text::runs::Class;
 ghost use mathlib.Core.Path.{_≡_};
-ghost use mathlib.Core.Bool.{true};
-ghost use mathlib.Core.List.{List, [], map};
-ghost use Prim.Native.Nat.{ℕ, suc, _+_, _≤_, _<_};
+ghost use Prim.Native.Nat.{_≤_};
 ghost use lib.ListN.{length, drop};
-ghost use Rattle.paper.specs.Bytes.{all, lengthIn};
-ghost use Rattle.paper.specs.Tree.{LineEnd, Line};
-ghost use Rattle.paper.specs.Grammar.{lineEndOnto, linesOnto, lineRule};
+ghost use Rattle.paper.specs.Bytes.{lengthIn};
 ghost use Rattle.paper.specs.Reading.{isTab};
-ghost use Rattle.paper.specs.Canonical.{lineSense, printLine, printLines};
+ghost use Rattle.paper.specs.Canonical.{printLine};
 ghost use Rattle.layout.specs.Page.{Puts};
-ghost use Rattle.layout.specs.Texts.{inked};
-ghost use Rattle.layout.specs.Walking.{OfContent};
+ghost use Rattle.layout.specs.Texts.{inked, PastEnd, LinesPut};
+ghost use Rattle.layout.specs.Walking.{ContentPut};
 
 // Puts the lines of the Content of entry n, with their text at so many tabs. The closing line behind them has the tabs of their marker.
 pub fn put_content(
@@ -33,9 +29,7 @@ pub fn put_content(
     n: usize,
     tabs: usize,
 ) -> Walk
-    ensures { λ r. ⌜ ((place t : ℕ) (ls : List Line) → OfContent (now (s .entry)) (now (cells .entry)) n place t ls
-        → all lineRule ls ≡ true
-        → (r .next ≡ n + 1) × Puts (now (out .entry)) at (printLines tabs (map lineSense ls)) (now (out .exit)) (r .at)) ⌝ }
+    ensures { λ r. ⌜ ContentPut (now (s .entry)) (now (cells .entry)) n tabs (now (out .entry)) at (r .next) (now (out .exit)) (r .at) ⌝ }
 {
     if cells.len() / CELLS <= n {
         return Walk { at, next: n };
@@ -60,8 +54,7 @@ fn tabs_at(s: &[u8], at: usize) -> usize
 
 // Puts lines whose text stands behind `cut` tabs, with their text at so many tabs.
 fn put_lines(out: &mut [u8], at: usize, lines: &[u8], cut: usize, tabs: usize) -> usize
-    ensures { λ r. ⌜ ((t : ℕ) (ls : List Line) → now (lines .entry) ≡ linesOnto t ls [] → cut ≡ suc t → all lineRule ls ≡ true
-        → Puts (now (out .entry)) at (printLines tabs (map lineSense ls)) (now (out .exit)) r) ⌝ }
+    ensures { λ r. ⌜ LinesPut (now (lines .entry)) cut tabs (now (out .entry)) at (now (out .exit)) r ⌝ }
 {
     let mut to = at;
     let mut i = 0;
@@ -91,8 +84,7 @@ fn put_line(out: &mut [u8], at: usize, line: &[u8], cut: usize, tabs: usize) -> 
 // Behind the line end that stands at `at`.
 fn line_after(s: &[u8], at: usize) -> usize
     requires { ⌜ at ≤ length (now s) ⌝ }
-    ensures { λ r. ⌜ (at < r) × ((e : LineEnd) (next : List ℕ) → drop at (now (s .entry)) ≡ lineEndOnto e next
-        → drop r (now (s .entry)) ≡ next) ⌝ }
+    ensures { λ r. ⌜ PastEnd (now (s .entry)) at r ⌝ }
 {
     if starts_with(s, at, b"\r") {
         at + 2

@@ -21,13 +21,10 @@ use paper::Refusal;
 use sheets::read_under;
 use text::utf8::Cursor;
 ghost use mathlib.Core.Path.{_≡_};
-ghost use Prim.Native.Nat.{ℕ};
-ghost use lib.ListN.{length, replicate};
+ghost use lib.ListN.{length};
 ghost use Rattle.paper.specs.Answer.{told};
-ghost use Rattle.paper.specs.Tree.{Sheet};
-ghost use Rattle.paper.specs.Canonical.{canonical};
-ghost use Rattle.paper.specs.Writing.{writeForm, writing};
-ghost use Rattle.layout.specs.Walking.{OfSheet};
+ghost use Rattle.paper.specs.Writing.{writing};
+ghost use Rattle.layout.specs.Walking.{FormWritten};
 
 // Writes the canonical form of a sheet that reads without refusal. The cells are lent to the reading, and zero after every answer.
 // A refusal leaves `out` as it came.
@@ -51,12 +48,10 @@ pub fn write(table: &[u8], sheet: &[u8], cells: &mut [u32], out: &mut [u8]) -> A
     answer
 }
 
-// Writes the canonical form of the sheet that has just these entries. It is laid out on a page first, so that nothing is
-// written where it does not fit.
+// Writes the canonical form of the sheet that has just these entries. It is laid out on a page first, so that nothing is written where it
+// does not fit.
 fn write_form(sheet: &[u8], cells: &[u32], out: &mut [u8]) -> Answer
-    ensures { λ r. ⌜ ((t : Sheet) (lent : ℕ) → OfSheet (now (sheet .entry)) (now (cells .entry)) t
-        → record { answer = told r; out = now (out .exit); cells = replicate lent 0 }
-        ≡ writeForm lent (now (out .entry)) (canonical t)) ⌝ }
+    ensures { λ r. ⌜ FormWritten (now (sheet .entry)) (now (cells .entry)) (now (out .entry)) (told r) (now (out .exit)) ⌝ }
 {
     let mut form = [0; Cursor::LIMIT];
     let end = put_sheet(&mut form, sheet, cells);

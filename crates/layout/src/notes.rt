@@ -8,23 +8,17 @@ use crate::page::put_tabs;
 use crate::spaced::put_collapsed;
 use entries::get;
 use paper::kinds;
-ghost use mathlib.Core.Path.{_≡_};
-ghost use mathlib.Core.List.{List, [], _∷_, map};
-ghost use Prim.Native.Nat.{ℕ, _+_, _≤_};
-ghost use lib.ListN.{length};
+ghost use mathlib.Core.List.{[], _∷_};
+ghost use Prim.Native.Nat.{_≤_};
 ghost use Rattle.paper.specs.Values.{collapse};
-ghost use Rattle.paper.specs.Tree.{Annotation};
-ghost use Rattle.paper.specs.Canonical.{annotationSense, printNotes};
+ghost use Rattle.paper.specs.Canonical.{printNotes};
 ghost use Rattle.layout.specs.Page.{Puts};
-ghost use Rattle.layout.specs.Standing.{kindAt};
-ghost use Rattle.layout.specs.Walking.{OfNotes};
+ghost use Rattle.layout.specs.Walking.{NotesPut};
 
 // Puts the annotations from entry n on.
 pub fn put_notes(out: &mut [u8], at: usize, s: &[u8], cells: &[u32], n: usize, depth: usize) -> Walk
-    ensures { λ r. ⌜ (n ≤ r .next) × ((parent place : ℕ) (notes : List Annotation)
-        → OfNotes (now (s .entry)) (now (cells .entry)) n parent place notes → (kindAt (now (cells .entry)) (n + length notes) ≡ 4 → ⊥)
-        → (r .next ≡ n + length notes)
-        × Puts (now (out .entry)) at (printNotes depth (map annotationSense notes)) (now (out .exit)) (r .at)) ⌝ }
+    ensures { λ r. ⌜ (n ≤ r .next)
+        × NotesPut (now (s .entry)) (now (cells .entry)) n depth (now (out .entry)) at (r .next) (now (out .exit)) (r .at) ⌝ }
 {
     let mut to = at;
     let mut next = n;

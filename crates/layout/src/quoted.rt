@@ -157,10 +157,9 @@ fn digits_end(w: &[u8], at: usize, most: usize) -> usize
 // Puts what the hex digits at `at` stand for, of which there are at most so many.
 fn put_spelt(out: &mut [u8], to: usize, quote: u8, w: &[u8], at: usize, most: usize) -> Put
     requires { ⌜ (at ≤ length (now w)) × (most ≤ 6) ⌝ }
-    ensures { λ r. ⌜ (at ≤ r .next) × (r .next ≤ length (now (w .entry))) × ((digits left : List ℕ)
-        → drop at (now (w .entry)) ≡ digits ++ left → spellsScalar digits ≡ true
-        → min most (lengthIn isHex (digits ++ left)) ≡ length digits
-        → (drop (r .next) (now (w .entry)) ≡ left)
+    ensures { λ r. ⌜ (at ≤ r .next) × (r .next ≤ length (now (w .entry)))
+        × ((digits left : List ℕ) → drop at (now (w .entry)) ≡ digits ++ left → spellsScalar digits ≡ true
+        → min most (lengthIn isHex (digits ++ left)) ≡ length digits → (drop (r .next) (now (w .entry)) ≡ left)
         × Puts (now (out .entry)) to (bytesOnto quote (encode (hexValue 0 digits))) (now (out .exit)) (r .at)) ⌝ }
 {
     let end = digits_end(w, at, most);
@@ -174,8 +173,8 @@ fn put_spelt(out: &mut [u8], to: usize, quote: u8, w: &[u8], at: usize, most: us
 // Puts what one piece stands for, which begins at `at`.
 fn put_piece(out: &mut [u8], to: usize, quote: u8, w: &[u8], at: usize) -> Put
     requires { ⌜ (at < length (now w)) × (quote < byte "\\") ⌝ }
-    ensures { λ r. ⌜ (at < r .next) × ((p : Piece) (left : List ℕ) → drop at (now (w .entry)) ≡ pieceOnto p left
-        → pieceRule quote p ≡ true
+    ensures { λ r. ⌜ (at < r .next)
+        × ((p : Piece) (left : List ℕ) → drop at (now (w .entry)) ≡ pieceOnto p left → pieceRule quote p ≡ true
         → (drop (r .next) (now (w .entry)) ≡ left)
         × Puts (now (out .entry)) to (bytesOnto quote (pieceMeans p)) (now (out .exit)) (r .at)) ⌝ }
 {

@@ -1,3 +1,4 @@
+-- A refused table or sheet is passed through; else what the form leaves, and zeros in all cells. Assumes nothing.
 use borrow.Author.Needs.{needs}
 use Prim.Native.Nat.{ℕ}
 use mathlib.Core.Path.{sym, ap, _∙_}
@@ -9,135 +10,126 @@ use Rattle.sheets.proofs.SheetLaws.{all-zero, table-refused, sheet-done}
 use Rattle.layout.proofs.WriteLaws.{refused-through, none-counted, cells-inside, written}
 use Rattle.layout.proofs.write.Statement.{statement}
 use Rattle.layout.proofs.write.Tie as tie
-use Rattle.layout.proofs.write.Reads as reads
-use Rattle.layout.proofs.write.Lts as lts
-use Rattle.entries.proofs.zero_from.Reads as zero-from-reads
-use Rattle.layout.proofs.write_form.Reads as write-form-reads
-use Rattle.modes.proofs.read.Reads as read-reads
-use Rattle.sheets.proofs.read_under.Reads as read-under-reads
 
--- src/lib.rt:38:9
 read-requires : tie.Need-read-requires
 read-requires c κs = search needs
 
 enum-told : tie.Need-enum-told
 enum-told c = search needs
 
--- src/lib.rt:40:19
 enum-told-2 : tie.Need-enum-told-2
 enum-told-2 c = search needs
 
--- src/lib.rt:40:9
 zero-from-requires : tie.Need-zero-from-requires
 zero-from-requires c κs = search needs
 
--- src/lib.rt:41:9
 same-length : tie.Need-same-length
 same-length c = search needs
 
--- src/lib.rt:41:9
 returns : tie.Need-returns
 returns c =
-    refused-through (c .before .before .before .before .before .before .before .before .before .before .before .args .table .now)
-    (c .before .before .before .before .before .before .before .before .before .before .before .args .sheet .now)
-    (c .before .before .before .before .before .before .before .before .before .before .before .args .out .now) _
-    (c .before .before .before .before .before .before .read .result) _ _ (c .before .before .before .before .enum-told2 .given .1) _
-    (table-refused (c .before .before .before .before .before .before .before .before .before .before .before .args .table .now)
-    (c .before .before .before .before .before .before .before .before .before .before .before .args .sheet .now)
-    (c .before .before .before .before .before .before .before .before .before .before .before .args .cells .now)
-    (c .before .before .before .before .before .before .read .result) _ _ (c .before .before .before .before .before .before .read .ensures)
-    (c .before .before .before .before .enum-told2 .given .1) _ (c .before .before .zero-from .ensures))
+    let at-zero-from = c .before .before in
+    let at-enum-told2 = at-zero-from .before .before in
+    let at-read = at-enum-told2 .before .before in
+    let top = at-read .before .before .before .before .before in
+    refused-through (top .args .table .now) (top .args .sheet .now) (top .args .out .now) _ (at-read .read .result) _ _
+    (at-enum-told2 .enum-told2 .given .1) _
+    (table-refused (top .args .table .now) (top .args .sheet .now) (top .args .cells .now) (at-read .read .result) _ _ (at-read .read .ensures)
+    (at-enum-told2 .enum-told2 .given .1) _ (at-zero-from .zero-from .ensures))
 
--- src/lib.rt:43:9
 read-under-requires : tie.Need-read-under-requires
 read-under-requires c κs = accepted-valid _ _ _ _ (c .before .before .before .read .ensures) (c .before .enum-told .given .1)
 
--- src/lib.rt:44:38
 enum-known-reading : tie.Need-enum-known-reading
 enum-known-reading c = search needs
 
--- src/lib.rt:45:19
 enum-told-3 : tie.Need-enum-told-3
 enum-told-3 c = search needs
 
--- src/lib.rt:45:9
 zero-from-requires-2 : tie.Need-zero-from-requires-2
 zero-from-requires-2 c κs = search needs
 
--- src/lib.rt:46:9
 same-length-2 : tie.Need-same-length-2
 same-length-2 c = search needs
 
--- src/lib.rt:46:9
 returns-2 : tie.Need-returns-2
 returns-2 c =
-    refused-through (c .before .before .before .before .before .before .before .before .before .before .before .before .before .before .before .before .before .args .table .now) (c .before .before .before .before .before .before .before .before .before .before .before .before .before .before .before .before .before .args .sheet .now) (c .before .before .before .before .before .before .before .before .before .before .before .before .before .before .before .before .before .args .out .now) _ (c .before .before .before .before .before .before .before .before .read-under .result) _ _ (c .before .before .before .before .enum-told3 .given .1) _
-    (sheet-done (c .before .before .before .before .before .before .before .before .before .before .before .before .before .before .before .before .before .args .table .now) (c .before .before .before .before .before .before .before .before .before .before .before .before .before .before .before .before .before .args .sheet .now) (c .before .before .before .before .before .before .before .before .before .before .before .before .before .before .before .before .before .args .cells .now) (c .before .before .before .before .before .before .before .before .read-under .result) _ 0 (c .before .before .before .before .before .before .before .before .read-under .ensures) (c .before .before .before .before .before .before .before .before .read-under .kept .1 .1 .0)
-    (none-counted _ _ _ (c .before .before .before .before .enum-told3 .given .1)) _
-    (accepted-valid _ _ _ _ (c .before .before .before .before .before .before .before .before .before .before .before .before .read .ensures)
-    (c .before .before .before .before .before .before .before .before .before .before .enum-told .given .1)) (c .before .before .zero-from2 .ensures))
+    let at-zero-from2 = c .before .before in
+    let at-enum-told3 = at-zero-from2 .before .before in
+    let at-read-under = at-enum-told3 .before .before .before .before in
+    let at-enum-told = at-read-under .before .before in
+    let at-read = at-enum-told .before .before in
+    let top = at-read .before .before .before .before .before in
+    refused-through (top .args .table .now) (top .args .sheet .now) (top .args .out .now) _ (at-read-under .read-under .result) _ _
+    (at-enum-told3 .enum-told3 .given .1) _
+    (sheet-done (top .args .table .now) (top .args .sheet .now) (top .args .cells .now) (at-read-under .read-under .result) _ 0
+    (at-read-under .read-under .ensures) (at-read-under .read-under .kept .1 .1 .0) (none-counted _ _ _ (at-enum-told3 .enum-told3 .given .1)) _
+    (accepted-valid _ _ _ _ (at-read .read .ensures) (at-enum-told .enum-told .given .1)) (at-zero-from2 .zero-from2 .ensures))
 
--- src/lib.rt:48:15
 mul-end : tie.Need-mul-end
 mul-end c =
+    let at-reading = c .before in
+    let at-read-under = at-reading .before .before .before .before in
+    let at-enum-told = at-read-under .before .before in
+    let at-read = at-enum-told .before .before in
+    let top = at-read .before .before .before .before .before in
     omega (
       arith,
-      cells-inside (c .before .before .before .before .before .before .before .before .before .before .before .before .before .before .args .table .now)
-          (c .before .before .before .before .before .before .before .before .before .before .before .before .before .before .args .sheet .now)
-          (c .before .before .before .before .before .before .before .before .before .before .before .before .before .before .args .cells .now) _
-          (c .before .before .before .before .before .before .before .before .before .before .before .before .before .before .args .out .now)
-          (c .before .before .before .before .before .read-under .result) _ _
-          (accepted-valid _ _ _ _ (c .before .before .before .before .before .before .before .before .before .read .ensures)
-          (c .before .before .before .before .before .before .before .enum-told .given .1)) (c .before .before .before .before .before .read-under .ensures)
-          (c .before .before .before .before .before .read-under .kept .1 .1 .0) (c .before .reading .given .1),
+      cells-inside (top .args .table .now) (top .args .sheet .now) (top .args .cells .now) _ (top .args .out .now)
+          (at-read-under .read-under .result) _ _ (accepted-valid _ _ _ _ (at-read .read .ensures) (at-enum-told .enum-told .given .1))
+          (at-read-under .read-under .ensures) (at-read-under .read-under .kept .1 .1 .0) (at-reading .reading .given .1),
     )
 
--- src/lib.rt:49:36
 slice-reshare-prefix-write-form : tie.Need-slice-reshare-prefix-write-form
 slice-reshare-prefix-write-form c =
-    cells-inside (c .before .before .before .before .before .before .before .before .before .before .before .before .before .before .args .table .now)
-    (c .before .before .before .before .before .before .before .before .before .before .before .before .before .before .args .sheet .now)
-    (c .before .before .before .before .before .before .before .before .before .before .before .before .before .before .args .cells .now) _
-    (c .before .before .before .before .before .before .before .before .before .before .before .before .before .before .args .out .now)
-    (c .before .before .before .before .before .read-under .result) _ _
-    (accepted-valid _ _ _ _ (c .before .before .before .before .before .before .before .before .before .read .ensures)
-    (c .before .before .before .before .before .before .before .enum-told .given .1)) (c .before .before .before .before .before .read-under .ensures)
-    (c .before .before .before .before .before .read-under .kept .1 .1 .0) (c .before .reading .given .1)
+    let at-reading = c .before in
+    let at-read-under = at-reading .before .before .before .before in
+    let at-enum-told = at-read-under .before .before in
+    let at-read = at-enum-told .before .before in
+    let top = at-read .before .before .before .before .before in
+    cells-inside (top .args .table .now) (top .args .sheet .now) (top .args .cells .now) _ (top .args .out .now) (at-read-under .read-under .result) _
+    _ (accepted-valid _ _ _ _ (at-read .read .ensures) (at-enum-told .enum-told .given .1)) (at-read-under .read-under .ensures)
+    (at-read-under .read-under .kept .1 .1 .0) (at-reading .reading .given .1)
 
--- src/lib.rt:49:36
 slice-aggregate-write-form : tie.Need-slice-aggregate-write-form
 slice-aggregate-write-form c =
-    sym (length-take-le _ _ (cells-inside (c .before .before .before .before .before .before .before .before .before .before .before .before .before .before .before .args .table .now) (c .before .before .before .before .before .before .before .before .before .before .before .before .before .before .before .args .sheet .now) (c .before .before .before .before .before .before .before .before .before .before .before .before .before .before .before .args .cells .now) _ (c .before .before .before .before .before .before .before .before .before .before .before .before .before .before .before .args .out .now) (c .before .before .before .before .before .before .read-under .result) _ _
-    (accepted-valid _ _ _ _ (c .before .before .before .before .before .before .before .before .before .before .read .ensures)
-    (c .before .before .before .before .before .before .before .before .enum-told .given .1))
-    (c .before .before .before .before .before .before .read-under .ensures)
-    (c .before .before .before .before .before .before .read-under .kept .1 .1 .0) (c .before .before .reading .given .1)))
+    let at-reading = c .before .before in
+    let at-read-under = at-reading .before .before .before .before in
+    let at-enum-told = at-read-under .before .before in
+    let at-read = at-enum-told .before .before in
+    let top = at-read .before .before .before .before .before in
+    sym (length-take-le _ _
+    (cells-inside (top .args .table .now) (top .args .sheet .now) (top .args .cells .now) _ (top .args .out .now)
+    (at-read-under .read-under .result) _ _ (accepted-valid _ _ _ _ (at-read .read .ensures) (at-enum-told .enum-told .given .1))
+    (at-read-under .read-under .ensures) (at-read-under .read-under .kept .1 .1 .0) (at-reading .reading .given .1)))
 
--- src/lib.rt:49:9
 write-form-requires : tie.Need-write-form-requires
 write-form-requires c κs = search needs
 
--- src/lib.rt:50:5
 zero-from-requires-3 : tie.Need-zero-from-requires-3
 zero-from-requires-3 c κs = search needs
 
--- src/lib.rt:35:1
 same-length-3 : tie.Need-same-length-3
 same-length-3 c = search needs
 
--- src/lib.rt:35:1
 same-length-4 : tie.Need-same-length-4
 same-length-4 c = search needs
 
--- src/lib.rt:35:1
 returns-3 : tie.Need-returns-3
 returns-3 c =
-    written (c .before .before .before .before .before .before .before .before .before .before .before .before .before .before .before .before .before .before .before .before .before .before .before .args .table .now) (c .before .before .before .before .before .before .before .before .before .before .before .before .before .before .before .before .before .before .before .before .before .before .before .args .sheet .now) (c .before .before .before .before .before .before .before .before .before .before .before .before .before .before .before .before .before .before .before .before .before .before .before .args .cells .now) (c .before .before .before .before .before .before .before .before .before .before .before .before .before .before .read-under .last .1 .1 .0) (c .before .before .before .before .before .before .before .before .before .before .before .before .before .before .before .before .before .before .before .before .before .before .before .args .out .now) (c .before .before .before .before .before .before .before .before .before .before .before .before .before .before .read-under .result) _ _
-    (accepted-valid _ _ _ _ (c .before .before .before .before .before .before .before .before .before .before .before .before .before .before .before .before .before .before .read .ensures) (c .before .before .before .before .before .before .before .before .before .before .before .before .before .before .before .before .enum-told .given .1)) (c .before .before .before .before .before .before .before .before .before .before .before .before .before .before .read-under .ensures) (c .before .before .before .before .before .before .before .before .before .before .before .before .before .before .read-under .kept .1 .1 .0) (c .before .before .before .before .before .before .before .before .before .before .reading .given .1)
-    (c .before .before .before .before .before .before .write-form .result) _ _
-    (c .before .before .zero-from3 .ensures ∙ all-zero
-    (c .before .before .before .before .before .before .before .before .before .before .before .before .before .before .read-under .last .1 .1 .0)
-    ∙ ap (λ (n : ℕ). replicate n 0) (c .before .before .before .before .before .before .before .before .before .before .before .before .before .before .read-under .kept .1 .1 .0)) (c .before .before .before .before .before .before .write-form .ensures)
+    let at-zero-from3 = c .before .before in
+    let at-write-form = at-zero-from3 .before .before .before .before in
+    let at-reading = at-write-form .before .before .before .before in
+    let at-read-under = at-reading .before .before .before .before in
+    let at-enum-told = at-read-under .before .before in
+    let at-read = at-enum-told .before .before in
+    let top = at-read .before .before .before .before .before in
+    written (top .args .table .now) (top .args .sheet .now) (top .args .cells .now) (at-read-under .read-under .last .1 .1 .0) (top .args .out .now)
+    (at-read-under .read-under .result) _ _ (accepted-valid _ _ _ _ (at-read .read .ensures) (at-enum-told .enum-told .given .1))
+    (at-read-under .read-under .ensures) (at-read-under .read-under .kept .1 .1 .0) (at-reading .reading .given .1)
+    (at-write-form .write-form .result) _ _
+    (at-zero-from3 .zero-from3 .ensures ∙ all-zero (at-read-under .read-under .last .1 .1 .0) ∙ ap (λ (n : ℕ). replicate n 0)
+    (at-read-under .read-under .kept .1 .1 .0)) (at-write-form .write-form .ensures)
 
 pub write-spec : {M : Type 1} → statement M
 write-spec =

@@ -1,10 +1,12 @@
+-- Concepts and bodies call each other: a Concept that may still be opened falls with each. The loop over siblings has the invariant that what is left
+-- of the body stands from entry `next` on, and counts down its elements. Assumes nothing.
 use borrow.Author.Needs.{needs}
 use Prim.Native.Nat.{ℕ, _+_, _*_, _<_}
 use mathlib.Core.Path.{_≡_, refl}
 use native.Mathlib.Numerals.{add-one}
 use native.Mathlib.Omega.{arith}
 use lib.ListN.{length}
-use Rattle.paper.specs.Tree.{Concept, Body}
+use Rattle.paper.specs.Tree.{Body}
 use Rattle.paper.specs.Entries.{bodySize, bodyCount}
 use Rattle.entries.specs.Laid.{entryOf}
 use Rattle.values.proofs.Deepening.{one-less, no-less}
@@ -55,10 +57,9 @@ put-concept-below t =
     and 3 put-concept-kinds.ps (falls 3 put-concept-kinds.ps _<_ μ-put-concept t) put-concept.Pre
 
 abbrev put-body-Inv-loop : put-body-lts.InvT-loop
-put-body-Inv-loop out₀ at s cells n elements depth nesting to₀ next₀ left₀ between₀ out to next left between =
-    (length out ≡ length out₀)
-    × ((parent place : ℕ) (body : Body) → OfBody s cells n parent place body → KeepsBody (nesting .left) body → Ends cells (n + bodySize body) → elements ≡
-    bodyCount body → BodyLeft s cells depth (nesting .left) (n + bodySize body) out₀ at body left next between out to)
+put-body-Inv-loop out₀ at s cells n elements depth nesting to₀ next₀ left₀ between₀ out to next left between = (length out ≡ length out₀) ×
+    ((parent place : ℕ) (body : Body) → OfBody s cells n parent place body → KeepsBody (nesting .left) body → Ends cells (n + bodySize body)
+    → elements ≡ bodyCount body → BodyLeft s cells depth (nesting .left) (n + bodySize body) out₀ at body left next between out to)
 
 abbrev put-body-μ-loop : put-body-lts.MeasureT-loop
 put-body-μ-loop out₀ at s cells n elements depth nesting to₀ next₀ left₀ between₀ out to next left between = left
@@ -88,186 +89,188 @@ put-concept-calls t = (
   put-content-reads.Learnt,
 )
 
--- src/concepts.rt:97:5
 put-body-loop-holds : (t : ℕ) → put-body-lts.Need-loop-holds (put-body-calls t) (put-body-at t) put-body.Post put-body-Inv-loop put-body-μ-loop
 put-body-loop-holds t c = (refl, λ parent place body of keeps ends few. body-all _ _ _ _ _ _ _ parent place _ body of keeps few)
 
--- src/concepts.rt:98:13
 put-body-put-between-requires : (t : ℕ)
     → put-body-lts.Need-put-between-requires (put-body-calls t) (put-body-at t) put-body.Post put-body-Inv-loop put-body-μ-loop
 put-body-put-between-requires t c κs = search needs
 
--- src/concepts.rt:99:13
 put-body-put-notes-requires : (t : ℕ) → put-body-lts.Need-put-notes-requires (put-body-calls t) (put-body-at t) put-body.Post put-body-Inv-loop put-body-μ-loop
 put-body-put-notes-requires t c κs = search needs
 
--- src/concepts.rt:100:21
 put-body-sub-noted : (t : ℕ) → put-body-lts.Need-sub-noted (put-body-calls t) (put-body-at t) put-body.Post put-body-Inv-loop put-body-μ-loop
 put-body-sub-noted t c = c .before .before .before .put-notes .ensures .0
 
--- src/concepts.rt:102:13
 put-body-same-length : (t : ℕ) → put-body-lts.Need-same-length (put-body-calls t) (put-body-at t) put-body.Post put-body-Inv-loop put-body-μ-loop
 put-body-same-length t c = omega arith
 
--- src/concepts.rt:102:13
 put-body-returns : (t : ℕ) → put-body-lts.Need-returns (put-body-calls t) (put-body-at t) put-body.Post put-body-Inv-loop put-body-μ-loop
 put-body-returns t c =
-    λ parent place body of keeps ends few.
-    absurd (element-there _ _ _ _ _ _ _ body ends (c .before .before .before .before .before .before .before .before .before .before .before .loop .inv .1
-    parent place body of keeps ends few) (c .before .before .before .before .before .before .before .before .before .before .loop-test .taken) _
-    (c .before .before .before .before .before .before .before .before .put-between .ensures) (c .before .before .before .before .put-notes .ensures .1)
-    (c .if1 .taken))
+    let at-put-notes = c .before .before .before .before in
+    let at-put-between = at-put-notes .before .before .before .before in
+    let at-loop-test = at-put-between .before .before in
+    let at-loop = at-loop-test .before in
+    λ parent place body of keeps ends few. absurd
+    (element-there _ _ _ _ _ _ _ body ends (at-loop .loop .inv .1 parent place body of keeps ends few) (at-loop-test .loop-test .taken) _
+    (at-put-between .put-between .ensures) (at-put-notes .put-notes .ensures .1) (c .if1 .taken))
 
--- src/concepts.rt:104:13
 put-body-put-concept-requires : (t : ℕ)
     → put-body-lts.Need-put-concept-requires (put-body-calls t) (put-body-at t) put-body.Post put-body-Inv-loop put-body-μ-loop
 put-body-put-concept-requires t c κs =
-    omega (arith, c .before .before .before .before .before .before .before .before .before .before .before .before .before .before .before .before .pre)
+    let top = c .before .before .before .before .before .before .before .before .before .before .before .before .before .before .before .before in
+    omega (arith, top .pre)
 
--- src/concepts.rt:107:16
 put-body-sub-left : (t : ℕ) → put-body-lts.Need-sub-left (put-body-calls t) (put-body-at t) put-body.Post put-body-Inv-loop put-body-μ-loop
 put-body-sub-left t c = omega arith
 
--- src/concepts.rt:107:16
 put-body-sub-left-2 : (t : ℕ) → put-body-lts.Need-sub-left-2 (put-body-calls t) (put-body-at t) put-body.Post put-body-Inv-loop put-body-μ-loop
 put-body-sub-left-2 t c = omega arith
 
--- src/concepts.rt:97:5
 put-body-loop-less : (t : ℕ) → put-body-lts.Need-loop-less (put-body-calls t) (put-body-at t) put-body.Post put-body-Inv-loop put-body-μ-loop
 put-body-loop-less t c = omega arith
 
--- src/concepts.rt:97:5
 put-body-loop-again : (t : ℕ) → put-body-lts.Need-loop-again (put-body-calls t) (put-body-at t) put-body.Post put-body-Inv-loop put-body-μ-loop
-put-body-loop-again t c = (
-  omega arith,
-  λ parent place body of keeps ends few.
-      element-on _ _ _ _ _ _ _ body ends (c .before .before .before .before .before .before .before .before .before .before .before .before .before .before .before .loop .inv .1 parent place body of keeps ends few) (c .before .before .before .before .before .before .before .before .before .before .before .before .before .before .loop-test .taken) _ (c .before .before .before .before .before .before .before .before .before .before .before .before .put-between .ensures) (c .before .before .before .before .before .before .before .before .put-notes .ensures .1) _ (c .before .before .put-concept .ensures),
-)
+put-body-loop-again t c =
+    let at-put-concept = c .before .before in
+    let at-put-notes = at-put-concept .before .before .before .before .before .before in
+    let at-put-between = at-put-notes .before .before .before .before in
+    let at-loop-test = at-put-between .before .before in
+    let at-loop = at-loop-test .before in (
+      omega arith,
+      λ parent place body of keeps ends few. element-on _ _ _ _ _ _ _ body ends
+          (at-loop .loop .inv .1 parent place body of keeps ends few) (at-loop-test .loop-test .taken) _ (at-put-between .put-between .ensures)
+          (at-put-notes .put-notes .ensures .1) _ (at-put-concept .put-concept .ensures),
+    )
 
--- src/concepts.rt:80:1
 put-body-same-length-2 : (t : ℕ) → put-body-lts.Need-same-length-2 (put-body-calls t) (put-body-at t) put-body.Post put-body-Inv-loop put-body-μ-loop
 put-body-same-length-2 t c = omega arith
 
--- src/concepts.rt:80:1
 put-body-returns-2 : (t : ℕ) → put-body-lts.Need-returns-2 (put-body-calls t) (put-body-at t) put-body.Post put-body-Inv-loop put-body-μ-loop
 put-body-returns-2 t c =
-    λ parent place body of keeps ends few. body-over _ _ _ _ _ _ _ body ends (c .before .loop .inv .1 parent place body of keeps ends few) (c .loop-test .left)
+    let at-loop = c .before in
+    λ parent place body of keeps ends few. body-over _ _ _ _ _ _ _ body ends (at-loop .loop .inv .1 parent place body of keeps ends few)
+    (c .loop-test .left)
 
--- src/concepts.rt:46:34
 put-concept-step-requires : (t : ℕ) → put-concept-lts.Need-step-requires (put-concept-calls t) (put-concept-at t) put-concept.Post
 put-concept-step-requires t c κs = search needs
 
--- src/concepts.rt:46:24
 put-concept-enum-known-inside : (t : ℕ) → put-concept-lts.Need-enum-known-inside (put-concept-calls t) (put-concept-at t) put-concept.Post
 put-concept-enum-known-inside t c = search needs
 
--- src/concepts.rt:47:9
 put-concept-enum-told : (t : ℕ) → put-concept-lts.Need-enum-told (put-concept-calls t) (put-concept-at t) put-concept.Post
 put-concept-enum-told t c = search needs
 
--- src/concepts.rt:47:9
 put-concept-returns : (t : ℕ) → put-concept-lts.Need-returns (put-concept-calls t) (put-concept-at t) put-concept.Post
 put-concept-returns t c =
-    λ parent place tabs k of keeps. let z =
-    no-less (c .before .before .step .result) (c .before .before .before .before .before .before .args .nesting .left) (c .before .before .step .ensures)
+    let at-step = c .before .before in
+    let top = at-step .before .before .before .before in
+    λ parent place tabs k of keeps. let z = no-less (at-step .step .result) (top .args .nesting .left) (at-step .step .ensures)
     (c .enum-told .given .1) in absurd (omega (arith, some-depth k, keeps .deep))
 
--- src/concepts.rt:49:9
 put-concept-put-tabs-requires : (t : ℕ) → put-concept-lts.Need-put-tabs-requires (put-concept-calls t) (put-concept-at t) put-concept.Post
 put-concept-put-tabs-requires t c κs = search needs
 
--- src/concepts.rt:50:9
 put-concept-put-marker-requires : (t : ℕ) → put-concept-lts.Need-put-marker-requires (put-concept-calls t) (put-concept-at t) put-concept.Post
 put-concept-put-marker-requires t c κs = search needs
 
--- src/concepts.rt:51:9
 put-concept-get-requires : (t : ℕ) → put-concept-lts.Need-get-requires (put-concept-calls t) (put-concept-at t) put-concept.Post
 put-concept-get-requires t c κs = search needs
 
--- src/concepts.rt:53:13
 put-concept-count-elements-requires : (t : ℕ) → put-concept-lts.Need-count-elements-requires (put-concept-calls t) (put-concept-at t) put-concept.Post
 put-concept-count-elements-requires t c κs = search needs
 
--- src/concepts.rt:61:13
 put-concept-add-put-body : (t : ℕ) → put-concept-lts.Need-add-put-body (put-concept-calls t) (put-concept-at t) put-concept.Post
 put-concept-add-put-body t c =
-    omega (
-      arith,
-      c .before .before .before .before .before .before .before .before .before .before .before .before .before .before .before .before .before .before .before .before .pre,
-    )
+    let top = c .before .before .before .before .before .before .before .before .before .before .before .before .before .before .before .before .before
+    .before .before .before in
+    omega (arith, top .pre)
 
--- src/concepts.rt:54:13
 put-concept-put-body-requires : (t : ℕ) → put-concept-lts.Need-put-body-requires (put-concept-calls t) (put-concept-at t) put-concept.Post
 put-concept-put-body-requires t c κs =
-    let less =
-    one-less (c .before .before .before .before .before .before .before .before .before .before .before .before .before .before .before .before .step .result) (c .before .before .before .before .before .before .before .before .before .before .before .before .before .before .before .before .before .before .before .before .args .nesting .left) (c .before .before .before .before .before .before .before .before .before .before .before .before .before .before .before .before .step .ensures) (c .before .before .before .before .before .before .before .before .before .before .before .before .before .before .inside .given .0 .0) (c .before .before .before .before .before .before .before .before .before .before .before .before .before .before .inside .given .1) in omega (arith, c .before .before .before .before .before .before .before .before .before .before .before .before .before .before .before .before .before .before .before .before .pre)
+    let at-inside = c .before .before .before .before .before .before .before .before .before .before .before .before .before .before in
+    let at-step = at-inside .before .before in
+    let top = at-step .before .before .before .before in
+    let less = one-less (at-step .step .result) (top .args .nesting .left) (at-step .step .ensures) (at-inside .inside .given .0 .0)
+    (at-inside .inside .given .1) in omega (arith, top .pre)
 
--- src/concepts.rt:65:43
 put-concept-name-of-requires : (t : ℕ) → put-concept-lts.Need-name-of-requires (put-concept-calls t) (put-concept-at t) put-concept.Post
 put-concept-name-of-requires t c κs = search needs
 
--- src/concepts.rt:65:17
 put-concept-put-closing-requires : (t : ℕ) → put-concept-lts.Need-put-closing-requires (put-concept-calls t) (put-concept-at t) put-concept.Post
 put-concept-put-closing-requires t c κs = search needs
 
--- src/concepts.rt:64:9
 put-concept-same-length : (t : ℕ) → put-concept-lts.Need-same-length (put-concept-calls t) (put-concept-at t) put-concept.Post
 put-concept-same-length t c =
-    omega (
-      arith,
-      c .before .before .before .before .before .before .before .before .before .before .before .before .before .before .before .before .before .before .before .put-tabs .kept .0,
-      c .before .before .before .before .before .before .before .before .before .before .before .before .before .before .before .put-marker .kept .0,
-    )
+    let at-put-marker = c .before .before .before .before .before .before .before .before .before .before .before .before .before .before .before in
+    let at-put-tabs = at-put-marker .before .before .before .before in
+    omega (arith, at-put-tabs .put-tabs .kept .0, at-put-marker .put-marker .kept .0)
 
--- src/concepts.rt:64:9
 put-concept-returns-2 : (t : ℕ) → put-concept-lts.Need-returns-2 (put-concept-calls t) (put-concept-at t) put-concept.Post
 put-concept-returns-2 t c =
-    children-put _ _ (c .before .before .before .before .before .before .before .before .before .before .before .before .before .before .before .before .before .before .before .before .before .before .before .before .before .before .before .before .args .n) (c .before .before .before .before .before .before .before .before .before .before .before .before .before .before .before .before .before .before .before .before .before .before .before .before .before .before .before .before .args .depth) (c .before .before .before .before .before .before .before .before .before .before .before .before .before .before .before .before .before .before .before .before .before .before .before .before .before .before .before .before .args .nesting .left) (c .before .before .before .before .before .before .before .before .before .before .before .before .before .before .before .before .before .before .before .put-tabs .ensures) (c .before .before .before .before .before .before .before .before .before .before .before .before .before .before .before .put-marker .ensures .1) (entryOf (c .before .before .before .before .before .before .before .before .before .before .before .before .get .result)) (c .before .before .before .before .before .before .before .before .before .before .before .before .get .ensures)
-    _ (add-one (c .before .before .before .before .before .before .before .before .before .before .before .before .before .before .before .before .before .before .before .before .before .before .before .before .before .before .before .before .args .depth)) _ (c .before .before .before .name-of .ensures) (c .before .before .put-closing .ensures) _ (c .before .before .before .before .before .before .before .before .before .count-elements .ensures) _ (one-less _ _ (c .before .before .before .before .before .before .before .before .before .before .before .before .before .before .before .before .before .before .before .before .before .before .before .before .step .ensures) _ (c .before .before .before .before .before .before .before .before .before .before .before .before .before .before .before .before .before .before .before .before .before .before .inside .given .1)) (c .before .before .before .before .before .before .before .put-body .ensures) (c .before .before .before .before .before .before .before .before .before .before .if1 .taken)
+    let at-put-closing = c .before .before in
+    let at-name-of = at-put-closing .before in
+    let at-put-body = at-name-of .before .before .before .before in
+    let at-count-elements = at-put-body .before .before in
+    let at-if1 = at-count-elements .before in
+    let at-get = at-if1 .before .before in
+    let at-put-marker = at-get .before .before .before in
+    let at-put-tabs = at-put-marker .before .before .before .before in
+    let at-inside = at-put-tabs .before .before .before in
+    let at-step = at-inside .before .before in
+    let top = at-step .before .before .before .before in
+    children-put _ _ (top .args .n) (top .args .depth) (top .args .nesting .left) (at-put-tabs .put-tabs .ensures)
+    (at-put-marker .put-marker .ensures .1) (entryOf (at-get .get .result)) (at-get .get .ensures) _ (add-one (top .args .depth)) _
+    (at-name-of .name-of .ensures) (at-put-closing .put-closing .ensures) _ (at-count-elements .count-elements .ensures) _
+    (one-less _ _ (at-step .step .ensures) _ (at-inside .inside .given .1)) (at-put-body .put-body .ensures) (at-if1 .if1 .taken)
 
--- src/concepts.rt:70:72
 put-concept-add-put-content : (t : ℕ) → put-concept-lts.Need-add-put-content (put-concept-calls t) (put-concept-at t) put-concept.Post
 put-concept-add-put-content t c =
-    omega (
-      arith,
-      c .before .before .before .before .before .before .before .before .before .before .before .before .before .before .before .before .before .before .before .before .before .pre,
-    )
+    let top = c .before .before .before .before .before .before .before .before .before .before .before .before .before .before .before .before .before
+    .before .before .before .before in
+    omega (arith, top .pre)
 
--- src/concepts.rt:70:13
 put-concept-put-content-requires : (t : ℕ) → put-concept-lts.Need-put-content-requires (put-concept-calls t) (put-concept-at t) put-concept.Post
 put-concept-put-content-requires t c κs = search needs
 
--- src/concepts.rt:72:44
 put-concept-name-of-requires-2 : (t : ℕ) → put-concept-lts.Need-name-of-requires-2 (put-concept-calls t) (put-concept-at t) put-concept.Post
 put-concept-name-of-requires-2 t c κs = search needs
 
--- src/concepts.rt:72:17
 put-concept-put-closing-requires-2 : (t : ℕ) → put-concept-lts.Need-put-closing-requires-2 (put-concept-calls t) (put-concept-at t) put-concept.Post
 put-concept-put-closing-requires-2 t c κs = search needs
 
--- src/concepts.rt:71:9
 put-concept-same-length-2 : (t : ℕ) → put-concept-lts.Need-same-length-2 (put-concept-calls t) (put-concept-at t) put-concept.Post
 put-concept-same-length-2 t c =
-    omega (
-      arith,
-      c .before .before .before .before .before .before .before .before .before .before .before .before .before .before .before .before .before .before .before .before .put-tabs .kept .0,
-      c .before .before .before .before .before .before .before .before .before .before .before .before .before .before .before .before .put-marker .kept .0,
-    )
+    let at-put-marker = c .before .before .before .before .before .before .before .before .before .before .before .before .before .before .before .before in
+    let at-put-tabs = at-put-marker .before .before .before .before in
+    omega (arith, at-put-tabs .put-tabs .kept .0, at-put-marker .put-marker .kept .0)
 
--- src/concepts.rt:71:9
 put-concept-returns-3 : (t : ℕ) → put-concept-lts.Need-returns-3 (put-concept-calls t) (put-concept-at t) put-concept.Post
 put-concept-returns-3 t c =
-    content-put _ _ (c .before .before .before .before .before .before .before .before .before .before .before .before .before .before .before .before .before .before .before .before .before .before .before .before .before .before .before .before .before .args .n) (c .before .before .before .before .before .before .before .before .before .before .before .before .before .before .before .before .before .before .before .before .before .before .before .before .before .before .before .before .before .args .depth) (c .before .before .before .before .before .before .before .before .before .before .before .before .before .before .before .before .before .before .before .before .before .before .before .before .before .before .before .before .before .args .nesting .left) (c .before .before .before .before .before .before .before .before .before .before .before .before .before .before .before .before .before .before .before .before .put-tabs .ensures) (c .before .before .before .before .before .before .before .before .before .before .before .before .before .before .before .before .put-marker .ensures .1) (entryOf (c .before .before .before .before .before .before .before .before .before .before .before .before .before .get .result)) (c .before .before .before .before .before .before .before .before .before .before .before .before .before .get .ensures)
-    _ (add-one (c .before .before .before .before .before .before .before .before .before .before .before .before .before .before .before .before .before .before .before .before .before .before .before .before .before .before .before .before .before .args .depth)) _ (c .before .before .before .name-of2 .ensures) (c .before .before .put-closing2 .ensures) (c .before .before .before .before .before .before .before .put-content .ensures) (c .before .before .before .before .before .before .before .before .before .if2 .taken)
+    let at-put-closing2 = c .before .before in
+    let at-name-of2 = at-put-closing2 .before in
+    let at-put-content = at-name-of2 .before .before .before .before in
+    let at-if2 = at-put-content .before .before in
+    let at-get = at-if2 .before .before .before .before in
+    let at-put-marker = at-get .before .before .before in
+    let at-put-tabs = at-put-marker .before .before .before .before in
+    let top = at-put-tabs .before .before .before .before .before .before .before .before .before in
+    content-put _ _ (top .args .n) (top .args .depth) (top .args .nesting .left) (at-put-tabs .put-tabs .ensures)
+    (at-put-marker .put-marker .ensures .1) (entryOf (at-get .get .result)) (at-get .get .ensures) _ (add-one (top .args .depth)) _
+    (at-name-of2 .name-of2 .ensures) (at-put-closing2 .put-closing2 .ensures) (at-put-content .put-content .ensures) (at-if2 .if2 .taken)
 
--- src/concepts.rt:34:1
 put-concept-same-length-3 : (t : ℕ) → put-concept-lts.Need-same-length-3 (put-concept-calls t) (put-concept-at t) put-concept.Post
 put-concept-same-length-3 t c = omega arith
 
--- src/concepts.rt:34:1
 put-concept-returns-4 : (t : ℕ) → put-concept-lts.Need-returns-4 (put-concept-calls t) (put-concept-at t) put-concept.Post
 put-concept-returns-4 t c =
-    closed-put _ _ (c .before .before .before .before .before .before .before .before .before .before .before .before .before .before .before .before .before .before .before .before .args .n) (c .before .before .before .before .before .before .before .before .before .before .before .before .before .before .before .before .before .before .before .before .args .depth) (c .before .before .before .before .before .before .before .before .before .before .before .before .before .before .before .before .before .before .before .before .args .nesting .left) (c .before .before .before .before .before .before .before .before .before .before .before .put-tabs .ensures) (c .before .before .before .before .before .before .before .put-marker .ensures .1) (entryOf (c .before .before .before .before .get .result)) (c .before .before .before .before .get .ensures) (c .before .before .if1 .left) (c .if2 .left)
+    let at-if1 = c .before .before in
+    let at-get = at-if1 .before .before in
+    let at-put-marker = at-get .before .before .before in
+    let at-put-tabs = at-put-marker .before .before .before .before in
+    let top = at-put-tabs .before .before .before .before .before .before .before .before .before in
+    closed-put _ _ (top .args .n) (top .args .depth) (top .args .nesting .left) (at-put-tabs .put-tabs .ensures)
+    (at-put-marker .put-marker .ensures .1) (entryOf (at-get .get .result)) (at-get .get .ensures) (at-if1 .if1 .left) (c .if2 .left)
 
 pub +put-body+put-concept-spec : {M : Type 1} → statement M
 +put-body+put-concept-spec = close μ-put-body μ-put-concept (λ t. put-body-lts.spec (put-body-calls t)

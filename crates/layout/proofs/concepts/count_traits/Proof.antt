@@ -1,5 +1,6 @@
+-- The invariant: what is counted and what is left to count are all. The measure is what is left of the entries. Assumes nothing.
 use borrow.Author.Needs.{needs}
-use Prim.Native.Nat.{ℕ, _+_, _-_, _≤_}
+use Prim.Native.Nat.{_+_, _-_, _≤_}
 use mathlib.Core.Path.{_≡_, sym, ap, _∙_}
 use mathlib.Core.List.{List}
 use mathlib.Core.Logic.{⊎-elim}
@@ -10,9 +11,6 @@ use Rattle.layout.specs.Standing.{Stand}
 use Rattle.layout.proofs.ConceptLaws.{TraitsLeft, traits-all, trait-on, other-on, traits-over}
 use Rattle.layout.proofs.concepts.count_traits.Statement.{statement}
 use Rattle.layout.proofs.concepts.count_traits.Tie as tie
-use Rattle.layout.proofs.concepts.count_traits.Reads as reads
-use Rattle.layout.proofs.concepts.count_traits.Lts as lts
-use Rattle.entries.proofs.get.Reads as get-reads
 
 abbrev Inv-loop : tie.InvT-loop
 Inv-loop cells from to count₀ i₀ count i = (count ≤ i) × ((es : List Entry) → Stand cells from es → to ≡ from + length es → TraitsLeft cells to es i count)
@@ -20,39 +18,34 @@ Inv-loop cells from to count₀ i₀ count i = (count ≤ i) × ((es : List Entr
 abbrev μ-loop : tie.MeasureT-loop
 μ-loop cells from to count₀ i₀ count i = to - i
 
--- src/concepts.rt:159:5
 loop-holds : tie.Need-loop-holds Inv-loop μ-loop
 loop-holds c = (omega arith, λ es s e. traits-all _ _ _ es s e)
 
--- src/concepts.rt:160:13
 get-requires : tie.Need-get-requires Inv-loop μ-loop
 get-requires c κs = search needs
 
--- src/concepts.rt:162:13
 add-count : tie.Need-add-count Inv-loop μ-loop
 add-count c = omega arith
 
--- src/concepts.rt:164:9
 add-i : tie.Need-add-i Inv-loop μ-loop
 add-i c = omega arith
 
--- src/concepts.rt:159:5
 loop-less : tie.Need-loop-less Inv-loop μ-loop
 loop-less c = omega arith
 
--- src/concepts.rt:159:5
 loop-again : tie.Need-loop-again Inv-loop μ-loop
-loop-again c = (
-  ⊎-elim (λ w. omega arith) (λ w. omega arith) (c .if1 .came),
-  λ es s e. ⊎-elim
-      (λ w. rw (w .1) (trait-on _ _ es _ _ (c .before .before .before .before .loop .inv .1 es s e) (c .before .before .before .loop-test .taken)
-      (sym (ap (λ (x : Entry). x .kind) (c .before .before .get .ensures)) ∙ w .0 .taken)))
-      (λ w. rw (w .1) (other-on _ _ es _ _ (c .before .before .before .before .loop .inv .1 es s e) (c .before .before .before .loop-test .taken)
-      (λ k. w .0 .left (ap (λ (x : Entry). x .kind) (c .before .before .get .ensures) ∙ k))))
-      (c .if1 .came),
-)
+loop-again c =
+    let at-get = c .before .before in
+    let at-loop-test = at-get .before in
+    let at-loop = at-loop-test .before in (
+      ⊎-elim (λ w. omega arith) (λ w. omega arith) (c .if1 .came),
+      λ es s e. ⊎-elim
+          (λ w. rw (w .1) (trait-on _ _ es _ _ (at-loop .loop .inv .1 es s e) (at-loop-test .loop-test .taken)
+          (sym (ap (λ (x : Entry). x .kind) (at-get .get .ensures)) ∙ w .0 .taken)))
+          (λ w. rw (w .1) (other-on _ _ es _ _ (at-loop .loop .inv .1 es s e) (at-loop-test .loop-test .taken)
+          (λ k. w .0 .left (ap (λ (x : Entry). x .kind) (at-get .get .ensures) ∙ k)))) (c .if1 .came),
+    )
 
--- src/concepts.rt:154:1
 returns : tie.Need-returns Inv-loop μ-loop
 returns c = λ es s e. traits-over _ _ es _ _ (c .before .loop .inv .1 es s e) (c .loop-test .left)
 

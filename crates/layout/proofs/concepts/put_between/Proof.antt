@@ -1,24 +1,18 @@
+-- An empty line, or nothing. Assumes nothing.
 use Rattle.layout.proofs.BodyLaws.{between-put, between-none}
 use borrow.Author.Needs.{needs}
 use Rattle.layout.proofs.concepts.put_between.Statement.{statement}
 use Rattle.layout.proofs.concepts.put_between.Tie as tie
-use Rattle.layout.proofs.concepts.put_between.Reads as reads
-use Rattle.layout.proofs.concepts.put_between.Lts as lts
-use Rattle.layout.proofs.page.put_byte.Reads as put-byte-reads
 
--- src/concepts.rt:119:9
 put-byte-requires : tie.Need-put-byte-requires
 put-byte-requires c κs = search needs
 
--- src/concepts.rt:119:9
 same-length : tie.Need-same-length
 same-length c = search needs
 
--- src/concepts.rt:119:9
 returns : tie.Need-returns
 returns c = between-put _ (c .before .before .before .before .if1 .taken) (c .before .before .put-byte .ensures)
 
--- src/concepts.rt:115:1
 returns-2 : tie.Need-returns-2
 returns-2 c = between-none _ (c .if1 .left)
 

@@ -1,82 +1,72 @@
+-- Nothing behind the cut, blanks only, or text: a law for each. Assumes nothing.
 use Rattle.layout.proofs.LineTexts.{short-put, blank-put, text-put}
 use borrow.Author.Needs.{needs}
 use Rattle.layout.proofs.content.put_line.Statement.{statement}
 use Rattle.layout.proofs.content.put_line.Tie as tie
-use Rattle.layout.proofs.content.put_line.Reads as reads
-use Rattle.layout.proofs.content.put_line.Lts as lts
-use Rattle.layout.proofs.page.put.Reads as put-reads
-use Rattle.layout.proofs.page.put_byte.Reads as put-byte-reads
-use Rattle.layout.proofs.page.put_tabs.Reads as put-tabs-reads
-use Rattle.text.proofs.runs.end.Reads as end-reads
 
--- src/content.rt:40:9
 put-byte-requires : tie.Need-put-byte-requires
 put-byte-requires c κs = search needs
 
--- src/content.rt:40:9
 same-length : tie.Need-same-length
 same-length c = search needs
 
--- src/content.rt:40:9
 returns : tie.Need-returns
 returns c =
-    short-put (c .before .before .before .before .before .before .before .args .line .now)
-    (c .before .before .before .before .before .before .before .args .cut) (c .before .before .before .before .before .before .before .args .tabs)
-    (c .before .before .before .before .if1 .taken) (c .before .before .put-byte .ensures)
+    let at-put-byte = c .before .before in
+    let at-if1 = at-put-byte .before .before in
+    let top = at-if1 .before .before .before in
+    short-put (top .args .line .now) (top .args .cut) (top .args .tabs) (at-if1 .if1 .taken) (at-put-byte .put-byte .ensures)
 
--- src/content.rt:42:8
 end-requires : tie.Need-end-requires
 end-requires c κs = search needs
 
--- src/content.rt:43:9
 put-byte-requires-2 : tie.Need-put-byte-requires-2
 put-byte-requires-2 c κs = search needs
 
--- src/content.rt:43:9
 same-length-2 : tie.Need-same-length-2
 same-length-2 c = search needs
 
--- src/content.rt:43:9
 returns-2 : tie.Need-returns-2
 returns-2 c =
-    blank-put (c .before .before .before .before .before .before .before .before .before .args .line .now)
-    (c .before .before .before .before .before .before .before .before .before .args .cut)
-    (c .before .before .before .before .before .before .before .before .before .args .tabs) (c .before .before .before .before .before .end .result)
-    (c .before .before .before .before .before .end .ensures) (c .before .before .before .before .if2 .taken)
-    (c .before .before .put-byte2 .ensures)
+    let at-put-byte2 = c .before .before in
+    let at-if2 = at-put-byte2 .before .before in
+    let at-end = at-if2 .before in
+    let top = at-end .before .before .before .before in
+    blank-put (top .args .line .now) (top .args .cut) (top .args .tabs) (at-end .end .result) (at-end .end .ensures) (at-if2 .if2 .taken)
+    (at-put-byte2 .put-byte2 .ensures)
 
--- src/content.rt:45:9
 put-tabs-requires : tie.Need-put-tabs-requires
 put-tabs-requires c κs = search needs
 
--- src/content.rt:46:30
 sub-put : tie.Need-sub-put
 sub-put c = search needs
 
--- src/content.rt:46:30
 part-put-start : tie.Need-part-put-start
 part-put-start c = search needs
 
--- src/content.rt:46:30
 part-put-end : tie.Need-part-put-end
 part-put-end c = search needs
 
--- src/content.rt:46:9
 put-requires : tie.Need-put-requires
 put-requires c κs = search needs
 
--- src/content.rt:47:5
 put-byte-requires-3 : tie.Need-put-byte-requires-3
 put-byte-requires-3 c κs = search needs
 
--- src/content.rt:36:1
 same-length-3 : tie.Need-same-length-3
 same-length-3 c = search needs
 
--- src/content.rt:36:1
 returns-3 : tie.Need-returns-3
 returns-3 c =
-    text-put (c .before .before .before .before .before .before .before .before .before .before .before .before .before .before .before .before .before .before .args .line .now) (c .before .before .before .before .before .before .before .before .before .before .before .before .before .before .before .before .before .before .args .cut) (c .before .before .before .before .before .before .before .before .before .before .before .before .before .before .before .before .before .before .args .tabs) (c .before .before .before .before .before .before .before .before .before .before .before .before .before .before .end .result) (c .before .before .before .before .before .before .before .before .before .before .before .before .before .before .end .ensures) (c .before .before .before .before .before .before .before .before .before .before .before .before .before .if2 .left) (c .before .before .before .before .before .before .before .before .before .before .before .before .before .before .before .if1 .left) (c .before .before .before .before .before .before .before .before .before .before .before .put-tabs .ensures) (c .before .before .before .before .before .before .put .ensures) (c .before .before .put-byte3 .ensures)
+    let at-put-byte3 = c .before .before in
+    let at-put = at-put-byte3 .before .before .before .before in
+    let at-put-tabs = at-put .before .before .before .before .before in
+    let at-if2 = at-put-tabs .before .before in
+    let at-end = at-if2 .before in
+    let at-if1 = at-end .before in
+    let top = at-if1 .before .before .before in
+    text-put (top .args .line .now) (top .args .cut) (top .args .tabs) (at-end .end .result) (at-end .end .ensures) (at-if2 .if2 .left)
+    (at-if1 .if1 .left) (at-put-tabs .put-tabs .ensures) (at-put .put .ensures) (at-put-byte3 .put-byte3 .ensures)
 
 pub put-line-spec : {M : Type 1} → statement M
 put-line-spec =

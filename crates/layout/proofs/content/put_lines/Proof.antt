@@ -1,3 +1,4 @@
+-- The invariant: what is left of the lines stands at i and is still to be put. The measure is what is left of the bytes. Assumes nothing.
 use borrow.Author.Needs.{needs}
 use Prim.Native.Nat.{ℕ, suc, _-_}
 use mathlib.Core.Path.{_≡_, refl}
@@ -12,71 +13,55 @@ use Rattle.layout.proofs.Sequences.{Left}
 use Rattle.layout.proofs.LineTexts.{lineRun, lines-all, lines-on, lines-over}
 use Rattle.layout.proofs.content.put_lines.Statement.{statement}
 use Rattle.layout.proofs.content.put_lines.Tie as tie
-use Rattle.layout.proofs.content.put_lines.Reads as reads
-use Rattle.layout.proofs.content.put_lines.Lts as lts
-use Rattle.layout.proofs.content.line_after.Reads as line-after-reads
-use Rattle.layout.proofs.content.put_line.Reads as put-line-reads
-use Rattle.text.proofs.runs.end.Reads as end-reads
 
 abbrev Inv-loop : tie.InvT-loop
 Inv-loop out₀ at lines cut tabs to₀ i₀ out to i =
-    (length out ≡ length out₀)
-    × ((t : ℕ) (ls : List Line) → lines ≡ linesOnto t ls [] → cut ≡ suc t → all lineRule ls ≡ true → Left (lineRun t tabs) lines out₀ at ls i out to)
+    (length out ≡ length out₀) × ((t : ℕ) (ls : List Line) → lines ≡ linesOnto t ls [] → cut ≡ suc t → all lineRule ls ≡ true
+    → Left (lineRun t tabs) lines out₀ at ls i out to)
 
 abbrev μ-loop : tie.MeasureT-loop
 μ-loop out₀ at lines cut tabs to₀ i₀ out to i = length lines - i
 
--- src/content.rt:27:5
 loop-holds : tie.Need-loop-holds Inv-loop μ-loop
 loop-holds c = (refl, λ t ls e f r. lines-all t _ _ ls e r)
 
--- src/content.rt:28:13
 end-requires : tie.Need-end-requires Inv-loop μ-loop
 end-requires c κs = search needs
 
--- src/content.rt:29:32
 sub-put-line : tie.Need-sub-put-line Inv-loop μ-loop
 sub-put-line c = search needs
 
--- src/content.rt:29:32
 part-put-line-start : tie.Need-part-put-line-start Inv-loop μ-loop
 part-put-line-start c = search needs
 
--- src/content.rt:29:32
 part-put-line-end : tie.Need-part-put-line-end Inv-loop μ-loop
 part-put-line-end c = search needs
 
--- src/content.rt:29:9
 put-line-requires : tie.Need-put-line-requires Inv-loop μ-loop
 put-line-requires c κs = search needs
 
--- src/content.rt:30:9
 line-after-requires : tie.Need-line-after-requires Inv-loop μ-loop
 line-after-requires c κs = search needs
 
--- src/content.rt:27:5
 loop-less : tie.Need-loop-less Inv-loop μ-loop
 loop-less c = omega arith
 
--- src/content.rt:27:5
 loop-again : tie.Need-loop-again Inv-loop μ-loop
-loop-again c = (
-  omega arith,
-  λ t ls e f r. lines-on t (c .before .before .before .before .before .before .before .before .before .before .before .args .tabs)
-      (c .before .before .before .before .before .before .before .before .before .before .before .args .lines .now) ls
-      (c .before .before .before .before .before .before .before .before .loop .i)
-      (c .before .before .before .before .before .before .before .before .loop .inv .1 t ls e f r)
-      (c .before .before .before .before .before .before .before .loop-test .taken)
-      (c .before .before .before .before .before .before .before .before .before .before .before .args .cut)
-      (c .before .before .before .before .before .before .end .result) (c .line-after .result) f
-      (c .before .before .before .before .before .before .end .ensures) (c .line-after .ensures .1) (c .before .before .before .put-line .ensures),
-)
+loop-again c =
+    let at-put-line = c .before .before .before in
+    let at-end = at-put-line .before .before .before in
+    let at-loop-test = at-end .before in
+    let at-loop = at-loop-test .before in
+    let top = at-loop .before .before .before in (
+      omega arith,
+      λ t ls e f r. lines-on t (top .args .tabs) (top .args .lines .now) ls (at-loop .loop .i) (at-loop .loop .inv .1 t ls e f r)
+          (at-loop-test .loop-test .taken) (top .args .cut) (at-end .end .result) (c .line-after .result) f (at-end .end .ensures)
+          (c .line-after .ensures) (at-put-line .put-line .ensures),
+    )
 
--- src/content.rt:22:1
 same-length : tie.Need-same-length Inv-loop μ-loop
 same-length c = omega arith
 
--- src/content.rt:22:1
 returns : tie.Need-returns Inv-loop μ-loop
 returns c = λ t ls e f r. lines-over t _ _ ls _ (c .before .loop .inv .1 t ls e f r) (c .loop-test .left)
 

@@ -1,25 +1,19 @@
+-- None past the end. Assumes nothing.
 use native.Mathlib.Omega.{arith}
 use Rattle.layout.proofs.LineTexts.{no-tabs}
 use borrow.Author.Needs.{needs}
 use Rattle.layout.proofs.content.tabs_at.Statement.{statement}
 use Rattle.layout.proofs.content.tabs_at.Tie as tie
-use Rattle.layout.proofs.content.tabs_at.Reads as reads
-use Rattle.layout.proofs.content.tabs_at.Lts as lts
-use Rattle.text.proofs.runs.end.Reads as end-reads
 
--- src/content.rt:47:9
 returns : tie.Need-returns
 returns c = (no-tabs _ _ (c .if1 .taken), omega arith)
 
--- src/content.rt:49:5
 end-requires : tie.Need-end-requires
 end-requires c κs = search needs
 
--- src/content.rt:49:5
 sub-result : tie.Need-sub-result
 sub-result c = search needs
 
--- src/content.rt:43:1
 returns-2 : tie.Need-returns-2
 returns-2 c = (omega (arith, c .end .ensures .0), omega (arith, c .end .ensures))
 
