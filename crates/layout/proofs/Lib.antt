@@ -1,20 +1,3 @@
-pub mod Putting
-pub mod Sequences
-pub mod Spelling
-pub mod Plainly
-pub mod Collapsing
-pub mod Ticks
-pub mod Parts
-pub mod ByForm
-pub mod Standing
-pub mod Listing
-pub mod TraitParts
-pub mod Three
-pub mod Slashes
-pub mod Marking
-pub mod LineTexts
-pub mod NoteLaws
-pub mod BodyLaws
-pub mod ConceptLaws
+-- Laws that the proofs of this crate use, over plain lists and numbers.
 pub mod WriteLaws
 pub mod OneAnswer

@@ -1,51 +1,41 @@
--- A whole sheet put on a page, and the page written to room that is lent or not at all. Document 01, "Canonical form" and refusal 12. Assumes nothing.
-use Prim.Native.Nat.{ℕ, suc, _+_, _-_, _*_, _≤_, _<_, min}
+-- A form that is laid out on a page, written to room that is lent or not at all. Document 01, "Canonical form" and refusal 12. Assumes nothing.
+use Prim.Native.Nat.{ℕ, _+_, _*_, _≤_, _<_, min}
 use mathlib.Core.Path.{_≡_, refl, sym, ap, ap₂, _∙_}
-use mathlib.Core.Bool.{Bool, true, false, _&&_}
-use mathlib.Core.List.{List, [], _∷_, _++_, map, append-nil}
+use mathlib.Core.Bool.{_&&_}
+use mathlib.Core.List.{List, [], _++_, append-nil}
 use native.Mathlib.Omega.{arith}
-use native.Mathlib.Nat.{zero-add, add-zero}
+use native.Mathlib.Nat.{add-zero}
 use lib.ListN.{length, take, drop, replicate, length-replicate}
-use lib.Seq.{sets, sets-eq, length-sets, take-append-seam}
+use lib.Seq.{sets, sets-eq, take-append-seam}
 use lib.Dec.{leb}
 use borrow.Author.Tests.{le-leb, lt-leb, leb-true, leb-false}
 use Rattle.paper.specs.declared.Answer.{Answer}
 use Rattle.paper.specs.declared.Answer.the-variants.{Accepted, Refused}
 use Rattle.paper.specs.declared.Refusal.{Refusal}
 use Rattle.paper.specs.declared.Refusal.the-variants.{NoRoom}
-use Rattle.paper.specs.Answer.{Told, accepted, refused, numberOf, told}
+use Rattle.paper.specs.Answer.{Told, accepted, refused, told}
 use Rattle.paper.specs.Found.{Found, found, fault}
-use Rattle.paper.specs.Bytes.{all, isBlank, lf, tab}
 use Rattle.paper.specs.Names.{nameLimit}
-use Rattle.paper.specs.Modes.{Modes, modeTable}
 use Rattle.paper.specs.Tree.{Sheet}
-use Rattle.paper.specs.Grammar.{blanksOnto, annotationsOnto, tabsOnto, conceptOnto, sheetOnto, blankRule, annotationRule, conceptRule, sheetRule}
 use Rattle.paper.specs.Limits.{sheetLimit, conceptLimit, listLimit, conceptFits, conceptDepth, withinLimits}
-use Rattle.paper.specs.Entries.{Entry, entryCells, allCells, noParent, conceptSize, annotationEntries, conceptEntry, insideEntries, rootStart, sheetSize}
-use Rattle.paper.specs.Entries.{entries}
+use Rattle.paper.specs.Entries.{Entry, entryCells, allCells, entries}
 use Rattle.paper.specs.Reading.{roomOf, sheetOf, Reading, reading}
-use Rattle.paper.specs.Canonical.{annotationSense, conceptSense, meaning, printNotes, printConcept, print, canonical}
-use Rattle.paper.specs.Writing.{Begun, tree, unread, begin, Writing, notWritten, writtenAt, formFits, writeForm, writing}
+use Rattle.paper.specs.Writing.{Begun, tree, unread, begin, notWritten, writtenAt, writeForm, writing}
 use Rattle.paper.proofs.Tests.{split}
 use Rattle.paper.proofs.Lists.{both}
 use Rattle.paper.proofs.Told.{number-positive}
-use Rattle.paper.proofs.Sizes.{notes-size, inside-size, entries-size}
-use Rattle.paper.proofs.Fronts.{blanks-front, notes-front, past-front, past-bytes}
 use Rattle.paper.proofs.Written.{root-rule}
 use Rattle.paper.proofs.Exactly.{Answers, sheet-answers}
-use Rattle.paper.proofs.Beginning.{Sound, Unread, Begins, begins, begins-tree, reads-tree}
+use Rattle.paper.proofs.Beginning.{Begins, begins, begins-tree, reads-tree}
 use Rattle.modes.specs.Table.{Valid, modesOf}
 use Rattle.entries.specs.Laid.{lay}
 use Rattle.entries.proofs.Laying.{cells-length}
-use Rattle.entries.proofs.Getting.{at-none}
 use Rattle.sheets.specs.Sheets.{answerOf, Reads}
 use Rattle.sheets.proofs.SheetLaws.{count-fits}
-use Rattle.layout.specs.Page.{Page, holds, full, page, Puts}
-use Rattle.layout.specs.Standing.{Stand, kindAt, Ends, OfConcept}
-use Rattle.layout.specs.Walking.{OfNotes, OfSheet, Keeps, NotesPut, ConceptPut, FormWritten}
-use Rattle.layout.proofs.Putting.{page-full}
-use Rattle.layout.proofs.Standing.{stand-front, stand-back}
-use Rattle.layout.proofs.BodyLaws.{own-entry}
+use Rattle.quoting.specs.Page.{holds, full, page, Puts}
+use Rattle.printing.specs.Walking.{OfSheet}
+use Rattle.quoting.proofs.Putting.{page-full}
+use Rattle.layout.specs.Promises.{WritesSheet, FormWritten}
 
 -- ---- a page that bytes were put on and nothing follows
 
@@ -92,75 +82,6 @@ module _ (out after w : List ℕ) (at to : ℕ) (e : page out at w ≡ page afte
 page-front : (out after w : List ℕ) → length w ≤ length out → after ≡ sets out 0 w → take (length w) after ≡ w
 page-front out after w h e =
     ap (take (length w)) (e ∙ sets-eq w out 0 (omega arith)) ∙ take-append-seam w _
-
--- ---- a whole sheet
-
-module _ (s cells : List ℕ) (t : Sheet) (of : OfSheet s cells t) where
-  abbrev before : ℕ
-  before = length (blanksOnto (t .before) [])
-
-  abbrev notes : List Entry
-  notes = annotationEntries noParent before (t .annotations)
-
-  abbrev own : ℕ
-  own = length (t .annotations)
-
-  abbrev root : List Entry
-  root = conceptEntry noParent (rootStart t) (t .tabs) (t .root) ∷ insideEntries own (rootStart t) (t .tabs) (t .root)
-
-  abbrev rest : List ℕ
-  rest = blanksOnto (t .after) (t .last ++ [])
-
-  stands : Stand cells 0 (notes ++ root)
-  unfolding entries
-  stands = record { rest = []; held = of .are ∙ sym (append-nil (allCells (notes ++ root))) }
-
-  front : drop before s ≡ annotationsOnto (t .annotations) (tabsOnto (t .tabs) (conceptOnto (t .tabs) (t .root) rest))
-  unfolding sheetOnto
-  front = ap (λ (n : ℕ). drop n s) (sym (zero-add before))
-      ∙ past-front s 0 (blanksOnto (t .before)) (annotationsOnto (t .annotations) (tabsOnto (t .tabs) (conceptOnto (t .tabs) (t .root) rest)))
-      (blanks-front (t .before)) (sym (of .covers))
-
-  notes-of : OfNotes s cells 0 noParent before (t .annotations)
-  notes-of = record { after = tabsOnto (t .tabs) (conceptOnto (t .tabs) (t .root) rest); spelt = front; stand = stand-front cells 0 notes root stands }
-
-  -- no entry stands behind the last one
-  none-behind : Ends cells (own + conceptSize (t .root))
-  unfolding sheetSize
-  none-behind =
-      let size : length cells ≡ (own + conceptSize (t .root)) * entryCells = ap length (of .are) ∙ cells-length (entries t)
-      ∙ ap (λ (n : ℕ). n * entryCells) (entries-size t) in
-      let kind : kindAt cells (own + conceptSize (t .root)) ≡ 0 = ap (λ (e : Entry). e .kind) (at-none cells (own + conceptSize (t .root)) (omega arith)) in
-      record { no-trait = λ k. omega (arith, sym kind ∙ k); no-item = λ k. omega (arith, sym kind ∙ k) }
-
-  root-of : OfConcept s cells own noParent (rootStart t) (t .tabs) (t .root)
-  root-of =
-      let size : 0 + length notes ≡ own = omega (arith, notes-size (t .annotations) noParent before) in
-      let mark = past-front s before (annotationsOnto (t .annotations)) (tabsOnto (t .tabs) (conceptOnto (t .tabs) (t .root) rest))
-      (notes-front (t .annotations)) front in
-      record {
-        after = rest;
-        spelt = ap (λ (n : ℕ). drop (before + length (annotationsOnto (t .annotations) []) + n) s) (sym (length-replicate (t .tabs) tab))
-            ∙ past-bytes s (before + length (annotationsOnto (t .annotations) [])) (replicate (t .tabs) tab) (conceptOnto (t .tabs) (t .root) rest) mark;
-        stand = rw size at (stand-back cells 0 notes root stands);
-        ends = none-behind;
-      }
-
-  no-note : kindAt cells (0 + own) ≡ 4 → ⊥
-  no-note k =
-      let z : 0 + own ≡ own = zero-add own in
-      let kind = ap (λ (e : Entry). e .kind) (own-entry s cells own noParent (rootStart t) (t .tabs) (t .root) root-of) in
-      omega (arith, sym kind ∙ ap (kindAt cells) (sym z) ∙ k)
-
-  pub sheet-put : {out mid after : List ℕ} {noted to : ℕ} (n next : ℕ) → NotesPut s cells 0 0 out 0 n mid noted
-      → ConceptPut s cells n 0 conceptLimit mid noted next after to
-      → page out 0 (canonical t) ≡ page after to []
-  unfolding meaning print
-  sheet-put n next put concept =
-      let p = put noParent before (t .annotations) notes-of no-note in
-      let at : n ≡ own = p .0 ∙ zero-add own in
-      let q = (rw at at concept) noParent (rootStart t) (t .tabs) (t .root) root-of (of .keeps) in
-      p .1 .same (printConcept 0 (conceptSense (t .root)) (lf ∷ [])) ∙ q .1 .same []
 
 -- ---- a form that is laid out on a page, written or not
 
@@ -223,10 +144,10 @@ passed table s out lent answer after n at b q = rw (b, writing) (ap (λ (x : Rea
 -- a refused reading is passed through
 pub refused-through : (table s out : List ℕ) (lent : ℕ) (r : Answer) (why : Refusal) (place : ℕ) → r ≡ Refused why place → (after : List ℕ)
     → _≡_ {A = Reading} (record { answer = told r; cells = after }) (reading table s lent)
-    → record { answer = told r; out = out; cells = after } ≡ writing table s lent out
+    → WritesSheet table s lent out r out after
 refused-through table s out lent r why place is after e = go (begin table s lent) refl (begins table s lent)
   where
-    go : (x : Begun) → begin table s lent ≡ x → Begins table s lent x → record { answer = told r; out = out; cells = after } ≡ writing table s lent out
+    go : (x : Begun) → begin table s lent ≡ x → Begins table s lent x → WritesSheet table s lent out r out after
     go (tree t) b h =
         let q : told r ≡ accepted (length s) (length (entries t)) = ap (λ (x : Reading). x .answer) (e ∙ reads-tree h) in
         absurd (number-positive why (ap (λ (x : Told). x .number) (sym (ap told is) ∙ q)))
@@ -287,7 +208,7 @@ module _ (table s cells mid out : List ℕ) (r : Answer) (place count : ℕ) (va
 
   pub written : (answer : Answer) (after : List ℕ) (zeros : List ℕ) → zeros ≡ replicate (length cells) 0
       → FormWritten s (take (count * entryCells) mid) out (told answer) after
-      → record { answer = told answer; out = after; cells = zeros } ≡ writing table s (length cells) out
+      → WritesSheet table s (length cells) out answer after zeros
   unfolding writing
   written answer after zeros z f =
       let read = tree-read in

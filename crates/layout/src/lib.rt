@@ -1,36 +1,23 @@
 // Canonical form of a sheet, written to room that is lent.
 // Document 01, "Canonical form", refusal 12, and the answers of "Order".
-pub mod backticks;
-pub mod concepts;
-pub mod content;
-pub mod items;
-pub mod leaves;
-pub mod markers;
-pub mod notes;
-pub mod page;
-pub mod quoted;
-pub mod spaced;
-pub mod spans;
-
-use concepts::put_sheet;
 use entries::CELLS;
 use entries::zero_from;
-use page::put;
 use paper::Answer;
 use paper::Refusal;
+use printing::concepts::put_sheet;
+use quoting::page::put;
 use sheets::read_under;
 use text::utf8::Cursor;
 ghost use mathlib.Core.Path.{_≡_};
 ghost use lib.ListN.{length};
 ghost use Rattle.paper.specs.Answer.{told};
-ghost use Rattle.paper.specs.Writing.{writing};
-ghost use Rattle.layout.specs.Walking.{FormWritten};
+ghost use Rattle.layout.specs.Promises.{WritesSheet, FormWritten};
 
 // Writes the canonical form of a sheet that reads without refusal. The cells are lent to the reading, and zero after every answer.
 // A refusal leaves `out` as it came.
 pub fn write(table: &[u8], sheet: &[u8], cells: &mut [u32], out: &mut [u8]) -> Answer
-    ensures { λ r. ⌜ record { answer = told r; out = now (out .exit); cells = now (cells .exit) }
-        ≡ writing (now (table .entry)) (now (sheet .entry)) (length (now (cells .entry))) (now (out .entry)) ⌝ }
+    ensures { λ r. ⌜ WritesSheet (now (table .entry)) (now (sheet .entry)) (length (now (cells .entry))) (now (out .entry))
+        r (now (out .exit)) (now (cells .exit)) ⌝ }
 {
     let modes = modes::read(table);
     let Answer::Accepted { place: _, count: _ } = modes else {
@@ -50,7 +37,7 @@ pub fn write(table: &[u8], sheet: &[u8], cells: &mut [u32], out: &mut [u8]) -> A
 
 // Writes the canonical form of the sheet that has just these entries. It is laid out on a page first, so that nothing is written where it
 // does not fit.
-fn write_form(sheet: &[u8], cells: &[u32], out: &mut [u8]) -> Answer
+pub fn write_form(sheet: &[u8], cells: &[u32], out: &mut [u8]) -> Answer
     ensures { λ r. ⌜ FormWritten (now (sheet .entry)) (now (cells .entry)) (now (out .entry)) (told r) (now (out .exit)) ⌝ }
 {
     let mut form = [0; Cursor::LIMIT];

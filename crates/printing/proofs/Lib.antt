@@ -1,0 +1,12 @@
+-- Laws that the proofs of this crate use, over plain lists and numbers.
+pub mod Standing
+pub mod Listing
+pub mod TraitParts
+pub mod Three
+pub mod Slashes
+pub mod Marking
+pub mod LineTexts
+pub mod NoteLaws
+pub mod BodyLaws
+pub mod ConceptLaws
+pub mod SheetLaws

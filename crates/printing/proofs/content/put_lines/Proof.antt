@@ -1,0 +1,84 @@
+-- The invariant: what is left of the lines stands at i and is still to be put. The measure is what is left of the bytes. Assumes nothing.
+use borrow.Author.Needs.{needs}
+use Prim.Native.Nat.{ℕ, suc, _-_}
+use mathlib.Core.Path.{_≡_, refl}
+use mathlib.Core.Bool.{true}
+use mathlib.Core.List.{List, []}
+use native.Mathlib.Omega.{arith}
+use lib.ListN.{length}
+use Rattle.paper.specs.Bytes.{all}
+use Rattle.paper.specs.Tree.{Line}
+use Rattle.paper.specs.Grammar.{linesOnto, lineRule}
+use Rattle.quoting.proofs.Sequences.{Left}
+use Rattle.printing.proofs.LineTexts.{lineRun, lines-all, lines-on, lines-over}
+use Rattle.printing.proofs.content.put_lines.Statement.{statement}
+use Rattle.printing.proofs.content.put_lines.Tie as tie
+
+abbrev Inv-loop : tie.InvT-loop
+Inv-loop out₀ at lines cut tabs to₀ i₀ out to i =
+    (length out ≡ length out₀) × ((t : ℕ) (ls : List Line) → lines ≡ linesOnto t ls [] → cut ≡ suc t → all lineRule ls ≡ true
+    → Left (lineRun t tabs) lines out₀ at ls i out to)
+
+abbrev μ-loop : tie.MeasureT-loop
+μ-loop out₀ at lines cut tabs to₀ i₀ out to i = length lines - i
+
+loop-holds : tie.Need-loop-holds Inv-loop μ-loop
+loop-holds c = (refl, λ t ls e f r. lines-all t _ _ ls e r)
+
+end-requires : tie.Need-end-requires Inv-loop μ-loop
+end-requires c κs = search needs
+
+sub-put-line : tie.Need-sub-put-line Inv-loop μ-loop
+sub-put-line c = search needs
+
+part-put-line-start : tie.Need-part-put-line-start Inv-loop μ-loop
+part-put-line-start c = search needs
+
+part-put-line-end : tie.Need-part-put-line-end Inv-loop μ-loop
+part-put-line-end c = search needs
+
+put-line-requires : tie.Need-put-line-requires Inv-loop μ-loop
+put-line-requires c κs = search needs
+
+line-after-requires : tie.Need-line-after-requires Inv-loop μ-loop
+line-after-requires c κs = search needs
+
+loop-less : tie.Need-loop-less Inv-loop μ-loop
+loop-less c = omega arith
+
+loop-again : tie.Need-loop-again Inv-loop μ-loop
+loop-again c =
+    let at-put-line = c .before .before .before in
+    let at-end = at-put-line .before .before .before in
+    let at-loop-test = at-end .before in
+    let at-loop = at-loop-test .before in
+    let top = at-loop .before .before .before in (
+      omega arith,
+      λ t ls e f r. lines-on t (top .args .tabs) (top .args .lines .now) ls (at-loop .loop .i) (at-loop .loop .inv .1 t ls e f r)
+          (at-loop-test .loop-test .taken) (top .args .cut) (at-end .end .result) (c .line-after .result) f (at-end .end .ensures)
+          (c .line-after .ensures) (at-put-line .put-line .ensures),
+    )
+
+same-length : tie.Need-same-length Inv-loop μ-loop
+same-length c = omega arith
+
+returns : tie.Need-returns Inv-loop μ-loop
+returns c = λ t ls e f r. lines-over t _ _ ls _ (c .before .loop .inv .1 t ls e f r) (c .loop-test .left)
+
+pub put-lines-spec : {M : Type 1} → statement M
+put-lines-spec =
+    tie.close
+    (tie.spec
+    Inv-loop
+    μ-loop
+    loop-holds
+    end-requires
+    sub-put-line
+    part-put-line-start
+    part-put-line-end
+    put-line-requires
+    line-after-requires
+    loop-less
+    loop-again
+    same-length
+    returns)
