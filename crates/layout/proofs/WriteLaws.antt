@@ -88,11 +88,11 @@ page-front out after w h e =
 pub blank-page : length (replicate {A = ℕ} sheetLimit 0) ≡ sheetLimit
 blank-page = length-replicate {A = ℕ} sheetLimit 0
 
-form-fits : (lent : ℕ) (out w : List ℕ) → length w ≤ min (length out) sheetLimit → writeForm lent out w ≡ writtenAt lent out 0 w
+pub form-fits : (lent : ℕ) (out w : List ℕ) → length w ≤ min (length out) sheetLimit → writeForm lent out w ≡ writtenAt lent out 0 w
 unfolding writeForm
 form-fits lent out w h = rw (le-leb (length w) (min (length out) sheetLimit) h, writeForm)
 
-form-not : (lent : ℕ) (out w : List ℕ) → min (length out) sheetLimit < length w → writeForm lent out w ≡ notWritten lent out 12 0
+pub form-not : (lent : ℕ) (out w : List ℕ) → min (length out) sheetLimit < length w → writeForm lent out w ≡ notWritten lent out 12 0
 unfolding writeForm
 form-not lent out w h = rw (lt-leb (length w) (min (length out) sheetLimit) h, writeForm)
 
@@ -135,23 +135,29 @@ module _ (form₀ form w out : List ℕ) (end lent : ℕ) (e : page form₀ 0 w 
 
 -- ---- writing
 
-passed : (table s out : List ℕ) (lent : ℕ) (answer : Told) (after : List ℕ) (n at : ℕ) → begin table s lent ≡ unread n at
-    → _≡_ {A = Reading} (record { answer = answer; cells = after }) (record { answer = refused n at; cells = replicate lent 0 })
-    → record { answer = answer; out = out; cells = after } ≡ writing table s lent out
-unfolding writing
-passed table s out lent answer after n at b q = rw (b, writing) (ap (λ (x : Reading). record { answer = x .answer; out = out; cells = x .cells }) q)
+-- the reading that every writing begins with is refused: its answer and cells are those of every writing
+pub record Passed (table s : List ℕ) (lent : ℕ) (answer : Told) (after : List ℕ) : Type 0 where
+  pub number : ℕ
+  pub place : ℕ
+  pub begins : begin table s lent ≡ unread number place
+  pub is : _≡_ {A = Reading} (record { answer = answer; cells = after }) (record { answer = refused number place; cells = replicate lent 0 })
 
--- a refused reading is passed through
-pub refused-through : (table s out : List ℕ) (lent : ℕ) (r : Answer) (why : Refusal) (place : ℕ) → r ≡ Refused why place → (after : List ℕ)
-    → _≡_ {A = Reading} (record { answer = told r; cells = after }) (reading table s lent)
-    → WritesSheet table s lent out r out after
-refused-through table s out lent r why place is after e = go (begin table s lent) refl (begins table s lent)
+pub refused-passed : (table s : List ℕ) (lent : ℕ) (r : Answer) (why : Refusal) (place : ℕ) → r ≡ Refused why place → (after : List ℕ)
+    → _≡_ {A = Reading} (record { answer = told r; cells = after }) (reading table s lent) → Passed table s lent (told r) after
+refused-passed table s lent r why place is after e = go (begin table s lent) refl (begins table s lent)
   where
-    go : (x : Begun) → begin table s lent ≡ x → Begins table s lent x → WritesSheet table s lent out r out after
+    go : (x : Begun) → begin table s lent ≡ x → Begins table s lent x → Passed table s lent (told r) after
     go (tree t) b h =
         let q : told r ≡ accepted (length s) (length (entries t)) = ap (λ (x : Reading). x .answer) (e ∙ reads-tree h) in
         absurd (number-positive why (ap (λ (x : Told). x .number) (sym (ap told is) ∙ q)))
-    go (unread n at) b h = passed table s out lent (told r) after n at b (e ∙ h .is)
+    go (unread n at) b h = record { number = n; place = at; begins = b; is = e ∙ h .is }
+
+-- a refused reading is passed through
+pub refused-through : (table s out : List ℕ) (lent : ℕ) (answer : Told) (after : List ℕ) → Passed table s lent answer after
+    → record { answer = answer; out = out; cells = after } ≡ writing table s lent out
+unfolding writing
+refused-through table s out lent answer after p =
+    rw (p .begins, writing) (ap (λ (x : Reading). record { answer = x .answer; out = out; cells = x .cells }) (p .is))
 
 -- a refusal counts nothing
 pub none-counted : (r : Answer) (why : Refusal) (place : ℕ) → r ≡ Refused why place → 0 ≡ told r .count
@@ -174,12 +180,12 @@ module _ (table s cells mid out : List ℕ) (r : Answer) (place count : ℕ) (va
   cells-inside = count-fits table s cells r mid count g same (sym (ap (λ (x : Told). x .count) (ap told is)))
 
   -- the tree that the sheet reads to
-  record Read : Type 0 where
-    it : Sheet
-    finds : sheetOf (modesOf table) (roomOf (length cells)) s ≡ found it []
-    of : OfSheet s (take (count * entryCells) mid) it
+  pub record Read : Type 0 where
+    pub it : Sheet
+    pub begins : begin table s (length cells) ≡ tree it
+    pub of : OfSheet s (take (count * entryCells) mid) it
 
-  tree-read : Read
+  pub tree-read : Read
   unfolding withinLimits
   tree-read = go (sheetOf (modesOf table) (roomOf (length cells)) s) refl (sheet-answers (modesOf table) (roomOf (length cells)) s) (g .says)
     where
@@ -193,7 +199,7 @@ module _ (table s cells mid out : List ℕ) (r : Answer) (place count : ℕ) (va
           let many : count ≡ length (entries t) = ap (λ (x : Told). x .count) (sym (ap told is) ∙ q) in
           record {
             it = t;
-            finds = e ∙ ap (found t) (h .0);
+            begins = begins-tree (record { modes = modesOf table; valid = valid; read = e ∙ ap (found t) (h .0) });
             of = record {
               covers = a .derives .covers;
               keeps = record {
@@ -212,5 +218,4 @@ module _ (table s cells mid out : List ℕ) (r : Answer) (place count : ℕ) (va
   unfolding writing
   written answer after zeros z f =
       let read = tree-read in
-      let b : begin table s (length cells) ≡ tree (read .it) = begins-tree (record { modes = modesOf table; valid = valid; read = read .finds }) in
-      rw (b, writing, z) (f (read .it) (length cells) (read .of))
+      rw (read .begins, writing, z) (f (read .it) (length cells) (read .of))

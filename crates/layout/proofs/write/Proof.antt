@@ -7,7 +7,7 @@ use lib.ListN.{replicate}
 use lib.Seq.{length-take-le}
 use Rattle.modes.proofs.Tables.{accepted-valid}
 use Rattle.sheets.proofs.SheetLaws.{all-zero, table-refused, sheet-done}
-use Rattle.layout.proofs.WriteLaws.{refused-through, none-counted, cells-inside, written}
+use Rattle.layout.proofs.WriteLaws.{refused-passed, refused-through, none-counted, cells-inside, written}
 use Rattle.layout.proofs.write.Statement.{statement}
 use Rattle.layout.proofs.write.Tie as tie
 
@@ -32,10 +32,10 @@ returns c =
     let at-enum-told2 = at-zero-from .before .before in
     let at-read = at-enum-told2 .before .before in
     let top = at-read .before .before .before .before .before in
-    refused-through (top .args .table .now) (top .args .sheet .now) (top .args .out .now) _ (at-read .read .result) _ _
-    (at-enum-told2 .enum-told2 .given .1) _
+    refused-through (top .args .table .now) (top .args .sheet .now) (top .args .out .now) _ _ _
+    (refused-passed (top .args .table .now) (top .args .sheet .now) _ (at-read .read .result) _ _ (at-enum-told2 .enum-told2 .given .1) _
     (table-refused (top .args .table .now) (top .args .sheet .now) (top .args .cells .now) (at-read .read .result) _ _ (at-read .read .ensures)
-    (at-enum-told2 .enum-told2 .given .1) _ (at-zero-from .zero-from .ensures))
+    (at-enum-told2 .enum-told2 .given .1) _ (at-zero-from .zero-from .ensures)))
 
 read-under-requires : tie.Need-read-under-requires
 read-under-requires c κs = accepted-valid _ _ _ _ (c .before .before .before .read .ensures) (c .before .enum-told .given .1)
@@ -60,11 +60,11 @@ returns-2 c =
     let at-enum-told = at-read-under .before .before in
     let at-read = at-enum-told .before .before in
     let top = at-read .before .before .before .before .before in
-    refused-through (top .args .table .now) (top .args .sheet .now) (top .args .out .now) _ (at-read-under .read-under .result) _ _
-    (at-enum-told3 .enum-told3 .given .1) _
+    refused-through (top .args .table .now) (top .args .sheet .now) (top .args .out .now) _ _ _
+    (refused-passed (top .args .table .now) (top .args .sheet .now) _ (at-read-under .read-under .result) _ _ (at-enum-told3 .enum-told3 .given .1) _
     (sheet-done (top .args .table .now) (top .args .sheet .now) (top .args .cells .now) (at-read-under .read-under .result) _ 0
     (at-read-under .read-under .ensures) (at-read-under .read-under .kept .1 .1 .0) (none-counted _ _ _ (at-enum-told3 .enum-told3 .given .1)) _
-    (accepted-valid _ _ _ _ (at-read .read .ensures) (at-enum-told .enum-told .given .1)) (at-zero-from2 .zero-from2 .ensures))
+    (accepted-valid _ _ _ _ (at-read .read .ensures) (at-enum-told .enum-told .given .1)) (at-zero-from2 .zero-from2 .ensures)))
 
 mul-end : tie.Need-mul-end
 mul-end c =
