@@ -1,29 +1,18 @@
-// Names: the run of letters and digits that stands somewhere, and the rule for Concepts and traits.
+// Names: the rule for those of Concepts and traits.
 // Document 01, "The grammar", Names, and "Sizes".
 use text::classes;
-use text::runs;
-use text::runs::Class;
 ghost use mathlib.Core.Path.{_≡_};
 ghost use mathlib.Core.Bool.{_&&_};
-ghost use Prim.Native.Nat.{_+_, _≤_};
-ghost use lib.ListN.{length, drop};
+ghost use lib.ListN.{length};
 ghost use lib.Dec.{leb};
 ghost use Rattle.paper.specs.Bytes.{within};
-ghost use Rattle.paper.specs.Names.{nameLimit, runLength, fewCapitals, isName, isConceptName, isTraitName};
+ghost use Rattle.paper.specs.Names.{nameLimit, fewCapitals, isName, isConceptName, isTraitName};
 
 // Names are at most so many bytes.
 pub const LIMIT: usize = 32;
 
 // So many upper case letters may stand in a row.
 const CAPITALS: usize = 2;
-
-// Where the run of letters and digits that stands at `at` ends.
-pub fn run_end(s: &[u8], at: usize) -> usize
-    requires { ⌜ at ≤ length (now s) ⌝ }
-    ensures { λ r. ⌜ (r ≡ at + runLength (drop at (now (s .entry)))) × (at ≤ r) × (r ≤ length (now (s .entry))) ⌝ }
-{
-    runs::end(s, at, Class::Name)
-}
 
 // Whether the name keeps to the rule of a Concept's name.
 pub fn is_concept_name(name: &[u8]) -> bool

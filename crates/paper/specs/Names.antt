@@ -5,16 +5,13 @@ use mathlib.Core.Bool.{Bool, true, false, _&&_}
 use mathlib.Core.List.{List, [], _∷_}
 use lib.ListN.{length}
 use lib.Dec.{leb, ltb}
-use Rattle.paper.specs.Bytes.{isUpper, isLower, isNameByte, startsIn, lengthIn, front, behind, same}
+use Rattle.paper.specs.Bytes.{isUpper, isLower, isNameByte, startsIn, front, behind, same}
 
 -- names are at most so many bytes
 abbrev pub nameLimit : ℕ
 nameLimit = 32
 
--- the run of letters and digits in front: how long it is, the run, and what is left behind it
-abbrev pub runLength : List ℕ → ℕ
-runLength s = lengthIn isNameByte s
-
+-- the run of letters and digits in front, and what is left behind it
 abbrev pub run : List ℕ → List ℕ
 run s = front isNameByte s
 

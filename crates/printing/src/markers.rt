@@ -11,7 +11,7 @@ use quoting::page::put;
 use quoting::page::put_byte;
 use quoting::page::put_tabs;
 use quoting::spans::part;
-use values::nesting::Nesting;
+use text::nesting::Nesting;
 ghost use mathlib.Core.Path.{_≡_};
 ghost use mathlib.Core.Bool.{not, _||_};
 ghost use mathlib.Core.List.{List, _∷_};

@@ -26,7 +26,7 @@ use Rattle.entries.specs.Laid.{lay, slotAfter, slotUnder}
 use Rattle.entries.specs.declared.Slot.{Slot}
 use Rattle.entries.proofs.Laying.{lay-none, lay-append, lay-before}
 use Rattle.entries.proofs.Slots.{fits-on}
-use Rattle.values.specs.declared.nesting.Nesting.{Nesting}
+use Rattle.text.specs.declared.nesting.Nesting.{Nesting}
 use Rattle.lines.specs.Parts.{seen, Makes, part, contentEntries}
 use Rattle.lines.specs.declared.part.Part.{Part}
 use Rattle.lines.proofs.Crossing.{FoundAt, found-at, makes-passed, makes-read}

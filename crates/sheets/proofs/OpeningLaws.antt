@@ -29,7 +29,7 @@ use Rattle.modes.specs.Table.{modesOf}
 use Rattle.text.proofs.Stretch.{Stretch, behind-at}
 use Rattle.entries.specs.Laid.{lay, slotUnder, Fits}
 use Rattle.entries.specs.declared.Slot.{Slot}
-use Rattle.values.specs.declared.nesting.Nesting.{Nesting}
+use Rattle.text.specs.declared.nesting.Nesting.{Nesting}
 use Rattle.lines.specs.Parts.{Seen, seen, seenOf, passed, Makes, In, part}
 use Rattle.lines.specs.Endings.{Ended, ended, endsOf, endedOf}
 use Rattle.lines.specs.declared.part.Part.{Part}

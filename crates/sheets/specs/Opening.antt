@@ -14,7 +14,7 @@ use Rattle.paper.specs.Entries.{Entry, traitsSize, traitEntries}
 use Rattle.paper.specs.Reading.{makes, Opened as Marker, opened, named, opening, bounds}
 use Rattle.modes.specs.Table.{modesOf}
 use Rattle.entries.specs.declared.Slot.{Slot}
-use Rattle.values.specs.declared.nesting.Nesting.{Nesting}
+use Rattle.text.specs.declared.nesting.Nesting.{Nesting}
 use Rattle.lines.specs.Parts.{Makes, part}
 use Rattle.lines.specs.declared.part.Part.{Part}
 use Rattle.sheets.specs.declared.opening.Opening.{Opening}

@@ -17,10 +17,10 @@ use lines::blank::tabs_only;
 use lines::part::Part;
 use paper::Answer;
 use paper::Refusal;
+use text::nesting::Nesting;
 use text::utf8;
 use text::utf8::Checked;
 use text::utf8::Cursor;
-use values::nesting::Nesting;
 ghost use mathlib.Core.Path.{_≡_};
 ghost use Prim.Native.Nat.{_≤_};
 ghost use lib.ListN.{length, drop};
@@ -52,7 +52,7 @@ pub fn read_under(table: &[u8], sheet: &[u8], cells: &mut [u32]) -> Answer
     requires { ⌜ Valid (now table) ⌝ }
     ensures { λ r. ⌜ ReadsUnder (now (table .entry)) (now (sheet .entry)) (now (cells .entry)) (told r) (now (cells .exit)) ⌝ }
 {
-    if Cursor::LIMIT < sheet.len() {
+    if Cursor::is_too_long(sheet) {
         return Answer::Refused {
             refusal: Refusal::SheetTooLong,
             place: Cursor::LIMIT,

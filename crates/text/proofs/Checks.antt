@@ -104,7 +104,7 @@ plain-printing b l h = (omega arith, λ left. sym (stand-other b left l (omega a
 -- behind a plain byte the check goes on
 pub plain-on : (s : List ℕ) (at : ℕ) → at < length s → Plain (getD s at 0) → checkedAt s (at + 1) ≡ checkedAt s at
 plain-on s at h p =
-    check-on s at (getD s at 0) (at + 1) (stepped s at (getD s at 0) (record { at = at + 1 }) (step-one s at h (row-one (getD s at 0) (p .0))))
+    check-on s at (getD s at 0) (at + 1) (stepped s at (getD s at 0) (record { at = at + 1 }) (step-one s at h (row-one (getD s at 0) (p .0)) refl))
     (p .1 (drop (at + 1) s))
 
 -- behind some bytes, of which so many are plain

@@ -7,3 +7,4 @@ pub mod HexDigits
 pub mod Steps
 pub mod Checks
 pub mod Stretch
+pub mod Deepening

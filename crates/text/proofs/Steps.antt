@@ -77,8 +77,12 @@ module _ (s : List ℕ) (at : ℕ) (h : at < length s) where
   pub step-none : rowOf (getD s at 0) ≡ none → Step.Broken ≡ stepAt s at
   step-none row = rw (step-here, scalar-none (getD s at 0) (drop (at + 1) s) row)
 
-  pub step-one : rowOf (getD s at 0) ≡ one → Step.Scalar (getD s at 0) (record { at = at + 1 }) ≡ stepAt s at
-  step-one row = rw (step-here, scalar-one (getD s at 0) (drop (at + 1) s) row, place-back s (at + 1) (omega arith))
+  pub step-one : rowOf (getD s at 0) ≡ one → {next : Cursor} → next ≡ record { at = at + 1 } → Step.Scalar (getD s at 0) next ≡ stepAt s at
+  step-one row n = rw (n, step-here, scalar-one (getD s at 0) (drop (at + 1) s) row, place-back s (at + 1) (omega arith))
+
+-- the step of a cursor that was made there
+pub step-from : (s : List ℕ) {at : ℕ} {cursor : Cursor} → cursor ≡ record { at = at } → {x : Step} → x ≡ stepAt s (cursor .at) → x ≡ stepAt s at
+step-from s n e = e ∙ ap (λ (k : Cursor). stepAt s (k .at)) n
 
 -- ---- a step over several bytes: six bits of each byte that follows are gathered behind those of the first
 
@@ -134,8 +138,8 @@ module _ {s : List ℕ} {at place low high more v : ℕ} (so-far : Awaits s at p
     pub goes-on : {next : ℕ} → next ≡ place + 1 → (fewer : ℕ) → more ≡ suc fewer → Awaits s at next 0x80 0xBF fewer (v * 64 + c)
     goes-on {next} n fewer m = record { from = omega arith; to = omega arith; step = onward next n ∙ rw m }
 
-    pub is-whole : {next : ℕ} → next ≡ place + 1 → more ≡ 0 → Step.Scalar (v * 64 + c) (record { at = next }) ≡ stepAt s at
-    is-whole {next} n m = let i : next ≤ length s = omega (arith, there .inside) in sym (onward next n ∙ rw (m, place-back s next i))
+    pub is-whole : {next : ℕ} → next ≡ place + 1 → more ≡ 0 → {cursor : Cursor} → cursor ≡ record { at = next } → Step.Scalar (v * 64 + c) cursor ≡ stepAt s at
+    is-whole {next} n m q = let i : next ≤ length s = omega (arith, there .inside) in rw q (sym (onward next n ∙ rw (m, place-back s next i)))
 
 -- ---- what each answer of a step says of the place
 

@@ -5,7 +5,9 @@ ghost use mathlib.Core.Path.{_≡_};
 ghost use mathlib.Core.Bool.{true};
 ghost use Prim.Native.Nat.{_+_, _≤_, _<_};
 ghost use lib.ListN.{length, getD, drop};
+ghost use lib.Dec.{ltb};
 ghost use Rattle.paper.specs.Bytes.{two, three, four, rowOf, follower, mayStand};
+ghost use Rattle.paper.specs.Limits.{sheetLimit};
 ghost use Rattle.text.specs.Steps.{bitsOf, stepAt, checked, checkedAt, Plain, Walks};
 
 // A place in a sheet.
@@ -30,11 +32,18 @@ impl Cursor {
     // A sheet has at most so many bytes.
     pub const LIMIT: usize = 16384;
 
-    // The cursor at the start.
-    pub fn new() -> Self
-        ensures { λ r. ⌜ r .at ≡ 0 ⌝ }
+    // The cursor at a place.
+    pub fn new(at: usize) -> Self
+        ensures { λ r. ⌜ r ≡ record { at = at } ⌝ }
     {
-        Cursor { at: 0 }
+        Cursor { at }
+    }
+
+    // Whether the sheet has more bytes than it may have.
+    pub fn is_too_long(sheet: &[u8]) -> bool
+        ensures { λ r. ⌜ r ≡ ltb sheetLimit (length (now (sheet .entry))) ⌝ }
+    {
+        Self::LIMIT < sheet.len()
     }
 
     // One step of UTF-8, row by row as in the table: the first byte says how many follow, and where the second one lies.
@@ -47,7 +56,7 @@ impl Cursor {
         }
         let b = s[at];
         match b {
-            0x00..=0x7F => Step::Scalar(b as u32, Cursor { at: at + 1 }),
+            0x00..=0x7F => Step::Scalar(b as u32, Cursor::new(at + 1)),
             0xC2..=0xDF => two(s, at),
             0xE0 => three(s, at, 0xA0, 0xBF),
             0xE1..=0xEC => three(s, at, 0x80, 0xBF),
@@ -89,7 +98,7 @@ fn two(s: &[u8], at: usize) -> Step
         return Step::Broken;
     };
     let b = (s[at] - 0xC0) as u32;
-    Step::Scalar(b * 64 + c, Cursor { at: at + 2 })
+    Step::Scalar(b * 64 + c, Cursor::new(at + 2))
 }
 
 // The step over a sequence of three bytes, whose first stands at at; its row says that the second lies from low to high.
@@ -106,7 +115,7 @@ fn three(s: &[u8], at: usize, low: u8, high: u8) -> Step
         return Step::Broken;
     };
     let b = (s[at] - 0xE0) as u32;
-    Step::Scalar((b * 64 + c) * 64 + d, Cursor { at: at + 3 })
+    Step::Scalar((b * 64 + c) * 64 + d, Cursor::new(at + 3))
 }
 
 // The step over a sequence of four bytes, in the same way.
@@ -127,7 +136,7 @@ fn four(s: &[u8], at: usize, low: u8, high: u8) -> Step
         return Step::Broken;
     };
     let b = (s[at] - 0xF0) as u32;
-    Step::Scalar(((b * 64 + c) * 64 + d) * 64 + e, Cursor { at: at + 4 })
+    Step::Scalar(((b * 64 + c) * 64 + d) * 64 + e, Cursor::new(at + 4))
 }
 
 // What the check of a whole sheet says: all its bytes may stand, or the place of the first sequence that may not.
@@ -187,7 +196,7 @@ fn walk_one(s: &[u8], at: usize) -> Walked
     requires { ⌜ at < length (now s) ⌝ }
     ensures { λ r. ⌜ Walks (now (s .entry)) at r ⌝ }
 {
-    let cursor = Cursor { at };
+    let cursor = Cursor::new(at);
     match cursor.step(s) {
         Step::End => Walked::Broken(at),
         Step::Broken => Walked::Broken(at),

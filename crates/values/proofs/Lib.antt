@@ -12,7 +12,6 @@ pub mod IriParts
 pub mod FirstBytes
 pub mod LeafReads
 pub mod ListLaws
-pub mod Deepening
 pub mod ItemsFound
 pub mod EnterLaws
 pub mod EnterTurns

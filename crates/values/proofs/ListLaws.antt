@@ -1,5 +1,5 @@
 -- Values at a place: no list, an empty list, a list too deep, items, and what stands behind an item. Over plain lists. Assumes nothing.
-use Prim.Native.Nat.{ℕ, suc, _+_, _≤_, _<_}
+use Prim.Native.Nat.{ℕ, suc, _+_, _*_, _≤_, _<_}
 use mathlib.Core.Path.{_≡_, refl, sym, ap, _∙_, subst}
 use mathlib.Core.Bool.{true, false}
 use mathlib.Core.List.{List, [], _∷_}
@@ -59,6 +59,10 @@ other-at b s at h e = split (eqb (getD s at 0) b) (λ k. true-false (rw (here s 
 pub record Opened (s : List ℕ) (at lists fewer : ℕ) : Type 0 where
   pub opens : startsWith (bytes "[") (drop at s) ≡ true
   pub deeper : lists ≡ suc fewer
+
+-- twice what is left falls, though a list's items stand between
+pub fewer-falls : (left fewer bound : ℕ) → left ≡ suc fewer → 2 * left ≡ bound → 2 * fewer + 1 < bound
+fewer-falls left fewer bound e h = omega arith
 
 -- ---- the kinds of values
 

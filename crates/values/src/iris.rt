@@ -33,7 +33,7 @@ pub fn is_iri(w: &[u8]) -> bool
 fn is_body(body: &[u8]) -> bool
     ensures { λ r. ⌜ ((fuel : ℕ) → length (now (body .entry)) ≤ fuel → r ≡ isIriBody fuel (now (body .entry))) ⌝ }
 {
-    let mut cursor = Cursor::new();
+    let mut cursor = Cursor::new(0);
     loop {
         match cursor.step(body) {
             Step::End => {

@@ -7,7 +7,6 @@ mod iris;
 pub mod judged;
 mod leaves;
 pub mod lists;
-pub mod nesting;
 mod numbers;
 mod quoted;
 mod words;

@@ -60,7 +60,7 @@ pub fn character_end(s: &[u8], at: usize) -> Judged
             closing_quote(s, end)
         }
         _ => {
-            let cursor = Cursor { at };
+            let cursor = Cursor::new(at);
             let Step::Scalar(_, next) = cursor.step(s) else {
                 return judged::no_value(at);
             };

@@ -98,7 +98,7 @@ fn is_token(w: &[u8], low: u8, high: u8) -> bool
     if !classes::is_within(low, high, w[1]) {
         return false;
     }
-    names::run_end(w, 1) == w.len()
+    runs::end(w, 1, Class::Name) == w.len()
 }
 
 // Whether the word is a UUID: hex digits in groups of 8, 4, 4, 4 and 12, with "-" between.

@@ -9,7 +9,7 @@ use lib.ListN.{length}
 use Rattle.paper.specs.Tree.{Body}
 use Rattle.paper.specs.Entries.{bodySize, bodyCount}
 use Rattle.entries.specs.Laid.{entryOf}
-use Rattle.values.proofs.Deepening.{one-less, no-less}
+use Rattle.text.proofs.Deepening.{one-less, no-less}
 use Rattle.printing.specs.Standing.{Ends, OfBody}
 use Rattle.printing.specs.Walking.{KeepsBody}
 use Rattle.printing.proofs.BodyLaws.{BodyLeft, body-all, element-there, element-on, body-over}
@@ -29,7 +29,7 @@ use Rattle.printing.proofs.concepts.put_between.Reads as put-between-re
 use Rattle.printing.proofs.concepts.put_closing.Reads as put-closing-reads
 use Rattle.printing.proofs.content.put_content.Reads as put-content-reads
 use Rattle.printing.proofs.markers.put_marker.Reads as put-marker-reads
-use Rattle.values.proofs.nesting.Nesting.step.Reads as step-reads
+use Rattle.text.proofs.nesting.Nesting.step.Reads as step-reads
 use Rattle.printing.proofs.notes.put_notes.Reads as put-notes-reads
 use Rattle.quoting.proofs.page.put_tabs.Reads as put-tabs-reads
 use Rattle.printing.proofs.concepts.+put_body+put_concept.{statement}

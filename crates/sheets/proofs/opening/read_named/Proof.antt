@@ -3,7 +3,7 @@ use Prim.Native.Nat.{suc}
 use mathlib.Core.Path.{_≡_, sym, _∙_}
 use native.Mathlib.Omega.{arith}
 use borrow.Author.Needs.{needs}
-use Rattle.values.proofs.Deepening.{one-less, no-less}
+use Rattle.text.proofs.Deepening.{one-less, no-less}
 use Rattle.sheets.proofs.OpeningLaws.{in-children, in-content, too-deep, unlisted, listed}
 use Rattle.sheets.proofs.opening.read_named.Statement.{statement}
 use Rattle.sheets.proofs.opening.read_named.Tie as tie

@@ -125,13 +125,17 @@ mul-t20 c = omega (arith, numbers c)
 add-t21 : tie.Need-add-t21
 add-t21 c = omega (arith, numbers c)
 
-add-t12 : tie.Need-add-t12
-add-t12 c = search needs
+add-new : tie.Need-add-new
+add-new c = search needs
+
+new-requires : tie.Need-new-requires
+new-requires c κs = search needs
 
 returns-4 : tie.Need-returns-4
 returns-4 c =
-    is-whole (third (c .before .before .before .before .before)) (c .before .before .before .before .follower3 .ensures) (c .before .before .fourth .given .1)
-    (omega arith) refl
+    let at-fourth = c .before .before .before in
+    is-whole (third (at-fourth .before .before .before)) (at-fourth .before .before .follower3 .ensures) (at-fourth .fourth .given .1)
+    (omega arith) refl (c .new .ensures)
 
 pub four-spec : {M : Type 1} → statement M
 four-spec =
@@ -161,5 +165,6 @@ four-spec =
     add-t19
     mul-t20
     add-t21
-    add-t12
+    add-new
+    new-requires
     returns-4)

@@ -92,13 +92,17 @@ mul-t16 c = omega (arith, numbers c)
 add-t17 : tie.Need-add-t17
 add-t17 c = omega (arith, numbers c)
 
-add-t10 : tie.Need-add-t10
-add-t10 c = search needs
+add-new : tie.Need-add-new
+add-new c = search needs
+
+new-requires : tie.Need-new-requires
+new-requires c κs = search needs
 
 returns-3 : tie.Need-returns-3
 returns-3 c =
-    is-whole (second (c .before .before .before .before .before)) (c .before .before .before .before .follower2 .ensures) (c .before .before .third .given .1)
-    (omega arith) refl
+    let at-third = c .before .before .before in
+    is-whole (second (at-third .before .before .before)) (at-third .before .before .follower2 .ensures) (at-third .third .given .1)
+    (omega arith) refl (c .new .ensures)
 
 pub three-spec : {M : Type 1} → statement M
 three-spec =
@@ -121,5 +125,6 @@ three-spec =
     add-t15
     mul-t16
     add-t17
-    add-t10
+    add-new
+    new-requires
     returns-3)

@@ -58,11 +58,16 @@ mul-t10 c = omega (arith, numbers c)
 add-t11 : tie.Need-add-t11
 add-t11 c = omega (arith, numbers c)
 
-add-t6 : tie.Need-add-t6
-add-t6 c = search needs
+add-new : tie.Need-add-new
+add-new c = search needs
+
+new-requires : tie.Need-new-requires
+new-requires c κs = search needs
 
 returns-2 : tie.Need-returns-2
-returns-2 c = is-whole (first (top (c .before))) (c .before .before .before .before .follower .ensures) (c .before .before .second .given .1) (omega arith) refl
+returns-2 c =
+    let at-told = c .before .before in
+    is-whole (first (top at-told)) (at-told .before .before .before .follower .ensures) (at-told .before .second .given .1) (omega arith) refl (c .new .ensures)
 
 pub two-spec : {M : Type 1} → statement M
 two-spec =
@@ -78,5 +83,6 @@ two-spec =
     cast-b
     mul-t10
     add-t11
-    add-t6
+    add-new
+    new-requires
     returns-2)

@@ -11,9 +11,9 @@ use Rattle.paper.specs.Values.{list}
 use Rattle.paper.specs.ReadingValues.{itemAnd}
 use Rattle.values.specs.declared.entering.Entered.{Entered}
 use Rattle.values.specs.Entering.{leftOf, EntersFrom}
-use Rattle.values.proofs.Deepening.{one-less, no-less, fewer-falls}
+use Rattle.text.proofs.Deepening.{one-less, no-less}
 use Rattle.text.proofs.Compared.{stands-inside}
-use Rattle.values.proofs.ListLaws.{Opened}
+use Rattle.values.proofs.ListLaws.{Opened, fewer-falls}
 use Rattle.values.proofs.EnterLaws.{leaf-enters, deep-enters, empty-enters, list-enters, ahead-full}
 use Rattle.values.proofs.EnterTurns.{stands-deeper, Turn, Turned, turned, next-small, full-turn, item-stands, put-room, none-turn}
 use Rattle.values.proofs.EnterTurns.{Far, far, last-ahead, last-turn, next-turn}
@@ -36,7 +36,7 @@ use Rattle.values.proofs.brackets.goes_on.Reads as goes-on-reads
 use Rattle.values.proofs.brackets.opens.Reads as opens-reads
 use Rattle.values.proofs.entering.without_items.Reads as without-items-reads
 use Rattle.values.proofs.leaves.read_leaf.Reads as read-leaf-reads
-use Rattle.values.proofs.nesting.Nesting.step.Reads as step-reads
+use Rattle.text.proofs.nesting.Nesting.step.Reads as step-reads
 use Rattle.values.proofs.entering.+enter+enter_items.{statement}
 use Rattle.values.proofs.entering.+enter+enter_items.Tie.{close}
 

@@ -9,10 +9,10 @@ use Rattle.paper.specs.Bytes.{bytes}
 use Rattle.paper.specs.Values.{list}
 use Rattle.paper.specs.ReadingValues.{itemAnd}
 use Rattle.values.specs.Shown.{shownOf, listForm}
-use Rattle.values.proofs.Deepening.{one-less, no-less, fewer-falls}
+use Rattle.text.proofs.Deepening.{one-less, no-less}
 use Rattle.values.proofs.Showing.{moved}
 use Rattle.text.proofs.Compared.{stands-inside}
-use Rattle.values.proofs.ListLaws.{Opened, leaf-value, deep-value, empty-value, list-value, item-refused, item-cut, item-last, item-wrong, item-next}
+use Rattle.values.proofs.ListLaws.{Opened, fewer-falls, leaf-value, deep-value, empty-value, list-value, item-refused, item-cut, item-last, item-wrong, item-next}
 use borrow.Fn.Kinds.{In}
 use borrow.Fn.PlainCycle.{Measures, is, falls, and}
 use Rattle.values.proofs.lists.read_items.Reads as read-items
@@ -26,7 +26,7 @@ use Rattle.values.proofs.brackets.closes.Reads as closes-reads
 use Rattle.values.proofs.brackets.goes_on.Reads as goes-on-reads
 use Rattle.values.proofs.brackets.opens.Reads as opens-reads
 use Rattle.values.proofs.leaves.read_leaf.Reads as read-leaf-reads
-use Rattle.values.proofs.nesting.Nesting.step.Reads as step-reads
+use Rattle.text.proofs.nesting.Nesting.step.Reads as step-reads
 use Rattle.values.proofs.judged.cut.Reads as cut-reads
 use Rattle.values.proofs.judged.no_value.Reads as no-value-reads
 use Rattle.values.proofs.lists.+read_items+read_value.{statement}

@@ -1,13 +1,21 @@
 -- A law for each way out, by the first byte.
 use borrow.Author.Needs.{needs}
-use mathlib.Core.Path.{sym, _∙_}
+use mathlib.Core.Path.{_≡_, sym, _∙_}
 use mathlib.Core.Logic.{⊎-elim}
 use native.Mathlib.Omega.{arith}
-use Rattle.text.proofs.Steps.{stepped}
+use Rattle.text.specs.Steps.{stepAt}
+use Rattle.text.proofs.Steps.{stepped, step-from}
 use Rattle.values.proofs.Showing.{no-value, cut-off}
 use Rattle.values.proofs.Quotes.{character-ends, character-none, character-refused, character-escaped, character-direct, character-unread}
 use Rattle.values.proofs.quoted.character_end.Statement.{statement}
 use Rattle.values.proofs.quoted.character_end.Tie as tie
+
+abbrev start : tie.After-step → tie.Start
+start c = c .before .before .before .before .before .before
+
+-- what the step from the cursor there answered
+said : (c : tie.After-step) → c .step .result ≡ stepAt (start c .args .s .now) (start c .args .at)
+said c = step-from _ (c .before .new .ensures) (c .step .ensures)
 
 cut-requires : tie.Need-cut-requires
 cut-requires c κs = search needs
@@ -42,6 +50,9 @@ returns-2 c =
 closing-quote-requires : tie.Need-closing-quote-requires
 closing-quote-requires c κs = search needs
 
+new-requires : tie.Need-new-requires
+new-requires c κs = search needs
+
 step-requires : tie.Need-step-requires
 step-requires c κs = search needs
 
@@ -54,10 +65,10 @@ no-value-requires-2 c κs = search needs
 returns-3 : tie.Need-returns-3
 returns-3 c =
     let at-step = c .before .before in
-    let at-match = at-step .before in
+    let at-match = at-step .before .before in
     let at-if1 = at-match .before .before in
     no-value _ _ _ _ _ _ (c .no-value2 .ensures) (omega arith)
-    (character-unread _ _ (at-if1 .if1 .left) (at-match .match .rest .0 .1) (at-match .match .rest .1) _ (at-step .step .ensures)
+    (character-unread _ _ (at-if1 .if1 .left) (at-match .match .rest .0 .1) (at-match .match .rest .1) _ (said at-step)
     (λ v next e. ⊎-elim (λ k. omega (arith, rw e at k)) (λ k. omega (arith, rw e at k)) (c .before .match3 .keys2)))
 
 closing-quote-requires-2 : tie.Need-closing-quote-requires-2
@@ -81,10 +92,10 @@ returns-6 : tie.Need-returns-6
 returns-6 c =
     let at-next = c .before .before in
     let at-step = at-next .before .before in
-    let at-match = at-step .before in
+    let at-match = at-step .before .before in
     let at-if1 = at-match .before .before in
     character-direct _ _ (at-if1 .if1 .left) (at-match .match .rest .0 .1) (at-match .match .rest .1) _ _
-    (stepped _ _ _ _ (sym (at-next .next .given .1) ∙ at-step .step .ensures)) (c .closing-quote2 .ensures)
+    (stepped _ _ _ _ (sym (at-next .next .given .1) ∙ said at-step)) (c .closing-quote2 .ensures)
 
 pub character-end-spec : {M : Type 1} → statement M
 character-end-spec =
@@ -99,6 +110,7 @@ character-end-spec =
     enum-told
     returns-2
     closing-quote-requires
+    new-requires
     step-requires
     enum-known-next
     no-value-requires-2

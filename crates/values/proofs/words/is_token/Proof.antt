@@ -23,15 +23,15 @@ returns-2 c =
     let start = at-if1 .before .before in
     token-other _ _ (start .args .w .now) (at-if1 .if1 .left) (sym (c .before .is-within .ensures) ∙ not-true _ (c .if2 .taken))
 
-run-end-requires : tie.Need-run-end-requires
-run-end-requires c κs = search needs
+end-requires : tie.Need-end-requires
+end-requires c κs = search needs
 
 returns-3 : tie.Need-returns-3
 returns-3 c =
     let at-is-within = c .before .before in
     let at-if1 = at-is-within .before .before in
     let start = at-if1 .before .before in
-    token-run _ _ (start .args .w .now) (at-if1 .if1 .left) _ (c .run-end .ensures .0)
+    token-run _ _ (start .args .w .now) (at-if1 .if1 .left) _ (c .end .ensures .0)
     (sym (at-is-within .is-within .ensures) ∙ not-false _ (c .before .if2 .left))
 
 pub is-token-spec : {M : Type 1} → statement M
@@ -42,5 +42,5 @@ is-token-spec =
     shared-slice-read-is-within
     is-within-requires
     returns-2
-    run-end-requires
+    end-requires
     returns-3)

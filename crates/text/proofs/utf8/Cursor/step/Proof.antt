@@ -27,8 +27,11 @@ four-requires-2 c κs = (c .before .before .if1 .left, row-f4 _ (c .match .keys4
 cast-t11 : tie.Need-cast-t11
 cast-t11 c = search needs
 
-add-t12 : tie.Need-add-t12
-add-t12 c = search needs
+add-new : tie.Need-add-new
+add-new c = search needs
+
+new-requires : tie.Need-new-requires
+new-requires c κs = search needs
 
 two-requires : tie.Need-two-requires
 two-requires c κs = (c .before .before .before .before .before .if1 .left, row-two _ (omega arith) (omega arith))
@@ -55,7 +58,7 @@ returns-5 : tie.Need-returns-5
 returns-5 c = search needs
 
 returns-6 : tie.Need-returns-6
-returns-6 c = step-one _ _ (c .before .before .before .if1 .left) (row-one _ (omega arith))
+returns-6 c = step-one _ _ (c .before .before .before .before .if1 .left) (row-one _ (omega arith)) (c .new .ensures)
 
 returns-7 : tie.Need-returns-7
 returns-7 c = search needs
@@ -86,7 +89,8 @@ step-spec =
     four-requires
     four-requires-2
     cast-t11
-    add-t12
+    add-new
+    new-requires
     two-requires
     three-requires-3
     three-requires-4

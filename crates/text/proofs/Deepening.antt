@@ -1,16 +1,16 @@
 -- One level deeper: what opening one more says of how many are left. Assumes nothing.
-use Prim.Native.Nat.{ℕ, suc, _+_, _-_, _*_, _<_}
+use Prim.Native.Nat.{ℕ, suc, _-_}
 use mathlib.Core.Path.{_≡_, sym, ap, _∙_}
 use native.Mathlib.Omega.{arith}
 use lib.Dec.{eqb}
 use borrow.Author.Tests.{eqb-true, eqb-false}
 use Rattle.paper.proofs.Tests.{split}
-use Rattle.values.specs.declared.nesting.Nesting.{Nesting}
-use Rattle.values.specs.declared.nesting.Deeper.{Deeper}
-use Rattle.values.specs.declared.nesting.Deeper.the-variants.{Inside, TooDeep}
-use Rattle.values.specs.Deeper.{stepped}
+use Rattle.text.specs.declared.nesting.Nesting.{Nesting}
+use Rattle.text.specs.declared.nesting.Deeper.{Deeper}
+use Rattle.text.specs.declared.nesting.Deeper.the-variants.{Inside, TooDeep}
+use Rattle.text.specs.Deeper.{oneDeeper}
 
-module _ (d : Deeper) (left : ℕ) (e : d ≡ stepped left) where
+module _ (d : Deeper) (left : ℕ) (e : d ≡ oneDeeper left) where
   -- one was left at least
   pub one-less : (n : Nesting) → d ≡ Inside n → left ≡ suc (n .left)
   one-less n q =
@@ -30,7 +30,3 @@ module _ (d : Deeper) (left : ℕ) (e : d ≡ stepped left) where
       (λ z. let w : TooDeep ≡ Inside (record { left = left - 1 }) = sym q ∙ e ∙ rw z in
       let y : _≡_ {A = ℕ} 0 1 = cc in
       absurd (omega arith))
-
--- twice what is left falls, though a list's items stand between
-pub fewer-falls : (left fewer bound : ℕ) → left ≡ suc fewer → 2 * left ≡ bound → 2 * fewer + 1 < bound
-fewer-falls left fewer bound e h = omega arith

@@ -1,8 +1,8 @@
 -- None is left, or one less.
 use borrow.Author.Needs.{needs}
 use borrow.Author.Tests.{eq-eqb, ne-eqb}
-use Rattle.values.proofs.nesting.Nesting.step.Statement.{statement}
-use Rattle.values.proofs.nesting.Nesting.step.Tie as tie
+use Rattle.text.proofs.nesting.Nesting.step.Statement.{statement}
+use Rattle.text.proofs.nesting.Nesting.step.Tie as tie
 
 returns : tie.Need-returns
 returns c = simp (eq-eqb _ _ (c .if1 .taken))

@@ -1,7 +1,7 @@
 // How many Concepts or lists may still be opened in one another.
 // Document 01, "Sizes": thirty-two Concepts and eight lists deep, the outermost counting as one.
 ghost use mathlib.Core.Path.{_≡_};
-ghost use Rattle.values.specs.Deeper.{stepped};
+ghost use Rattle.text.specs.Deeper.{oneDeeper};
 
 // So many may still be opened.
 pub struct Nesting {
@@ -28,7 +28,7 @@ impl Nesting {
 
     // One is opened.
     pub fn step(self) -> Deeper
-        ensures { λ r. ⌜ r ≡ stepped (self .left) ⌝ }
+        ensures { λ r. ⌜ r ≡ oneDeeper (self .left) ⌝ }
     {
         let left = self.left;
         if left == 0 {
