@@ -30,7 +30,7 @@ use Rattle.paper.proofs.Beginning.{Begins, begins, begins-tree, reads-tree}
 use Rattle.modes.specs.Table.{Valid, modesOf}
 use Rattle.entries.specs.Laid.{lay}
 use Rattle.entries.proofs.Laying.{cells-length}
-use Rattle.sheets.specs.Sheets.{answerOf, Reads}
+use Rattle.sheets.specs.Sheets.{answerOf, AnswersSheet}
 use Rattle.sheets.proofs.SheetLaws.{count-fits}
 use Rattle.quoting.specs.Page.{holds, full, page, Puts}
 use Rattle.printing.specs.Walking.{OfSheet}
@@ -173,7 +173,7 @@ laid-front cells mid es count many fits e =
     ∙ page-front cells (sets cells 0 (allCells es)) (allCells es) (omega (arith, cells-length es)) refl
 
 module _ (table s cells mid out : List ℕ) (r : Answer) (place count : ℕ) (valid : Valid table)
-    (g : Reads s cells (sheetOf (modesOf table) (roomOf (length cells)) s) (told r) mid) (same : length mid ≡ length cells)
+    (g : AnswersSheet s cells (sheetOf (modesOf table) (roomOf (length cells)) s) (told r) mid) (same : length mid ≡ length cells)
     (is : r ≡ Accepted place count) where
   -- the cells of the entries are part of those that are lent
   pub cells-inside : count * entryCells ≤ length mid

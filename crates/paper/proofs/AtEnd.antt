@@ -38,7 +38,7 @@ use Rattle.paper.proofs.Leaves.{leaf-string, leaf-character, leaf-backt
 use Rattle.paper.proofs.ReadValues.{ReadValue, value-reads, value-of-deep, value-of-leaf, value-of-empty, value-of-list, more-of-end}
 use Rattle.paper.proofs.ReadValues.{more-of-close, more-of-comma, more-of-other, whole-found, whole-fault}
 use Rattle.paper.proofs.Markers.{trait-shorter}
-use Rattle.paper.proofs.Concepts.{Opens, opening-reads, ReadPiece, piece-reads}
+use Rattle.paper.proofs.Concepts.{ReadOpening, opening-reads, ReadPiece, piece-reads}
 use Rattle.paper.proofs.Fuel.{marker-shorter, concept-of, block-of, body-of}
 
 -- ---- a 9 leaves nothing
@@ -445,7 +445,7 @@ mutual
   concept-ends zero m by deeper room tabs s h = absurd (omega arith)
   concept-ends (suc n) m by deeper room tabs s h =
       rw (concept-of m by deeper room tabs s)
-      (then-by s (λ o left. Opens m by deeper room s o left) (opening m by deeper room s) (opening-reads m by deeper room s) (opening-ends m by deeper room s)
+      (then-by s (λ o left. ReadOpening m by deeper room s o left) (opening m by deeper room s) (opening-reads m by deeper room s) (opening-ends m by deeper room s)
       (λ o left t p.
       let short = marker-shorter m by deeper room s o left p in
       inside-ends m (blockOf m by) deeper room tabs o left (block-ends n m by (deeper - 1) (roomIn room o) (o .marker) left (omega arith))))

@@ -96,7 +96,7 @@ head-reads by s =
     (λ w left n. record { marked = d ∙ ap (λ (l : List ℕ). byte "<" ∷ l) (sym e); named = rw e n }))
 
 -- the facts of an opening marker
-pub record Opens (m : Modes) (by : Bounds) (deeper room : ℕ) (s : List ℕ) (o : Opened) (left : List ℕ) : Type 0 where
+pub record ReadOpening (m : Modes) (by : Bounds) (deeper room : ℕ) (s : List ℕ) (o : Opened) (left : List ℕ) : Type 0 where
   pub covers : s ≡ markerOnto (o .marker) (endingOnto (o .ends) left)
   pub rule : markerRule (o .marker) ≡ true
   pub within : markerFits (by .names) (by .lists) (o .marker) ≡ true
@@ -106,7 +106,7 @@ pub record Opens (m : Modes) (by : Bounds) (deeper room : ℕ) (s : List ℕ) (o
   pub fits : suc (traitsSize (o .marker .traits)) ≤ room
 
 opens-made : (m : Modes) (by : Bounds) (deeper room : ℕ) (s w mid v start : List ℕ) (o : Opened) (left : List ℕ)
-    → ReadHead by s w mid → Admits m deeper room w mid v start → ReadOpened by (room - 1) v start o left → Opens m by deeper room s o left
+    → ReadHead by s w mid → Admits m deeper room w mid v start → ReadOpened by (room - 1) v start o left → ReadOpening m by deeper room s o left
 unfolding markerRule markerFits isName
 opens-made m by deeper room s w mid v start o left h a r =
     let k = o .marker in
@@ -124,7 +124,7 @@ opens-made m by deeper room s w mid v start o left h a r =
       fits = omega (arith, r .fits, a .fits);
     }
 
-pub opening-reads : (m : Modes) (by : Bounds) (deeper room : ℕ) (s : List ℕ) → Reads s (λ o left. Opens m by deeper room s o left) (opening m by deeper room s)
+pub opening-reads : (m : Modes) (by : Bounds) (deeper room : ℕ) (s : List ℕ) → Reads s (λ o left. ReadOpening m by deeper room s o left) (opening m by deeper room s)
 opening-reads m by deeper room s =
     reads-on s (λ w left. ReadHead by s w left) _ _ (head by s) (head-reads by s)
     (λ w mid u h. reads-on s (λ v start. Admits m deeper room w mid v start) _ _ (admitted m deeper room s w mid) (admitted-reads m deeper room s w mid u)
@@ -142,7 +142,7 @@ content-else m w a c = go (modeOf m w) refl
     go Absent e = true-false (sym (rw (e, inMode)) ∙ a)
 
 -- the Concept that a marker opens, by its ending and its mode
-module _ (m : Modes) (by : Bounds) (deeper room tabs : ℕ) (s : List ℕ) (o : Opened) (left : List ℕ) (p : Opens m by deeper room s o left) where
+module _ (m : Modes) (by : Bounds) (deeper room tabs : ℕ) (s : List ℕ) (o : Opened) (left : List ℕ) (p : ReadOpening m by deeper room s o left) where
   self-made : o .ends ≡ self → ReadConcept m by deeper room tabs s (selfClosed (o .marker)) left
   unfolding conceptOnto conceptRule conceptModes conceptFits conceptDepth conceptSize
   self-made e = record { covers = p .covers ∙ rw e; rule = p .rule; modes = is-not (p .listed); within = p .within; depth = p .deep; fits = p .fits }
@@ -328,7 +328,7 @@ mutual
       → Reads s (λ c left. ReadConcept m by deeper room tabs s c left) (concept m by fuel deeper room tabs s)
   concept-reads m by zero deeper room tabs s = fault-here s 9 (omega arith) (omega arith)
   concept-reads m by (suc fuel) deeper room tabs s =
-      reads-on s (λ o left. Opens m by deeper room s o left) _ _ (opening m by deeper room s) (opening-reads m by deeper room s)
+      reads-on s (λ o left. ReadOpening m by deeper room s o left) _ _ (opening m by deeper room s) (opening-reads m by deeper room s)
       (λ o left u p. concept-made m by deeper room tabs s o left p u (childrenOf m by fuel) (λ deeper room k l. children-reads m by fuel deeper room k l))
 
   pub children-reads : (m : Modes) (by : Bounds) (fuel deeper room : ℕ) (k : Marker) (s : List ℕ)
@@ -424,7 +424,7 @@ admitted-complete m zero room s w left d r f = absurd (omega arith)
 admitted-complete m (suc deeper) room s w left d r f = rw (f, admitted) (makes-complete room (drop 1 s) w left r)
 
 -- the facts of a marker that stands there
-pub record Stands (m : Modes) (by : Bounds) (deeper room : ℕ) (k : Marker) (e : Ending) : Type 0 where
+pub record MarkerStands (m : Modes) (by : Bounds) (deeper room : ℕ) (k : Marker) (e : Ending) : Type 0 where
   pub rule : markerRule k ≡ true
   pub within : markerFits (by .names) (by .lists) k ≡ true
   pub opens : e ≡ block → opensBlock k ≡ true
@@ -432,7 +432,7 @@ pub record Stands (m : Modes) (by : Bounds) (deeper room : ℕ) (k : Marker) (e 
   pub deep : 0 < deeper
   pub fits : suc (traitsSize (k .traits)) ≤ room
 
-pub opening-complete : (m : Modes) (by : Bounds) (deeper room : ℕ) (k : Marker) (e : Ending) (next : List ℕ) → Stands m by deeper room k e
+pub opening-complete : (m : Modes) (by : Bounds) (deeper room : ℕ) (k : Marker) (e : Ending) (next : List ℕ) → MarkerStands m by deeper room k e
     → opening m by deeper room (markerOnto k (endingOnto e next)) ≡ found (record { marker = k; ends = e }) next
 unfolding markerRule markerFits isName
 opening-complete m by deeper room k e next p =
@@ -451,7 +451,7 @@ opening-complete m by deeper room k e next p =
     )
 
 -- reading a Concept whose marker stands there goes on behind the marker
-pub marker-complete : (m : Modes) (by : Bounds) (fuel deeper room tabs : ℕ) (k : Marker) (e : Ending) (next : List ℕ) → Stands m by deeper room k e
+pub marker-complete : (m : Modes) (by : Bounds) (fuel deeper room tabs : ℕ) (k : Marker) (e : Ending) (next : List ℕ) → MarkerStands m by deeper room k e
     → concept m by (suc fuel) deeper room tabs (markerOnto k (endingOnto e next)) ≡ insideBy m (childrenOf m by fuel) deeper room tabs
     (record { marker = k; ends = e }) next
 unfolding concept

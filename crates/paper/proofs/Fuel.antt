@@ -19,10 +19,10 @@ use Rattle.paper.proofs.Finds.{tail-length, tail-then, tail-drop, then-
 use Rattle.paper.proofs.Lines.{ReadBlank, rest-reads, rule-name}
 use Rattle.paper.proofs.Annotations.{ReadAnnotations, annotations-reads}
 use Rattle.paper.proofs.Widths.{marker-wide}
-use Rattle.paper.proofs.Concepts.{concept-reads, Opens, opening-reads, ReadPiece, piece-by, piece-reads, marker-name}
+use Rattle.paper.proofs.Concepts.{concept-reads, ReadOpening, opening-reads, ReadPiece, piece-by, piece-reads, marker-name}
 
 -- what a marker leaves is three bytes shorter than its line at least
-pub marker-shorter : (m : Modes) (by : Bounds) (deeper room : ℕ) (s : List ℕ) (o : Opened) (left : List ℕ) → Opens m by deeper room s o left
+pub marker-shorter : (m : Modes) (by : Bounds) (deeper room : ℕ) (s : List ℕ) (o : Opened) (left : List ℕ) → ReadOpening m by deeper room s o left
     → length left + 3 ≤ length s
 marker-shorter m by deeper room s o left p =
     omega (arith, ap length (p .covers), marker-wide (o .marker) (o .ends) left, rule-name isUpper (o .marker .name) (marker-name (o .marker) (p .rule)) .1)
@@ -62,7 +62,7 @@ mutual
   concept-fuel m by zero g deeper room tabs s h k = absurd (omega arith)
   concept-fuel m by (suc f) zero deeper room tabs s h k = absurd (omega arith)
   concept-fuel m by (suc f) (suc g) deeper room tabs s h k =
-      then-same s (λ o left. Opens m by deeper room s o left) (opening m by deeper room s) _ _ (opening-reads m by deeper room s)
+      then-same s (λ o left. ReadOpening m by deeper room s o left) (opening m by deeper room s) _ _ (opening-reads m by deeper room s)
       (λ o left t p.
       let l = marker-shorter m by deeper room s o left p in
       inside-alike m (childrenOf m by f) (childrenOf m by g) deeper room tabs o left
@@ -100,7 +100,7 @@ pub concept-of : (m : Modes) (by : Bounds) (deeper room tabs : ℕ) (s : List �
 unfolding concept
 concept-of m by deeper room tabs s =
     rw (add-one (length s))
-    (then-same s (λ o left. Opens m by deeper room s o left) (opening m by deeper room s) _ _ (opening-reads m by deeper room s)
+    (then-same s (λ o left. ReadOpening m by deeper room s o left) (opening m by deeper room s) _ _ (opening-reads m by deeper room s)
     (λ o left t p.
     let l = marker-shorter m by deeper room s o left p in
     inside-alike m (childrenOf m by (length s)) (blockOf m by) deeper room tabs o left

@@ -20,7 +20,7 @@ use Rattle.paper.proofs.Finds.{Reads}
 use Rattle.paper.proofs.Widths.{marker-wide}
 use Rattle.paper.proofs.Sizes.{traits-size}
 use Rattle.paper.proofs.Content.{ReadContent, content-reads}
-use Rattle.paper.proofs.Concepts.{Opens as Leads, opening-reads, ReadConcept, concept-reads}
+use Rattle.paper.proofs.Concepts.{ReadOpening, opening-reads, ReadConcept, concept-reads}
 use Rattle.modes.specs.Table.{modesOf}
 use Rattle.entries.specs.Laid.{lay, slotAfter, slotUnder}
 use Rattle.entries.specs.declared.Slot.{Slot}
@@ -146,7 +146,7 @@ module _ {table s : List ℕ} {at : ℕ} {cells : List ℕ} {slot : Slot} {deepe
   abbrev marked : Found Marked
   marked = opening m bounds deeper room (drop at s)
 
-  marker : FoundAt madeBy traitsIn (λ o left. Leads m bounds deeper room (drop at s) o left) s at marked end made own
+  marker : FoundAt madeBy traitsIn (λ o left. ReadOpening m bounds deeper room (drop at s) o left) s at marked end made own
   marker =
       found-at madeBy traitsIn s (partOf (known .answer)) _ at marked end made own (known .opens .makes .says) (opening-reads m bounds deeper room (drop at s))
       (known .stands .in-sheet .inside)

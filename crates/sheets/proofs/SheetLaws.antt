@@ -21,7 +21,7 @@ use Rattle.paper.specs.Entries.{noParent, entryCells, sheetSize, entries, fille
 use Rattle.paper.specs.Reading.{blankLines, isTab, tabsOnly, annotatedOf, lastBlanks, sheetTree, roomOf, sheetOf, Reading, reading, bounds}
 use Rattle.paper.proofs.Told.{number-positive}
 use Rattle.paper.proofs.Tests.{split}
-use Rattle.paper.proofs.Finds.{Finds, Reads as ReadsIn}
+use Rattle.paper.proofs.Finds.{Finds, Reads}
 use Rattle.paper.proofs.Lines.{ReadBlanks, blanks-reads, only-reads}
 use Rattle.paper.proofs.Concepts.{annotated-reads}
 use Rattle.paper.proofs.Sheets.{ReadSheet, sheet-reads}
@@ -40,7 +40,7 @@ use Rattle.lines.specs.declared.part.Part.the-variants.{Read, Refused}
 use Rattle.lines.proofs.Crossing.{seen-map, FoundAt, found-at, fault-at, refused-then, makes-passed, makes-read}
 use Rattle.lines.proofs.Lengths.{blanks-long}
 use Rattle.sheets.specs.Concepts.{Ready, annotatedSize, annotatedCount, annotatedEntries}
-use Rattle.sheets.specs.Sheets.{answerOf, Reads, rootCount, behindRoot}
+use Rattle.sheets.specs.Sheets.{answerOf, AnswersSheet, rootCount, behindRoot}
 
 -- ---- blank lines, by their place
 
@@ -231,7 +231,7 @@ finds-fits : (m : Modes) (room : ℕ) (s : List ℕ) → Finds (λ t left. lengt
 unfolding sheetOf
 finds-fits m room s = split (ltb sheetLimit (length s)) (λ e. rw (e, sheetOf) tt) (λ e. rw (e, sheetOf) (by-bytes (sheetBytes s)))
   where
-    by-tree : (x : Found Sheet) → ReadsIn s (λ t left. ReadSheet m bounds conceptLimit room s t left) x → Finds (λ t left. length (entries t) ≤ room) x
+    by-tree : (x : Found Sheet) → Reads s (λ t left. ReadSheet m bounds conceptLimit room s t left) x → Finds (λ t left. length (entries t) ≤ room) x
     by-tree (found t left) h = omega (arith, h .1 .fits, entries-size t)
     by-tree (fault n left) h = tt
 
@@ -243,10 +243,10 @@ module _ (m : Modes) (s cells : List ℕ) where
   abbrev sheet : Found Sheet
   sheet = sheetOf m (roomOf (length cells)) s
 
-  faulty : (answer : Told) (after : List ℕ) (n : ℕ) (left : List ℕ) → sheet ≡ fault n left → answer ≡ refused n (placeIn s left) → Reads s cells sheet answer after
+  faulty : (answer : Told) (after : List ℕ) (n : ℕ) (left : List ℕ) → sheet ≡ fault n left → answer ≡ refused n (placeIn s left) → AnswersSheet s cells sheet answer after
   faulty answer after n left f e = record { says = e ∙ ap (answerOf s) (sym f); laid = λ t end g. let z : _≡_ {A = ℕ} 0 1 = cc in absurd (omega arith) }
 
-  pub sheet-long : (after : List ℕ) → sheetLimit < length s → Reads s cells sheet (refused 2 sheetLimit) after
+  pub sheet-long : (after : List ℕ) → sheetLimit < length s → AnswersSheet s cells sheet (refused 2 sheetLimit) after
   unfolding sheetOf
   sheet-long after h =
       faulty (refused 2 sheetLimit) after 2 (drop sheetLimit s) (rw (lt-ltb sheetLimit (length s) h, sheetOf))
@@ -260,10 +260,10 @@ module _ (m : Modes) (s cells : List ℕ) where
     unfolding sheetOf
     by-bytes = rw (le-ltb sheetLimit (length s) h, sheetOf)
 
-    pub sheet-broken : (after : List ℕ) (place : ℕ) → Checked.Broken place ≡ checked s → Reads s cells sheet (refused 3 place) after
+    pub sheet-broken : (after : List ℕ) (place : ℕ) → Checked.Broken place ≡ checked s → AnswersSheet s cells sheet (refused 3 place) after
     sheet-broken after place = go (sheetBytes s) refl (bytes-only s)
       where
-        go : (x : Found (List ℕ)) → sheetBytes s ≡ x → Only 3 s x → Checked.Broken place ≡ checkedOf s x → Reads s cells sheet (refused 3 place) after
+        go : (x : Found (List ℕ)) → sheetBytes s ≡ x → Only 3 s x → Checked.Broken place ≡ checkedOf s x → AnswersSheet s cells sheet (refused 3 place) after
         go (found vs left) q o e = let z : _≡_ {A = ℕ} 0 1 = cc in absurd (omega arith)
         go (fault n left) q o e =
             let p : place ≡ placeIn s left = cc in
@@ -278,13 +278,13 @@ module _ (m : Modes) (s cells : List ℕ) where
           go (fault n left) e = let z : _≡_ {A = ℕ} 0 1 = cc in absurd (omega arith)
 
       module _ (r : Part) (after : List ℕ) (g : Makes sheetSize rootCount entries s cells 0 (tree m s cells) r after) where
-        pub sheet-refused : (why : Refusal) (place : ℕ) → r ≡ Refused why place → Reads s cells sheet (refused (numberOf why) place) after
+        pub sheet-refused : (why : Refusal) (place : ℕ) → r ≡ Refused why place → AnswersSheet s cells sheet (refused (numberOf why) place) after
         sheet-refused why place q =
             let f = fault-at sheetSize rootCount s r (tree m s cells) why place (g .says) q in
             faulty (refused (numberOf why) place) after (numberOf why) (f .left) (by-tree ∙ f .faults) (ap (refused (numberOf why)) (sym (f .there)))
 
         -- nothing is left behind a sheet: it ends at its length
-        pub sheet-read : (end made own : ℕ) → r ≡ Read end made own → Reads s cells sheet (accepted end made) after
+        pub sheet-read : (end made own : ℕ) → r ≡ Read end made own → AnswersSheet s cells sheet (accepted end made) after
         sheet-read end made own q =
             let t = found-at sheetSize rootCount s r (λ t left. ReadSheet m bounds conceptLimit (roomOf (length cells)) s t left) 0
             (tree m s cells) end made own (g .says) (sheet-reads m bounds conceptLimit (roomOf (length cells)) s) (omega arith) q in
@@ -314,7 +314,7 @@ module _ (table s cells : List ℕ) where
       go (found m left) f = absurd (number-positive why (number-told (rw (q, readTable, f) at e)))
       go (fault n left) f = rw (f, reading) (ap₂ answers (rw (readTable, f) at e) (z ∙ all-zero cells))
 
-  module _ (r : Answer) (mid : List ℕ) (count : ℕ) (g : Reads s cells (sheet (modesOf table) s cells) (told r) mid) (same : length mid ≡ length cells)
+  module _ (r : Answer) (mid : List ℕ) (count : ℕ) (g : AnswersSheet s cells (sheet (modesOf table) s cells) (told r) mid) (same : length mid ≡ length cells)
       (n : count ≡ told r .count) where
     pub count-fits : count * entryCells ≤ length mid
     count-fits = go (sheet (modesOf table) s cells) (finds-fits (modesOf table) (roomOf (length cells)) s) (g .says)

@@ -24,13 +24,13 @@ answerOf s (found t left) = accepted (length s) (length (entries t))
 answerOf s (fault n left) = refused n (placeIn s left)
 
 -- the answer, and the cells where the sheet is accepted; a refusal says nothing of them
-pub record Reads (s cells : List ℕ) (x : Found Sheet) (answer : Told) (after : List ℕ) : Type 0 where
+pub record AnswersSheet (s cells : List ℕ) (x : Found Sheet) (answer : Told) (after : List ℕ) : Type 0 where
   pub says : answer ≡ answerOf s x
   pub laid : (t : Sheet) (left : List ℕ) → x ≡ found t left → after ≡ lay cells 0 (entries t)
 
 -- a whole sheet, in the room that the cells have
 abbrev pub ReadsUnder : List ℕ → List ℕ → List ℕ → Told → List ℕ → Type 0
-ReadsUnder table s cells answer after = Reads s cells (sheetOf (modesOf table) (roomOf (length cells)) s) answer after
+ReadsUnder table s cells answer after = AnswersSheet s cells (sheetOf (modesOf table) (roomOf (length cells)) s) answer after
 
 -- the root and its annotations
 abbrev pub rootCount : Sheet → ℕ
