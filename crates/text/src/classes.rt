@@ -3,7 +3,8 @@
 ghost use mathlib.Core.Path.{_≡_};
 ghost use mathlib.Core.Bool.{true, _||_};
 ghost use Prim.Native.Nat.{_<_};
-ghost use Rattle.paper.specs.Bytes.{within, isUpper, isLower, isDigit, isLetter, isNameByte, isHex, isBlank, isLineEnd, isWhite, bytes, elem};
+ghost use Rattle.paper.specs.Bytes.{within, isUpper, isLower, isDigit, isLetter, isNameByte, isHex, isBlank, isLineEnd, isWhite};
+ghost use Rattle.paper.specs.Bytes.{bytes, elem};
 ghost use Rattle.paper.specs.Values.{hexDigit};
 
 // Whether the byte lies from `low` to `high`, both counted.
