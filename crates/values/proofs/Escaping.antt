@@ -1,8 +1,8 @@
 -- Escapes at a place: a law for each way out of their functions. Over plain lists. Assumes nothing.
 -- Document 01, "The grammar", Values: strings and characters.
 use Prim.Native.Nat.{ℕ, _+_, _-_, _≤_, _<_}
-use mathlib.Core.Path.{_≡_, sym, _∙_}
-use mathlib.Core.Bool.{true, false, _&&_}
+use mathlib.Core.Path.{_≡_, refl, sym, _∙_}
+use mathlib.Core.Bool.{Bool, true, false, _&&_}
 use mathlib.Core.List.{List, [], _∷_, _++_}
 use native.Mathlib.Nat.{add-sub-cancel-left}
 use native.Mathlib.Omega.{arith}
@@ -10,9 +10,10 @@ use lib.ListN.{length, getD, take, drop, length-take, length-drop, drop-of-lengt
 use lib.Seq.{drop-drop, length-take-le}
 use lib.Dec.{eqb}
 use borrow.Author.Tests.{ne-eqb}
-use Rattle.paper.specs.Found.{found, fault}
+use Rattle.paper.specs.declared.Refusal.the-variants.{Value}
+use Rattle.paper.specs.Found.{Found, fault, pick}
 use Rattle.paper.specs.Bytes.{byte, bytes, within, isHex, all, startsWith, lengthIn}
-use Rattle.paper.specs.Values.{escaped, four, braces, spellsScalar, pieceRule}
+use Rattle.paper.specs.Values.{Piece, escaped, four, braces, spellsScalar, pieceRule}
 use Rattle.paper.specs.ReadingValues.{judged, fourDigits, bracedDigits, escape}
 use Rattle.paper.proofs.Tests.{split, true-false, inside, below}
 use Rattle.paper.proofs.Lists.{starts-is}
@@ -20,7 +21,17 @@ use Rattle.paper.proofs.Pieces.{judged-keeps, judged-breaks, four-there, four-c
 use Rattle.paper.proofs.Pieces.{braced-cut, braced-closed, braced-not, escape-four, escape-braces, escape-letter}
 use Rattle.text.proofs.Places.{here}
 use Rattle.text.proofs.Stretch.{Stretch, front-at, behind-none, behind-some}
+use Rattle.values.specs.declared.judged.Judged.{Judged}
+use Rattle.values.specs.Shown.{Judges, noForm}
+use Rattle.values.proofs.Showing.{finds, no-value}
 use Rattle.values.proofs.Runs.{all-front}
+
+-- ---- an escape that is judged by its rule
+
+pub by-rule : (quote : ℕ) (s : List ℕ) (at end : ℕ) (p : Piece) (x : Found Piece) → at < end → end ≤ length s → x ≡ judged quote (drop at s) p (drop end s)
+    → (holds : Bool) → holds ≡ pieceRule quote p → (r : Judged) → r ≡ pick holds (Judged.Found 0 end) (Judged.Refused Value at) → Judges noForm s at x r
+by-rule quote s at end p x h k e true t r q = rw q (finds noForm s at x 0 end p h k refl (e ∙ judged-keeps quote (drop at s) p (drop end s) (sym t)))
+by-rule quote s at end p x h k e false t r q = no-value noForm s at x r at q (omega arith) (e ∙ judged-breaks quote (drop at s) p (drop end s) (sym t))
 
 -- ---- hex digits
 
@@ -38,19 +49,12 @@ module _ (quote : ℕ) (s : List ℕ) (at start stop : ℕ) (run : Stretch isHex
     four-other h = four-not quote (drop at s) (drop start s) _ _ (omega arith) (behind-some isHex s start stop run h)
 
   module _ (long : start + 4 ≤ stop) where
-    four-judged : fourDigits quote (drop at s) (drop start s) ≡ judged quote (drop at s) (four (take 4 (drop start s))) (drop (start + 4) s)
+    pub four-judged : fourDigits quote (drop at s) (drop start s) ≡ judged quote (drop at s) (four (take 4 (drop start s))) (drop (start + 4) s)
     four-judged = four-there quote (drop at s) (drop start s) (omega arith) ∙ rw drop-drop
 
-    four-rule : pieceRule quote (four (take 4 (drop start s))) ≡ spellsScalar (take (start + 4 - start) (drop start s))
+    pub four-rule : pieceRule quote (four (take 4 (drop start s))) ≡ spellsScalar (take (start + 4 - start) (drop start s))
     unfolding pieceRule
     four-rule = rw (length-take-le 4 (drop start s) (omega (arith, length-drop start s)), add-sub-cancel-left)
-
-    pub four-bad : spellsScalar (take (start + 4 - start) (drop start s)) ≡ false → fourDigits quote (drop at s) (drop start s) ≡ fault 6 (drop at s)
-    four-bad e = four-judged ∙ judged-breaks quote (drop at s) _ _ (four-rule ∙ e)
-
-    pub four-good : spellsScalar (take (start + 4 - start) (drop start s)) ≡ true
-        → fourDigits quote (drop at s) (drop start s) ≡ found (four (take 4 (drop start s))) (drop (start + 4) s)
-    four-good e = four-judged ∙ judged-keeps quote (drop at s) _ _ (four-rule ∙ e)
 
   -- one to six of them, and "}"
   pub braced-many : 6 < stop - start → bracedDigits quote (drop at s) (drop start s) ≡ fault 6 (drop at s)
@@ -66,7 +70,7 @@ module _ (quote : ℕ) (s : List ℕ) (at start stop : ℕ) (run : Stretch isHex
           (ne-eqb (getD s stop 0) (byte "}") e)
 
       module _ (e : getD s stop 0 ≡ byte "}") where
-        braced-judged : bracedDigits quote (drop at s) (drop start s) ≡ judged quote (drop at s) (braces (take (stop - start) (drop start s)))
+        pub braced-judged : bracedDigits quote (drop at s) (drop start s) ≡ judged quote (drop at s) (braces (take (stop - start) (drop start s)))
             (drop (stop + 1) s)
         braced-judged =
             braced-closed quote (drop at s) (drop start s) (drop (stop + 1) s) (omega arith) (behind-some isHex s start stop run h ∙ rw e)
@@ -81,15 +85,8 @@ module _ (quote : ℕ) (s : List ℕ) (at start stop : ℕ) (run : Stretch isHex
         braced-none q = braced-judged ∙ judged-breaks quote (drop at s) _ _ (braced-rule ∙ rw (below 1 6 (stop - start) (omega arith)))
 
         module _ (some : start < stop) where
-          braced-spells : pieceRule quote (braces (take (stop - start) (drop start s))) ≡ spellsScalar (take (stop - start) (drop start s))
+          pub braced-spells : pieceRule quote (braces (take (stop - start) (drop start s))) ≡ spellsScalar (take (stop - start) (drop start s))
           braced-spells = braced-rule ∙ rw (inside 1 6 (stop - start) (omega arith) few)
-
-          pub braced-bad : spellsScalar (take (stop - start) (drop start s)) ≡ false → bracedDigits quote (drop at s) (drop start s) ≡ fault 6 (drop at s)
-          braced-bad f = braced-judged ∙ judged-breaks quote (drop at s) _ _ (braced-spells ∙ f)
-
-          pub braced-good : spellsScalar (take (stop - start) (drop start s)) ≡ true
-              → bracedDigits quote (drop at s) (drop start s) ≡ found (braces (take (stop - start) (drop start s))) (drop (stop + 1) s)
-          braced-good f = braced-judged ∙ judged-keeps quote (drop at s) _ _ (braced-spells ∙ f)
 
 -- ---- behind a backslash
 
@@ -127,12 +124,5 @@ module _ (quote : ℕ) (s : List ℕ) (at : ℕ) (h : at < length s) (b : getD s
     no-u = split (eqb (getD s (at + 1) 0) (byte "u")) (λ e. true-false (rw (here s (at + 1) k, startsWith, e) at (sym (starts-behind (bytes "u")) ∙ f)))
         (λ e. e)
 
-    letter-judged : escape quote (drop at s) (drop (at + 1) s) ≡ judged quote (drop at s) (escaped (getD s (at + 1) 0)) (drop (at + 1 + 1) s)
+    pub letter-judged : escape quote (drop at s) (drop (at + 1) s) ≡ judged quote (drop at s) (escaped (getD s (at + 1) 0)) (drop (at + 1 + 1) s)
     letter-judged = rw (here s (at + 1) k) (escape-letter quote _ (getD s (at + 1) 0) (drop (at + 1 + 1) s) no-u)
-
-    pub letter-bad : pieceRule quote (escaped (getD s (at + 1) 0)) ≡ false → escape quote (drop at s) (drop (at + 1) s) ≡ fault 6 (drop at s)
-    letter-bad e = letter-judged ∙ judged-breaks quote (drop at s) _ _ e
-
-    pub letter-good : pieceRule quote (escaped (getD s (at + 1) 0)) ≡ true
-        → escape quote (drop at s) (drop (at + 1) s) ≡ found (escaped (getD s (at + 1) 0)) (drop (at + 1 + 1) s)
-    letter-good e = letter-judged ∙ judged-keeps quote (drop at s) _ _ e

@@ -2,6 +2,7 @@
 // Document 01, "The grammar", Values: strings and characters; an escape is refused at its backslash.
 use crate::judged;
 use crate::judged::Judged;
+use paper::Refusal;
 use paper::forms;
 use text::classes;
 use text::parts::starts_with;
@@ -11,6 +12,7 @@ ghost use mathlib.Core.Path.{_≡_};
 ghost use mathlib.Core.Bool.{true};
 ghost use Prim.Native.Nat.{ℕ, _+_, _≤_, _<_};
 ghost use lib.ListN.{length, getD};
+ghost use Rattle.paper.specs.Found.{pick};
 ghost use Rattle.paper.specs.Bytes.{byte, isHex, all};
 ghost use Rattle.paper.specs.Values.{escaped, hexValue, spellsScalar, pieceRule};
 ghost use Rattle.paper.specs.ReadingValues.{fourDigits, bracedDigits, escape};
@@ -34,13 +36,20 @@ pub fn escape_end(s: &[u8], at: usize, quote: u8) -> Judged
     if s.len() <= letter {
         return judged::cut(s);
     }
-    if !is_escaped(s[letter], quote) {
-        return judged::no_value(at);
+    escape_if(is_escaped(s[letter], quote), at, letter + 1)
+}
+
+// The escape from `at` to `end` where its rule holds; else no value, which its backslash shows.
+fn escape_if(holds: bool, at: usize, end: usize) -> Judged
+    ensures { λ r. ⌜ r ≡ pick holds (Judged.Found 0 end) (Judged.Refused Refusal.Value at) ⌝ }
+{
+    if holds {
+        return Judged::Found {
+            form: forms::NONE,
+            end,
+        };
     }
-    Judged::Found {
-        form: forms::NONE,
-        end: letter + 1,
-    }
+    judged::no_value(at)
 }
 
 // Whether a backslash and the byte are an escape between two of this quote.
@@ -66,13 +75,7 @@ fn braced_end(s: &[u8], at: usize) -> Judged
     if s[end] != b'}' || end == start {
         return judged::no_value(at);
     }
-    if !spells_scalar(&s[start..end]) {
-        return judged::no_value(at);
-    }
-    Judged::Found {
-        form: forms::NONE,
-        end: end + 1,
-    }
+    escape_if(spells_scalar(&s[start..end]), at, end + 1)
 }
 
 // Reads the escape whose `\u` stands at `at`: four hex digits.
@@ -89,13 +92,7 @@ fn four_end(s: &[u8], at: usize) -> Judged
         }
         return judged::no_value(at);
     }
-    if !spells_scalar(&s[start..end]) {
-        return judged::no_value(at);
-    }
-    Judged::Found {
-        form: forms::NONE,
-        end,
-    }
+    escape_if(spells_scalar(&s[start..end]), at, end)
 }
 
 // Whether the hex digits spell a scalar value.

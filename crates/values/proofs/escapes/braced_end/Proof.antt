@@ -1,12 +1,12 @@
 -- A law for each way out; where the run of hex digits ends, "}" is due.
 use borrow.Author.Needs.{needs}
 use Prim.Native.Nat.{_+_, _-_}
-use mathlib.Core.Path.{refl, sym, _∙_}
+use mathlib.Core.Path.{sym, _∙_}
 use mathlib.Core.Logic.{⊎-elim}
 use native.Mathlib.Omega.{arith}
-use borrow.Author.Tests.{eqb-true, eqb-false, not-true, not-false}
-use Rattle.values.proofs.Showing.{finds, no-value, cut-off}
-use Rattle.values.proofs.Escaping.{few-digits, braced-many, braced-ends, braced-other, braced-none, braced-bad, braced-good}
+use borrow.Author.Tests.{eqb-true, eqb-false}
+use Rattle.values.proofs.Showing.{no-value, cut-off}
+use Rattle.values.proofs.Escaping.{by-rule, few-digits, braced-many, braced-ends, braced-other, braced-none, braced-judged, braced-spells}
 use Rattle.values.proofs.escapes.braced_end.Statement.{statement}
 use Rattle.values.proofs.escapes.braced_end.Tie as tie
 
@@ -71,32 +71,23 @@ spells-scalar-requires c κs =
     let start = at-end .before .before in
     few-digits _ (at-end .end .result - (start .args .at + 3)) (omega arith) (omega arith)
 
-no-value-requires-3 : tie.Need-no-value-requires-3
-no-value-requires-3 c κs = search needs
+add-escape-if : tie.Need-add-escape-if
+add-escape-if c = search needs
+
+escape-if-requires : tie.Need-escape-if-requires
+escape-if-requires c κs = search needs
 
 returns-4 : tie.Need-returns-4
 returns-4 c =
-    let at-spells-scalar = c .before .before in
-    let at-if3 = at-spells-scalar .before .before .before in
-    let at-if1 = at-if3 .before .before .before in
-    let at-end = at-if1 .before in
-    let start = at-end .before .before in
-    λ quote. no-value _ _ _ _ _ _ (c .no-value3 .ensures) (omega arith)
-    (braced-bad quote _ (start .args .at) _ _ (at-end .end .ensures) (at-if1 .if1 .left) (omega arith) (at-if3 .if3 .left) (omega (arith, eqb-false))
-    (sym (at-spells-scalar .spells-scalar .ensures) ∙ not-true _ (c .before .if5 .taken)))
-
-add-t6 : tie.Need-add-t6
-add-t6 c = search needs
-
-returns-5 : tie.Need-returns-5
-returns-5 c =
     let at-if3 = c .before .before .before .before in
     let at-if1 = at-if3 .before .before .before in
     let at-end = at-if1 .before in
     let start = at-end .before .before in
-    λ quote. finds _ _ _ _ _ _ _ (omega arith) (omega arith) refl
-    (braced-good quote _ (start .args .at) _ _ (at-end .end .ensures) (at-if1 .if1 .left) (omega arith) (at-if3 .if3 .left) (omega (arith, eqb-false))
-    (sym (c .before .spells-scalar .ensures) ∙ not-false _ (c .if5 .left)))
+    λ quote. by-rule quote _ _ _ _ _ (omega arith) (omega arith)
+    (braced-judged quote _ (start .args .at) _ _ (at-end .end .ensures) (at-if1 .if1 .left) (omega arith) (at-if3 .if3 .left)) _
+    (c .before .spells-scalar .ensures
+    ∙ sym (braced-spells quote _ (start .args .at) _ _ (at-end .end .ensures) (at-if1 .if1 .left) (omega arith) (at-if3 .if3 .left) (omega (arith, eqb-false))))
+    _ (c .escape-if .ensures)
 
 pub braced-end-spec : {M : Type 1} → statement M
 braced-end-spec =
@@ -116,7 +107,6 @@ braced-end-spec =
     part-spells-scalar-start
     part-spells-scalar-end
     spells-scalar-requires
-    no-value-requires-3
-    returns-4
-    add-t6
-    returns-5)
+    add-escape-if
+    escape-if-requires
+    returns-4)

@@ -1,12 +1,11 @@
 -- A law for each way out; the fixed bytes say which kind of escape it is.
 use borrow.Author.Needs.{needs}
-use mathlib.Core.Path.{refl, sym, _∙_}
+use mathlib.Core.Path.{sym, _∙_}
 use native.Mathlib.Omega.{arith}
-use borrow.Author.Tests.{not-true, not-false}
 use Rattle.paper.specs.Bytes.{bytes}
-use Rattle.values.proofs.Showing.{finds, no-value, cut-off}
+use Rattle.values.proofs.Showing.{cut-off}
 use Rattle.text.proofs.Compared.{stands-inside}
-use Rattle.values.proofs.Escaping.{braced-there, four-instead, escape-ends, letter-bad, letter-good}
+use Rattle.values.proofs.Escaping.{by-rule, braced-there, four-instead, escape-ends, letter-judged}
 use Rattle.values.proofs.escapes.escape_end.Statement.{statement}
 use Rattle.values.proofs.escapes.escape_end.Tie as tie
 
@@ -64,32 +63,22 @@ shared-slice-read-is-escaped c = search needs
 is-escaped-requires : tie.Need-is-escaped-requires
 is-escaped-requires c κs = search needs
 
-no-value-requires : tie.Need-no-value-requires
-no-value-requires c κs = search needs
+add-escape-if : tie.Need-add-escape-if
+add-escape-if c = search needs
+
+escape-if-requires : tie.Need-escape-if-requires
+escape-if-requires c κs = search needs
 
 returns-4 : tie.Need-returns-4
 returns-4 c =
-    let at-is-escaped = c .before .before in
+    let at-is-escaped = c .before in
     let at-if3 = at-is-escaped .before .before in
     let at-if2 = at-if3 .before in
     let at-starts-with2 = at-if2 .before in
     let start = at-starts-with2 .before .before .before .before .before .before in
-    no-value _ _ _ _ _ _ (c .no-value .ensures) (omega (arith, start .pre .0))
-    (letter-bad _ _ _ (start .pre .0) (start .pre .1) (at-if3 .if3 .left) (sym (at-starts-with2 .starts-with2 .ensures) ∙ at-if2 .if2 .left)
-    (sym (at-is-escaped .is-escaped .ensures) ∙ not-true _ (c .before .if4 .taken)))
-
-add-t13 : tie.Need-add-t13
-add-t13 c = search needs
-
-returns-5 : tie.Need-returns-5
-returns-5 c =
-    let at-if3 = c .before .before .before in
-    let at-if2 = at-if3 .before in
-    let at-starts-with2 = at-if2 .before in
-    let start = at-starts-with2 .before .before .before .before .before .before in
-    finds _ _ _ _ _ _ _ (omega arith) (omega arith) refl
-    (letter-good _ _ _ (start .pre .0) (start .pre .1) (at-if3 .if3 .left) (sym (at-starts-with2 .starts-with2 .ensures) ∙ at-if2 .if2 .left)
-    (sym (c .before .is-escaped .ensures) ∙ not-false _ (c .if4 .left)))
+    by-rule _ _ _ _ _ _ (omega arith) (omega arith)
+    (letter-judged _ _ _ (start .pre .0) (start .pre .1) (at-if3 .if3 .left) (sym (at-starts-with2 .starts-with2 .ensures) ∙ at-if2 .if2 .left)) _
+    (at-is-escaped .is-escaped .ensures) _ (c .escape-if .ensures)
 
 pub escape-end-spec : {M : Type 1} → statement M
 escape-end-spec =
@@ -108,7 +97,6 @@ escape-end-spec =
     returns-3
     shared-slice-read-is-escaped
     is-escaped-requires
-    no-value-requires
-    returns-4
-    add-t13
-    returns-5)
+    add-escape-if
+    escape-if-requires
+    returns-4)
