@@ -106,32 +106,28 @@ module _ (form₀ form w out : List ℕ) (end lent : ℕ) (e : page form₀ 0 w 
   abbrev Written : Answer → List ℕ → Type 0
   Written r after = record { answer = told r; out = after; cells = replicate lent 0 } ≡ writeForm lent out w
 
-  unwritten : min (length out) sheetLimit < length w → Written (Refused NoRoom 0) out
-  unwritten h = sym (form-not lent out w h)
+  -- where it fits, the page holds it
+  laid : end ≤ sheetLimit → (form ≡ sets form₀ 0 w) × (end ≡ 0 + length w)
+  laid h = page-done form₀ form w 0 end e (page-room form₀ form w 0 end e l (omega arith)) l
 
-  pub too-long : sheetLimit < end → Written (Refused NoRoom 0) out
-  too-long h = unwritten (omega (arith, page-short form₀ form w 0 end e l (omega arith)))
+  too-long : min (length out) sheetLimit < end → min (length out) sheetLimit < length w
+  too-long h =
+      split (leb end sheetLimit) (λ k. omega (arith, laid (leb-true end sheetLimit k) .1))
+      (λ k. omega (arith, page-short form₀ form w 0 end e l (omega (arith, leb-false end sheetLimit k))))
 
-  module _ (h : end ≤ sheetLimit) where
-    laid : (form ≡ sets form₀ 0 w) × (end ≡ 0 + length w)
-    laid = page-done form₀ form w 0 end e (page-room form₀ form w 0 end e l (omega arith)) l
+  pub no-space : min (length out) sheetLimit < end → Written (Refused NoRoom 0) out
+  no-space h = sym (form-not lent out w (too-long h))
 
-    pub no-space : length out < end → Written (Refused NoRoom 0) out
-    no-space k = unwritten (omega (arith, laid .1))
-
-    is-form : take end form ≡ w
-    is-form =
-        let size : end ≡ length w = omega (arith, laid .1) in
-        ap (λ (n : ℕ). take n form) size ∙ page-front form₀ form w (omega arith) (laid .0)
-
-    pub form-written : end ≤ length out → (after : List ℕ) (to : ℕ) → Puts out 0 (λ next. take end form ++ next) after to → length after ≡ length out
-        → Written (Accepted 0 end) after
-    form-written k after to p same =
-        let fits : length w ≤ min (length out) sheetLimit = omega (arith, laid .1) in
-        let room : 0 + length w ≤ length out = omega arith in
-        let put : page out 0 w ≡ page after to [] = ap (page out 0) (sym (append-nil w) ∙ ap (λ (v : List ℕ). v ++ []) (sym is-form)) ∙ p .same [] in
-        let stored : after ≡ w ++ drop (0 + length w) out = page-done out after w 0 to put room same .0 ∙ sets-eq w out 0 room in
-        written-is lent out after w end (laid .1) stored fits
+  pub form-written : end ≤ min (length out) sheetLimit → (after : List ℕ) (to : ℕ) → Puts out 0 (λ next. take end form ++ next) after to
+      → length after ≡ length out → Written (Accepted 0 end) after
+  form-written k after to p same =
+      let there = laid (omega arith) in
+      let size : end ≡ length w = omega (arith, there .1) in
+      let is-form : take end form ≡ w = ap (λ (n : ℕ). take n form) size ∙ page-front form₀ form w (omega arith) (there .0) in
+      let room : 0 + length w ≤ length out = omega arith in
+      let put : page out 0 w ≡ page after to [] = ap (page out 0) (sym (append-nil w) ∙ ap (λ (v : List ℕ). v ++ []) (sym is-form)) ∙ p .same [] in
+      let stored : after ≡ w ++ drop (0 + length w) out = page-done out after w 0 to put room same .0 ∙ sets-eq w out 0 room in
+      written-is lent out after w end (there .1) stored (omega arith)
 
 -- ---- writing
 

@@ -9,8 +9,10 @@ use quoting::page::put;
 use sheets::read_under;
 use text::utf8::Cursor;
 ghost use mathlib.Core.Path.{_≡_};
+ghost use Prim.Native.Nat.{min};
 ghost use lib.ListN.{length};
 ghost use Rattle.paper.specs.Answer.{told};
+ghost use Rattle.paper.specs.Limits.{sheetLimit};
 ghost use Rattle.layout.specs.Promises.{WritesSheet, FormWritten};
 
 // Writes the canonical form of a sheet that reads without refusal. The cells are lent to the reading, and zero after every answer.
@@ -42,16 +44,24 @@ pub fn write_form(sheet: &[u8], cells: &[u32], out: &mut [u8]) -> Answer
 {
     let mut form = [0; Cursor::LIMIT];
     let end = put_sheet(&mut form, sheet, cells);
-    if Cursor::LIMIT < end {
-        return no_room();
-    }
-    if out.len() < end {
+    if room(out.len()) < end {
         return no_room();
     }
     put(out, 0, &form[..end]);
     Answer::Accepted {
         place: 0,
         count: end,
+    }
+}
+
+// The longest form that is written where so many bytes are lent.
+fn room(lent: usize) -> usize
+    ensures { λ r. ⌜ r ≡ min lent sheetLimit ⌝ }
+{
+    if lent < Cursor::LIMIT {
+        lent
+    } else {
+        Cursor::LIMIT
     }
 }
 
