@@ -1,0 +1,15 @@
+-- The promise of this crate's public function has one answer only: document 01, "One answer only".
+-- The promise is the one that the contract cites. Assumes nothing.
+use Prim.Native.Nat.{ℕ}
+use mathlib.Core.Path.{_≡_, sym, ap, _∙_}
+use mathlib.Core.List.{List}
+use Rattle.paper.specs.Writing.{Writing}
+use Rattle.paper.specs.declared.Answer.{Answer}
+use Rattle.paper.proofs.Told.{told-injective}
+use Rattle.rolls.specs.Promises.{AddsSheet}
+
+pub one-answer-rolls-add : (table sheet roll : List ℕ) (n lent : ℕ) (r r′ : Answer) (after after′ cells cells′ : List ℕ)
+    → AddsSheet table sheet roll n lent r after cells → AddsSheet table sheet roll n lent r′ after′ cells′ → (r ≡ r′) × (after ≡ after′) × (cells ≡ cells′)
+one-answer-rolls-add table sheet roll n lent r r′ after after′ cells cells′ e e′ =
+    let q = e ∙ sym e′ in
+    (told-injective r r′ (ap (λ (x : Writing). x .answer) q), ap (λ (x : Writing). x .out) q, ap (λ (x : Writing). x .cells) q)

@@ -1,0 +1,3 @@
+-- What the functions of this crate leave, over the definitions of the paper.
+pub mod Adding
+pub mod Promises

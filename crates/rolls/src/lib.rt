@@ -1,0 +1,33 @@
+// Rolls: a sheet added to one.
+// Document 01, "Rolls", and the answers of "Order".
+mod adding;
+
+use adding::add_sheet;
+use entries::CELLS;
+use entries::zero_from;
+use paper::Answer;
+use sheets::read_under;
+ghost use lib.ListN.{length};
+ghost use Rattle.rolls.specs.Promises.{AddsSheet};
+
+// Adds the canonical form of a sheet that reads without refusal, and one further LF, behind the first n bytes of the roll. The cells are
+// lent to the reading, and zero after every answer. A refusal leaves the roll as it came.
+pub fn add(table: &[u8], sheet: &[u8], roll: &mut [u8], n: usize, cells: &mut [u32]) -> Answer
+    ensures { λ r. ⌜ AddsSheet (now (table .entry)) (now (sheet .entry)) (now (roll .entry)) n (length (now (cells .entry))) r
+        (now (roll .exit)) (now (cells .exit)) ⌝ }
+{
+    let modes = modes::read(table);
+    let Answer::Accepted { place: _, count: _ } = modes else {
+        zero_from(cells, 0);
+        return modes;
+    };
+    let reading = read_under(table, sheet, cells);
+    let Answer::Accepted { place: _, count } = reading else {
+        zero_from(cells, 0);
+        return reading;
+    };
+    let end = count * CELLS;
+    let answer = add_sheet(sheet, &cells[..end], roll, n);
+    zero_from(cells, 0);
+    answer
+}
