@@ -168,6 +168,12 @@ laid-front cells mid es count many fits e =
     ap (take (count * entryCells)) e ∙ ap (λ (n : ℕ). take n (sets cells 0 (allCells es))) size
     ∙ page-front cells (sets cells 0 (allCells es)) (allCells es) (omega (arith, cells-length es)) refl
 
+-- the tree that a sheet reads to, where so many cells are lent and these hold its entries
+pub record Read (table s : List ℕ) (lent : ℕ) (held : List ℕ) : Type 0 where
+  pub it : Sheet
+  pub begins : begin table s lent ≡ tree it
+  pub of : OfSheet s held it
+
 module _ (table s cells mid out : List ℕ) (r : Answer) (place count : ℕ) (valid : Valid table)
     (g : AnswersSheet s cells (sheetOf (modesOf table) (roomOf (length cells)) s) (told r) mid) (same : length mid ≡ length cells)
     (is : r ≡ Accepted place count) where
@@ -175,18 +181,12 @@ module _ (table s cells mid out : List ℕ) (r : Answer) (place count : ℕ) (va
   pub cells-inside : count * entryCells ≤ length mid
   cells-inside = count-fits table s cells r mid count g same (sym (ap (λ (x : Told). x .count) (ap told is)))
 
-  -- the tree that the sheet reads to
-  pub record Read : Type 0 where
-    pub it : Sheet
-    pub begins : begin table s (length cells) ≡ tree it
-    pub of : OfSheet s (take (count * entryCells) mid) it
-
-  pub tree-read : Read
+  pub tree-read : Read table s (length cells) (take (count * entryCells) mid)
   unfolding withinLimits
   tree-read = go (sheetOf (modesOf table) (roomOf (length cells)) s) refl (sheet-answers (modesOf table) (roomOf (length cells)) s) (g .says)
     where
       go : (x : Found Sheet) → sheetOf (modesOf table) (roomOf (length cells)) s ≡ x → Answers (modesOf table) (roomOf (length cells)) s x → told r
-          ≡ answerOf s x → Read
+          ≡ answerOf s x → Read table s (length cells) (take (count * entryCells) mid)
       go (fault n left) e h q = absurd (omega (arith, h .least, sym (ap (λ (x : Told). x .number) (sym (ap told is) ∙ q))))
       go (found t left) e h q =
           let a = h .1 in

@@ -2,15 +2,14 @@
 -- Document 01, "Rolls", and refusals 12, 14 and 16. Assumes nothing.
 use Prim.Native.Nat.{ℕ, suc, _+_, _-_, _≤_, _<_, min}
 use mathlib.Core.Path.{_≡_, sym, ap, ap₂, _∙_}
-use mathlib.Core.Bool.{Bool, true, false}
+use mathlib.Core.Bool.{true, false}
 use mathlib.Core.List.{List, [], _∷_, _++_, append-nil, append-assoc}
 use native.Mathlib.Nat.{zero-add}
 use native.Mathlib.Omega.{arith}
-use lib.ListN.{length, take, drop, getD, set, replicate, length-append, take-append-drop, length-drop}
+use lib.ListN.{length, take, drop, getD, set, replicate, length-append, take-append-drop}
 use lib.Seq.{length-take-le, drop-drop, drop-append-le, drop-cons, set-at}
-use lib.Dec.{leb}
 use borrow.Rule.Slice.PartMut.{midOf, putMid, put-same, mid-len}
-use borrow.Author.Tests.{le-leb, lt-leb, leb-true}
+use borrow.Author.Tests.{le-leb, lt-leb}
 use Rattle.paper.specs.declared.Answer.{Answer}
 use Rattle.paper.specs.declared.Answer.the-variants.{Accepted, Refused}
 use Rattle.paper.specs.declared.Refusal.{Refusal}
@@ -22,15 +21,15 @@ use Rattle.paper.specs.Limits.{sheetLimit}
 use Rattle.paper.specs.Entries.{Entry, allCells, noParent, unnamed, annotationEntries, conceptEntry, insideEntries, rootStart, entries}
 use Rattle.paper.specs.Canonical.{canonical}
 use Rattle.paper.specs.Reading.{Reading}
-use Rattle.paper.specs.Writing.{Begun, tree, begin, Writing, notWritten, writtenAt, writeForm}
+use Rattle.paper.specs.Writing.{Writing, notWritten, writtenAt, writeForm}
 use Rattle.paper.specs.Roll.{rollLimit, addFits, endsInLine, addForm, addTree, adding}
-use Rattle.paper.proofs.Tests.{split, upTo}
+use Rattle.paper.proofs.Tests.{upTo}
 use Rattle.paper.proofs.Lists.{byFront}
 use Rattle.paper.proofs.Told.{number-positive}
 use Rattle.entries.specs.Laid.{entryAt}
 use Rattle.entries.proofs.Getting.{at-drop}
 use Rattle.printing.specs.Walking.{OfSheet}
-use Rattle.layout.proofs.WriteLaws.{form-fits, form-not, Passed}
+use Rattle.layout.proofs.WriteLaws.{form-fits, form-not, Passed, Read}
 use Rattle.rolls.specs.Adding.{unended, SheetAdded}
 
 -- ---- the first entry: an annotation's, or the root Concept's
@@ -234,8 +233,8 @@ unfolding adding
 refused-added table s roll n lent answer after p =
     rw (p .begins, adding) (ap (λ (x : Reading). record { answer = x .answer; out = roll; cells = x .cells }) (p .is))
 
-pub sheet-added : (table s roll held after cells : List ℕ) (n lent : ℕ) (t : Sheet) (answer : Told) → begin table s lent ≡ tree t → OfSheet s held t
+pub sheet-added : (table s roll held after cells : List ℕ) (n lent : ℕ) (answer : Told) → Read table s lent held
     → SheetAdded s held roll n answer after → cells ≡ replicate lent 0
     → record { answer = answer; out = after; cells = cells } ≡ adding table s roll n lent
 unfolding adding
-sheet-added table s roll held after cells n lent t answer b of f z = rw (b, adding, z) (f t lent of)
+sheet-added table s roll held after cells n lent answer read f z = rw (read .begins, adding, z) (f (read .it) lent (read .of))

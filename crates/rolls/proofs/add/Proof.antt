@@ -1,16 +1,51 @@
 -- A refused table or sheet is passed through; else what adding the sheet leaves, and zeros in all cells. Assumes nothing.
 use borrow.Author.Needs.{needs}
-use Prim.Native.Nat.{ℕ}
+use Prim.Native.Nat.{ℕ, _*_, _≤_}
 use mathlib.Core.Path.{sym, ap, _∙_}
+use mathlib.Core.List.{List}
 use native.Mathlib.Omega.{arith}
-use lib.ListN.{replicate}
+use lib.ListN.{length, take, replicate}
 use lib.Seq.{length-take-le}
+use Rattle.paper.specs.Entries.{entryCells}
 use Rattle.modes.proofs.Tables.{accepted-valid}
 use Rattle.sheets.proofs.SheetLaws.{all-zero, table-refused, sheet-done}
-use Rattle.layout.proofs.WriteLaws.{refused-passed, none-counted, cells-inside, tree-read}
+use Rattle.layout.proofs.WriteLaws.{refused-passed, none-counted, cells-inside, Read, tree-read}
 use Rattle.rolls.proofs.AddLaws.{refused-added, sheet-added}
 use Rattle.rolls.proofs.add.Statement.{statement}
 use Rattle.rolls.proofs.add.Tie as tie
+
+-- the cells of the entries, which are part of those that are lent
+abbrev mid : tie.After-known-told → List ℕ
+mid c = c .before .before .before .before .before .read-under .last .1 .1 .0
+
+abbrev size : tie.After-known-told → ℕ
+size c = c .before .reading .given .0 .1 .0 * entryCells
+
+abbrev top : tie.After-known-told → tie.Start
+top c = c .before .before .before .before .before .before .before .before .before .before .before .before .before .before
+
+inside : (c : tie.After-known-told) → size c ≤ length (mid c)
+inside c =
+    let at-read-under = c .before .before .before .before .before in
+    let at-enum-told = at-read-under .before .before in
+    let at-read = at-enum-told .before .before in
+    let top = at-read .before .before .before .before .before in
+    cells-inside (top .args .table .now) (top .args .sheet .now) (top .args .cells .now) (at-read-under .read-under .last .1 .1 .0)
+    (top .args .roll .now) (at-read-under .read-under .result) _ _
+    (accepted-valid _ _ _ _ (at-read .read .ensures) (at-enum-told .enum-told .given .1)) (at-read-under .read-under .ensures)
+    (at-read-under .read-under .kept .1 .1 .0) (c .before .reading .given .1)
+
+-- the tree that the sheet reads to
+read : (c : tie.After-known-told) → Read (top c .args .table .now) (top c .args .sheet .now) (length (top c .args .cells .now)) (take (size c) (mid c))
+read c =
+    let at-read-under = c .before .before .before .before .before in
+    let at-enum-told = at-read-under .before .before in
+    let at-read = at-enum-told .before .before in
+    let top = at-read .before .before .before .before .before in
+    tree-read (top .args .table .now) (top .args .sheet .now) (top .args .cells .now) (at-read-under .read-under .last .1 .1 .0)
+    (top .args .roll .now) (at-read-under .read-under .result) _ _
+    (accepted-valid _ _ _ _ (at-read .read .ensures) (at-enum-told .enum-told .given .1)) (at-read-under .read-under .ensures)
+    (at-read-under .read-under .kept .1 .1 .0) (c .before .reading .given .1)
 
 read-requires : tie.Need-read-requires
 read-requires c κs = search needs
@@ -68,54 +103,18 @@ returns-2 c =
     (accepted-valid _ _ _ _ (at-read .read .ensures) (at-enum-told .enum-told .given .1)) (at-zero-from2 .zero-from2 .ensures)))
 
 mul-end : tie.Need-mul-end
-mul-end c =
-    let at-reading = c .before in
-    let at-read-under = at-reading .before .before .before .before in
-    let at-enum-told = at-read-under .before .before in
-    let at-read = at-enum-told .before .before in
-    let top = at-read .before .before .before .before .before in
-    omega (
-      arith,
-      cells-inside (top .args .table .now) (top .args .sheet .now) (top .args .cells .now) _ (top .args .roll .now)
-          (at-read-under .read-under .result) _ _ (accepted-valid _ _ _ _ (at-read .read .ensures) (at-enum-told .enum-told .given .1))
-          (at-read-under .read-under .ensures) (at-read-under .read-under .kept .1 .1 .0) (at-reading .reading .given .1),
-    )
+mul-end c = omega (arith, inside c)
 
 slice-reshare-prefix-add-sheet : tie.Need-slice-reshare-prefix-add-sheet
-slice-reshare-prefix-add-sheet c =
-    let at-reading = c .before in
-    let at-read-under = at-reading .before .before .before .before in
-    let at-enum-told = at-read-under .before .before in
-    let at-read = at-enum-told .before .before in
-    let top = at-read .before .before .before .before .before in
-    cells-inside (top .args .table .now) (top .args .sheet .now) (top .args .cells .now) _ (top .args .roll .now) (at-read-under .read-under .result) _
-    _ (accepted-valid _ _ _ _ (at-read .read .ensures) (at-enum-told .enum-told .given .1)) (at-read-under .read-under .ensures)
-    (at-read-under .read-under .kept .1 .1 .0) (at-reading .reading .given .1)
+slice-reshare-prefix-add-sheet c = inside c
 
 slice-aggregate-add-sheet : tie.Need-slice-aggregate-add-sheet
-slice-aggregate-add-sheet c =
-    let at-reading = c .before .before in
-    let at-read-under = at-reading .before .before .before .before in
-    let at-enum-told = at-read-under .before .before in
-    let at-read = at-enum-told .before .before in
-    let top = at-read .before .before .before .before .before in
-    sym (length-take-le _ _
-    (cells-inside (top .args .table .now) (top .args .sheet .now) (top .args .cells .now) _ (top .args .roll .now)
-    (at-read-under .read-under .result) _ _ (accepted-valid _ _ _ _ (at-read .read .ensures) (at-enum-told .enum-told .given .1))
-    (at-read-under .read-under .ensures) (at-read-under .read-under .kept .1 .1 .0) (at-reading .reading .given .1)))
+slice-aggregate-add-sheet c = sym (length-take-le _ _ (inside (c .before)))
 
 add-sheet-requires : tie.Need-add-sheet-requires
 add-sheet-requires c κs =
-    let at-reading = c .before .before .before in
-    let at-read-under = at-reading .before .before .before .before in
-    let at-enum-told = at-read-under .before .before in
-    let at-read = at-enum-told .before .before in
-    let top = at-read .before .before .before .before .before in
-    let read = tree-read (top .args .table .now) (top .args .sheet .now) (top .args .cells .now) (at-read-under .read-under .last .1 .1 .0)
-    (top .args .roll .now) (at-read-under .read-under .result) _ _
-    (accepted-valid _ _ _ _ (at-read .read .ensures) (at-enum-told .enum-told .given .1)) (at-read-under .read-under .ensures)
-    (at-read-under .read-under .kept .1 .1 .0) (at-reading .reading .given .1) in
-    record { it = read .it; of = read .of }
+    let r = read (c .before .before) in
+    record { it = r .it; of = r .of }
 
 zero-from-requires-3 : tie.Need-zero-from-requires-3
 zero-from-requires-3 c κs = search needs
@@ -130,19 +129,11 @@ returns-3 : tie.Need-returns-3
 returns-3 c =
     let at-zero-from3 = c .before .before in
     let at-add-sheet = at-zero-from3 .before .before .before .before in
-    let at-reading = at-add-sheet .before .before .before .before in
-    let at-read-under = at-reading .before .before .before .before in
-    let at-enum-told = at-read-under .before .before in
-    let at-read = at-enum-told .before .before in
-    let top = at-read .before .before .before .before .before in
-    let read = tree-read (top .args .table .now) (top .args .sheet .now) (top .args .cells .now) (at-read-under .read-under .last .1 .1 .0)
-    (top .args .roll .now) (at-read-under .read-under .result) _ _
-    (accepted-valid _ _ _ _ (at-read .read .ensures) (at-enum-told .enum-told .given .1)) (at-read-under .read-under .ensures)
-    (at-read-under .read-under .kept .1 .1 .0) (at-reading .reading .given .1) in
-    sheet-added (top .args .table .now) (top .args .sheet .now) (top .args .roll .now) _ _ _ (top .args .n) _ (read .it) _ (read .begins) (read .of)
+    let told = at-add-sheet .before .before .before in
+    let at-read-under = told .before .before .before .before .before in
+    sheet-added (top told .args .table .now) (top told .args .sheet .now) (top told .args .roll .now) _ _ _ (top told .args .n) _ _ (read told)
     (at-add-sheet .add-sheet .ensures)
-    (at-zero-from3 .zero-from3 .ensures ∙ all-zero (at-read-under .read-under .last .1 .1 .0) ∙ ap (λ (n : ℕ). replicate n 0)
-    (at-read-under .read-under .kept .1 .1 .0))
+    (at-zero-from3 .zero-from3 .ensures ∙ all-zero (mid told) ∙ ap (λ (n : ℕ). replicate n 0) (at-read-under .read-under .kept .1 .1 .0))
 
 pub add-spec : {M : Type 1} → statement M
 add-spec =

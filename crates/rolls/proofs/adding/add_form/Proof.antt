@@ -1,4 +1,5 @@
 -- The room behind the first n bytes, the line end before them, and what the writer leaves of the part that it is lent. Assumes nothing.
+use Prim.Native.Nat.{_+_, _<_}
 use mathlib.Core.Path.{sym, _∙_}
 use native.Mathlib.Nat.{lt-of-lt-of-le, le-of-eq}
 use native.Mathlib.Omega.{arith}
@@ -9,6 +10,20 @@ use Rattle.rolls.proofs.AddLaws.{add-long, add-refused, form-inside, fo
 use borrow.Author.Needs.{needs}
 use Rattle.rolls.proofs.adding.add_form.Statement.{statement}
 use Rattle.rolls.proofs.adding.add_form.Tie as tie
+
+-- there is room for the further LF
+inside : (c : tie.After-known-told)
+    → c .before .before .before .before .before .before .before .before .before .before .before .before .before .before .before .args .n
+    + c .before .written .given .0 .1 .0
+    < length (c .before .before .before .before .before .before .before .before .before .before .before .before .before .before .before .args .roll .now)
+inside c =
+    let at-write-form = c .before .before .before .before .before in
+    let at-if1 = at-write-form .before .before .before .before .before in
+    let at-room = at-if1 .before in
+    let top = at-room .before .before .before .before in
+    form-inside (top .args .roll .now) (canonical (top .pre .it)) _ (top .args .n) (at-room .room-behind .result) (at-write-form .write-form .result)
+    (at-room .room-behind .ensures) (omega (arith, at-if1 .if1 .left)) (at-write-form .write-form .ensures (top .pre .it) 0 (top .pre .of)) _ _
+    (c .before .written .given .1)
 
 room-behind-requires : tie.Need-room-behind-requires
 room-behind-requires c κs = search needs
@@ -73,48 +88,13 @@ returns-3 c =
     (at-room .room-behind .ensures) (omega (arith, at-if1 .if1 .left)) (at-write-form .write-form .ensures t 0 of) lent _ _ (c .enum-told .given .1)
 
 add-end : tie.Need-add-end
-add-end c =
-    let at-write-form = c .before .before .before .before .before in
-    let at-if2 = at-write-form .before .before in
-    let at-if1 = at-if2 .before .before .before in
-    let at-room = at-if1 .before in
-    let top = at-room .before .before .before .before in
-    omega (
-      arith,
-      form-inside (top .args .roll .now) (canonical (top .pre .it)) _ (top .args .n) (at-room .room-behind .result)
-          (at-write-form .write-form .result) (at-room .room-behind .ensures) (omega (arith, at-if1 .if1 .left))
-          (at-write-form .write-form .ensures (top .pre .it) 0 (top .pre .of)) _ _ (c .before .written .given .1),
-    )
+add-end c = omega (arith, inside c)
 
 slice-write-roll : tie.Need-slice-write-roll
-slice-write-roll c =
-    let at-roll = c .before .before .before .before in
-    let at-write-form = at-roll .before in
-    let at-if2 = at-write-form .before .before in
-    let at-if1 = at-if2 .before .before .before in
-    let at-room = at-if1 .before in
-    let top = at-room .before .before .before .before in
-    lt-of-lt-of-le {m = length (top .args .roll .now)}
-    (omega (
-      arith,
-      form-inside (top .args .roll .now) (canonical (top .pre .it)) _ (top .args .n) (at-room .room-behind .result)
-          (at-write-form .write-form .result) (at-room .room-behind .ensures) (omega (arith, at-if1 .if1 .left))
-          (at-write-form .write-form .ensures (top .pre .it) 0 (top .pre .of)) _ _ (c .before .written .given .1),
-    )) (le-of-eq (sym (at-roll .roll .given .1)))
+slice-write-roll c = lt-of-lt-of-le (inside c) (le-of-eq (sym (c .before .before .before .before .roll .given .1)))
 
 add-t11 : tie.Need-add-t11
-add-t11 c =
-    let at-write-form = c .before .before .before .before .before in
-    let at-if2 = at-write-form .before .before in
-    let at-if1 = at-if2 .before .before .before in
-    let at-room = at-if1 .before in
-    let top = at-room .before .before .before .before in
-    omega (
-      arith,
-      form-inside (top .args .roll .now) (canonical (top .pre .it)) _ (top .args .n) (at-room .room-behind .result)
-          (at-write-form .write-form .result) (at-room .room-behind .ensures) (omega (arith, at-if1 .if1 .left))
-          (at-write-form .write-form .ensures (top .pre .it) 0 (top .pre .of)) _ _ (c .before .written .given .1),
-    )
+add-t11 c = omega (arith, inside c)
 
 same-length-3 : tie.Need-same-length-3
 same-length-3 c = search needs
