@@ -1,5 +1,6 @@
 // Adding: the canonical form of a sheet and one further LF behind the first n bytes of a roll.
 // Document 01, "Rolls", and refusals 12, 14 and 16.
+use crate::LIMIT;
 use entries::get;
 use layout::write_form;
 use paper::Answer;
@@ -13,9 +14,6 @@ ghost use Rattle.paper.specs.Answer.{told};
 ghost use Rattle.paper.specs.Limits.{sheetLimit};
 ghost use Rattle.paper.specs.Roll.{rollLimit, endsInLine};
 ghost use Rattle.rolls.specs.Adding.{IsRead, SheetAdded, FormAdded, Unended};
-
-// A roll has at most so many bytes.
-const LIMIT: usize = 65536;
 
 // Adds the form of the sheet that has just these entries, where no annotation stands before its root.
 pub fn add_sheet(sheet: &[u8], cells: &[u32], roll: &mut [u8], n: usize) -> Answer

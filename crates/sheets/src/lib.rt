@@ -113,8 +113,8 @@ fn read_tree(table: &[u8], s: &[u8], cells: &mut [u32]) -> Part
     }
 }
 
-// Past the blank lines behind the root, up to the end of input.
-fn read_rest(s: &[u8], at: usize) -> Part
+// Past the blank lines that stand at `at`, as behind the root, up to the end of input.
+pub fn read_rest(s: &[u8], at: usize) -> Part
     requires { ⌜ at ≤ length (now s) ⌝ }
     ensures { λ r. ⌜ seen r ≡ passed (now (s .entry)) (behindRoot (drop at (now (s .entry)))) ⌝ }
 {

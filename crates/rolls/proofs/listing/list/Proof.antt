@@ -1,0 +1,111 @@
+-- A law for each way out, in the paper's order of faults.
+use native.Mathlib.Omega.{arith}
+use mathlib.Core.Path.{sym}
+use lib.ListN.{length}
+use lib.Seq.{length-take-le}
+use borrow.Author.Needs.{needs}
+use Rattle.modes.specs.Table.{Valid}
+use Rattle.modes.proofs.Tables.{accepted-valid}
+use Rattle.rolls.proofs.ListLaws.{roll-long, table-bad, lead-bad, sheets-bad, all-found, roll-listed}
+use Rattle.rolls.proofs.listing.list.Statement.{statement}
+use Rattle.rolls.proofs.listing.list.Tie as tie
+
+returns : tie.Need-returns
+returns c = roll-long _ _ _ _ (c .if1 .taken)
+
+read-requires : tie.Need-read-requires
+read-requires c κs = search needs
+
+enum-told : tie.Need-enum-told
+enum-told c = search needs
+
+enum-told-2 : tie.Need-enum-told-2
+enum-told-2 c = search needs
+
+returns-2 : tie.Need-returns-2
+returns-2 c = table-bad (c .before .before .before .before .before .before .before .before .args .table .now) (c .before .before .before .before .before .before .before .before .args .roll .now) _ _ (omega (arith, c .before .before .before .if1 .left)) _ _ _ (c .before .before .read .ensures) (c .enum-told2 .given .1)
+
+next-boundary-requires : tie.Need-next-boundary-requires
+next-boundary-requires c κs = search needs
+
+slice-aggregate-read-rest : tie.Need-slice-aggregate-read-rest
+slice-aggregate-read-rest c = sym (length-take-le _ _ (c .before .next-boundary .ensures .begins .inside))
+
+read-rest-requires : tie.Need-read-rest-requires
+read-rest-requires c κs = search needs
+
+enum-known-place : tie.Need-enum-known-place
+enum-known-place c = search needs
+
+returns-3 : tie.Need-returns-3
+returns-3 c =
+    lead-bad (c .before .before .before .before .before .before .before .before .before .before .before .before .before .before .args .table .now) (c .before .before .before .before .before .before .before .before .before .before .before .before .before .before .args .roll .now) _ _ (omega (arith, c .before .before .before .before .before .before .before .before .before .if1 .left))
+    (accepted-valid _ _ _ _ (c .before .before .before .before .before .before .before .before .read .ensures) (c .before .before .before .before .before .before .enum-told .given .1)) (c .before .before .before .before .before .next-boundary .result) (c .before .before .before .before .before .next-boundary .ensures) (c .before .before .before .read-rest .result) (c .before .before .before .read-rest .ensures)
+    _ _ (c .before .place .given .1)
+
+enum-told-3 : tie.Need-enum-told-3
+enum-told-3 c = search needs
+
+find-sheets-requires : tie.Need-find-sheets-requires
+find-sheets-requires c κs = (omega (arith, c .before .before .before .before .before .before .before .before .before .if1 .left), c .before .before .before .before .before .next-boundary .ensures .begins)
+
+enum-known-found : tie.Need-enum-known-found
+enum-known-found c = search needs
+
+enum-told-4 : tie.Need-enum-told-4
+enum-told-4 c = search needs
+
+same-length : tie.Need-same-length
+same-length c = search needs
+
+returns-4 : tie.Need-returns-4
+returns-4 c =
+    sheets-bad (c .before .before .before .before .before .before .before .before .before .before .before .before .before .before .before .before .before .before .before .args .table .now) (c .before .before .before .before .before .before .before .before .before .before .before .before .before .before .before .before .before .before .before .args .roll .now) _ _ (omega (arith, c .before .before .before .before .before .before .before .before .before .before .before .before .before .before .if1 .left))
+    (accepted-valid _ _ _ _ (c .before .before .before .before .before .before .before .before .before .before .before .before .before .read .ensures) (c .before .before .before .before .before .before .before .before .before .before .before .enum-told .given .1)) (c .before .before .before .before .before .before .before .before .before .before .next-boundary .result) (c .before .before .before .before .before .before .before .before .before .before .next-boundary .ensures) (c .before .before .before .before .before .before .before .before .read-rest .result) (c .before .before .before .before .before .before .before .before .read-rest .ensures)
+    _ _ _ (c .before .before .before .before .before .before .enum-told3 .given .1) (c .before .before .before .before .find-sheets .result) _ (c .before .before .before .before .find-sheets .ensures) _ _ (c .enum-told4 .given .1)
+
+read-sheets-requires : tie.Need-read-sheets-requires
+read-sheets-requires c κs =
+    let v : Valid (c .before .before .before .before .before .before .before .before .before .before .before .before .before .before .before .before .before .before .before .before .before .before .args .table .now) = accepted-valid _ _ _ _ (c .before .before .before .before .before .before .before .before .before .before .before .before .before .before .before .before .read .ensures) (c .before .before .before .before .before .before .before .before .before .before .before .before .before .before .enum-told .given .1) in (
+      v,
+      all-found (c .before .before .before .before .before .before .before .before .before .before .before .before .before .before .before .before .before .before .before .before .before .before .args .table .now) (c .before .before .before .before .before .before .before .before .before .before .before .before .before .before .before .before .before .before .before .before .before .before .args .roll .now) (length (c .before .before .before .before .before .before .before .before .before .before .before .before .before .before .before .before .before .before .before .before .before .before .args .cells .now)) _ (omega (arith, c .before .before .before .before .before .before .before .before .before .before .before .before .before .before .before .before .before .if1 .left))
+          v (c .before .before .before .before .before .before .before .before .before .before .before .before .before .next-boundary .result) (c .before .before .before .before .before .before .before .before .before .before .before .before .before .next-boundary .ensures) (c .before .before .before .before .before .before .before .before .before .before .before .read-rest .result) (c .before .before .before .before .before .before .before .before .before .before .before .read-rest .ensures)
+          _ _ _ (c .before .before .before .before .before .before .before .before .before .enum-told3 .given .1) (c .before .before .before .before .before .before .before .find-sheets .result) _ (c .before .before .before .before .before .before .before .find-sheets .ensures) _ _ (c .before .before .before .found .given .1),
+    )
+
+same-length-2 : tie.Need-same-length-2
+same-length-2 c = search needs
+
+same-length-3 : tie.Need-same-length-3
+same-length-3 c = search needs
+
+returns-5 : tie.Need-returns-5
+returns-5 c =
+    roll-listed (c .before .before .before .before .before .before .before .before .before .before .before .before .before .before .before .before .before .before .before .before .before .before .before .before .before .before .before .args .table .now) (c .before .before .before .before .before .before .before .before .before .before .before .before .before .before .before .before .before .before .before .before .before .before .before .before .before .before .before .args .roll .now) _ _ (omega (arith, c .before .before .before .before .before .before .before .before .before .before .before .before .before .before .before .before .before .before .before .before .before .before .if1 .left))
+    (accepted-valid _ _ _ _ (c .before .before .before .before .before .before .before .before .before .before .before .before .before .before .before .before .before .before .before .before .before .read .ensures) (c .before .before .before .before .before .before .before .before .before .before .before .before .before .before .before .before .before .before .before .enum-told .given .1)) (c .before .before .before .before .before .before .before .before .before .before .before .before .before .before .before .before .before .before .next-boundary .result) (c .before .before .before .before .before .before .before .before .before .before .before .before .before .before .before .before .before .before .next-boundary .ensures) (c .before .before .before .before .before .before .before .before .before .before .before .before .before .before .before .before .read-rest .result) (c .before .before .before .before .before .before .before .before .before .before .before .before .before .before .before .before .read-rest .ensures)
+    _ _ _ (c .before .before .before .before .before .before .before .before .before .before .before .before .before .before .enum-told3 .given .1) (c .before .before .before .before .before .before .before .before .before .before .before .before .find-sheets .result) _ (c .before .before .before .before .before .before .before .before .before .before .before .before .find-sheets .ensures) _ _ (c .before .before .before .before .before .before .before .before .found .given .1) (c .before .before .before .before .read-sheets .ensures)
+
+pub list-spec : {M : Type 1} → statement M
+list-spec =
+    tie.close
+    (tie.spec
+    returns
+    read-requires
+    enum-told
+    enum-told-2
+    returns-2
+    next-boundary-requires
+    slice-aggregate-read-rest
+    read-rest-requires
+    enum-known-place
+    returns-3
+    enum-told-3
+    find-sheets-requires
+    enum-known-found
+    enum-told-4
+    same-length
+    returns-4
+    read-sheets-requires
+    same-length-2
+    same-length-3
+    returns-5)

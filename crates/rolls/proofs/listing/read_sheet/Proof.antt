@@ -1,0 +1,42 @@
+-- The sheet's answer is that of reading its bytes alone, and its three numbers go into the record.
+use mathlib.Core.Path.{ap, _∙_}
+use mathlib.Core.List.{[], _∷_}
+use native.Mathlib.Omega.{arith}
+use borrow.Author.Needs.{needs}
+use Rattle.paper.specs.Roll.{Record}
+use Rattle.rolls.specs.Records.{layRecords}
+use Rattle.rolls.proofs.ReadLaws.{small-place, small-count, record-read}
+use Rattle.rolls.proofs.listing.read_sheet.Statement.{statement}
+use Rattle.rolls.proofs.listing.read_sheet.Tie as tie
+
+cast-t25 : tie.Need-cast-t25
+cast-t25 c = omega (arith, small-place (c .before .before .before .before .before .before .before .before .before .before .before .before .before .before .args .table .now) _ (c .before .before .before .before .before .before .before .before .before .before .before .before .before .before .args .cells .now) _ _ (c .before .before .before .before .before .before .before .before .before .before .before .before .before .before .pre .0) (c .before .before .before .before .before .read-under .ensures))
+
+cast-t26 : tie.Need-cast-t26
+cast-t26 c = omega (arith, small-count (c .before .before .before .before .before .before .before .before .before .before .before .before .before .before .before .args .table .now) _ (c .before .before .before .before .before .before .before .before .before .before .before .before .before .before .before .args .cells .now) _ _ (c .before .before .before .before .before .before .before .before .before .before .before .before .before .before .before .pre .0) (c .before .before .before .before .before .before .read-under .ensures))
+
+returns : tie.Need-returns
+returns c =
+    c .before .before .put .ensures
+    ∙ ap (λ (e : Record). layRecords (c .before .before .before .before .before .before .before .before .before .before .before .before .before .before .before .before .before .before .args .records .now) (c .before .before .before .before .before .before .before .before .before .before .before .before .before .before .before .before .before .before .args .n) (e ∷ []))
+    (record-read (c .before .before .before .before .before .before .before .before .before .before .before .before .before .before .before .before .before .before .args .table .now) _ (c .before .before .before .before .before .before .before .before .before .before .before .before .before .before .before .before .before .before .args .cells .now) _ _ (c .before .before .before .before .before .before .before .before .before .before .before .before .before .before .before .before .before .before .pre .0) (c .before .before .before .before .before .before .before .before .before .read-under .ensures) _ _ _ _ _ (c .before .before .before .before .before .number .ensures) (c .before .before .before .before .place .ensures) (c .before .before .before .count .ensures))
+
+pub read-sheet-spec : {M : Type 1} → statement M
+read-sheet-spec =
+    tie.close
+    (tie.spec
+    (λ c. search needs)
+    (λ c. search needs) (λ c. search needs)
+    (λ c. search needs) (λ c. search needs) (λ c. search needs)
+    (λ c. search needs) (λ c. search needs)
+    (λ c. search needs) (λ c. search needs) (λ c. search needs)
+    (λ c κs. search needs)
+    (λ c κs. search needs)
+    (λ c κs. search needs)
+    cast-t25
+    (λ c κs. search needs)
+    cast-t26
+    (λ c κs. search needs)
+    (λ c. search needs)
+    (λ c. search needs)
+    returns)
