@@ -1,13 +1,12 @@
 -- A roll that is listed: a law for each way out, in the paper's order of faults, and the whole reading. Over plain lists. Assumes nothing.
 -- Document 01, "Rolls" and "Order".
-use Prim.Native.Nat.{ℕ, _+_, _-_, _*_, _≤_, _<_}
+use Prim.Native.Nat.{ℕ, _-_, _*_, _≤_, _<_}
 use mathlib.Core.Path.{_≡_, refl, sym, ap, _∙_}
-use mathlib.Core.Bool.{true, false}
-use mathlib.Core.List.{List, [], _∷_, _++_}
+use mathlib.Core.List.{List, [], _∷_}
 use native.Mathlib.Omega.{arith}
-use lib.ListN.{length, take, drop, replicate}
+use lib.ListN.{length, take, replicate}
 use lib.Seq.{sets, length-take-le}
-use lib.Dec.{ltb, eqb}
+use lib.Dec.{ltb}
 use borrow.Author.Tests.{lt-ltb, le-ltb, ltb-false, ne-eqb}
 use Rattle.paper.specs.declared.Answer.{Answer}
 use Rattle.paper.specs.declared.Answer.the-variants.{Accepted, Refused}
@@ -18,7 +17,7 @@ use Rattle.paper.specs.Bytes.{isBlank, front, behind}
 use Rattle.paper.specs.Modes.{Modes, modeTable, readTable}
 use Rattle.paper.specs.Tree.{Blank}
 use Rattle.paper.specs.Reading.{blankLines, lastBlanks}
-use Rattle.paper.specs.Roll.{rollLimit, recordCells, Parts, parts, partsOf, Record, recordsOf, allRecords, filledRecords}
+use Rattle.paper.specs.Roll.{rollLimit, recordCells, Parts, parts, partsOf, Record, allRecords, filledRecords}
 use Rattle.paper.specs.Roll.{RollReading, rollRoom, onlyBlanks, rollFaults, rollRecords, rollReading}
 use Rattle.paper.proofs.Told.{number-positive}
 use Rattle.paper.proofs.Tests.{split}
@@ -59,12 +58,11 @@ blanks-number s n left = go (blankLines s) (blanks-reads s)
 records-in : (table : List ℕ) (lent : ℕ) (q : Parts) → length (recordsIn table lent q) ≡ length (sheetsIn q)
 records-in table lent (parts lead sheets) = records-many table lent (length lead) sheets
 
-module _ (table r : List ℕ) (lent : ℕ) (records : List ℕ) where
-  abbrev room : ℕ
-  room = rollRoom (length records)
+-- ---- the faults, in their order
 
+module _ (table r : List ℕ) (lent : ℕ) (records : List ℕ) where
   abbrev faults : Told
-  faults = rollFaults table room r (partsOf r)
+  faults = rollFaults table (rollRoom (length records)) r (partsOf r)
 
   -- a refusal says nothing of the cells
   refuses : {answer : Told} {after : List ℕ} → answer ≡ faults → (answer .number ≡ 0 → ⊥) → Lists table r lent records answer after
@@ -74,7 +72,7 @@ module _ (table r : List ℕ) (lent : ℕ) (records : List ℕ) where
   unfolding rollFaults
   roll-long h = refuses (go (partsOf r)) (λ z. omega arith)
     where
-      go : (q : Parts) → refused 13 rollLimit ≡ rollFaults table room r q
+      go : (q : Parts) → refused 13 rollLimit ≡ rollFaults table (rollRoom (length records)) r q
       go (parts lead sheets) = rw (lt-ltb rollLimit (length r) h, rollFaults)
 
   module _ (h : length r ≤ rollLimit) where
@@ -82,97 +80,95 @@ module _ (table r : List ℕ) (lent : ℕ) (records : List ℕ) where
     unfolding rollFaults readTable
     table-bad a why p e q = refuses (go (modeTable table) refl (partsOf r)) (not-accepted a why p q)
       where
-        go : (x : Found Modes) → modeTable table ≡ x → (s : Parts) → told a ≡ rollFaults table room r s
+        go : (x : Found Modes) → modeTable table ≡ x → (s : Parts) → told a ≡ rollFaults table (rollRoom (length records)) r s
         go (found m left) f s = absurd (number-positive why (number-told (rw (q, readTable, f) at e)))
         go (fault n left) f (parts lead sheets) = rw (le-ltb rollLimit (length r) h, rollFaults, f) (rw (readTable, f) at e)
 
-    module _ (v : Valid table) (first : ℕ) (b : BoundaryFrom r 0 first) (lead : Part) (e : seen lead ≡ passed (take first r) (onlyBlanks (take first r))) where
-      abbrev sheets : List (List ℕ)
-      sheets = sheetsFrom r first
+-- the first boundary stands at a place, and it is left to count the sheets from there on
+pub record Led (table r records : List ℕ) (first : ℕ) : Type 0 where
+  pub boundary : BoundaryFrom r 0 first
+  pub counted : countedFrom (rollRoom (length records)) r first (sheetsFrom r first) ≡ rollFaults table (rollRoom (length records)) r (partsOf r)
 
-      lead-long : length (take first r) ≡ first
-      lead-long = length-take-le first r (b .begins .inside)
+-- how long what stands before it is
+lead-long : {r : List ℕ} {first : ℕ} → BoundaryFrom r 0 first → length (take first r) ≡ first
+lead-long {r} {first} b = length-take-le first r (b .begins .inside)
 
-      -- something else than blank lines stands before the first boundary
-      pub lead-bad : {after : List ℕ} (why : Refusal) (place : ℕ) → lead ≡ NotRead why place → Lists table r lent records (refused 14 place) after
-      unfolding rollFaults
-      lead-bad why place q = refuses (go (onlyBlanks (take first r)) refl (sym (ap seen q) ∙ e)) (λ z. omega arith)
-        where
-          go : (x : Found (List ℕ)) → onlyBlanks (take first r) ≡ x → seen (NotRead why place) ≡ passed (take first r) x → refused 14 place ≡ faults
-          go (found bs left) f g = absurd (number-positive why (ap (λ (s : Seen). s .number) g))
-          go (fault n left) f g =
-              rw (roll-parts b, le-ltb rollLimit (length r) h, rollFaults, v, f) (ap (refused 14) (ap (λ (s : Seen). s .place) g))
+-- what stands before the first boundary
+module _ (table r : List ℕ) (lent : ℕ) (records : List ℕ) (h : length r ≤ rollLimit) (v : Valid table) {first : ℕ} (b : BoundaryFrom r 0 first) (lead : Part)
+    (e : seen lead ≡ passed (take first r) (onlyBlanks (take first r))) where
+  pub lead-bad : {after : List ℕ} (why : Refusal) (place : ℕ) → lead ≡ NotRead why place → Lists table r lent records (refused 14 place) after
+  unfolding rollFaults
+  lead-bad why place q = refuses table r lent records (go (onlyBlanks (take first r)) refl (sym (ap seen q) ∙ e)) (λ z. omega arith)
+    where
+      go : (x : Found (List ℕ)) → onlyBlanks (take first r) ≡ x → seen (NotRead why place) ≡ passed (take first r) x
+          → refused 14 place ≡ faults table r lent records
+      go (found bs left) f g = absurd (number-positive why (ap (λ (s : Seen). s .number) g))
+      go (fault n left) f g =
+          rw (roll-parts b, le-ltb rollLimit (length r) h, rollFaults, v, f) (ap (refused 14) (ap (λ (s : Seen). s .place) g))
 
-      module _ (end made own : ℕ) (q : lead ≡ Read end made own) where
-        counted : countedFrom room r first sheets ≡ faults
-        unfolding rollFaults
-        counted = go (onlyBlanks (take first r)) refl (sym (ap seen q) ∙ e)
-          where
-            go : (x : Found (List ℕ)) → onlyBlanks (take first r) ≡ x → seen (Read end made own) ≡ passed (take first r) x
-                → countedFrom room r first sheets ≡ faults
-            go (found bs left) f g =
-                ap (λ (n : ℕ). countedFrom room r n sheets) (sym lead-long) ∙ rw (roll-parts b, le-ltb rollLimit (length r) h, rollFaults, v, f)
-            go (fault n left) f g = absurd (omega (arith, blanks-number (take first r) n left f, ap (λ (s : Seen). s .number) g))
+  pub lead-good : (end made own : ℕ) → lead ≡ Read end made own → Led table r records first
+  unfolding rollFaults
+  lead-good end made own q = record { boundary = b; counted = go (onlyBlanks (take first r)) refl (sym (ap seen q) ∙ e) }
+    where
+      go : (x : Found (List ℕ)) → onlyBlanks (take first r) ≡ x → seen (Read end made own) ≡ passed (take first r) x
+          → countedFrom (rollRoom (length records)) r first (sheetsFrom r first) ≡ faults table r lent records
+      go (found bs left) f g =
+          ap (λ (n : ℕ). countedFrom (rollRoom (length records)) r n (sheetsFrom r first)) (sym (lead-long b))
+          ∙ rw (roll-parts b, le-ltb rollLimit (length r) h, rollFaults, v, f)
+      go (fault n left) f g = absurd (omega (arith, blanks-number (take first r) n left f, ap (λ (s : Seen). s .number) g))
 
-        module _ (a : Answer) (mid : List ℕ) (g : FindsSheets r first records (told a) mid) where
-          pub sheets-bad : (why : Refusal) (p : ℕ) → a ≡ Refused why p → Lists table r lent records (told a) mid
-          sheets-bad why p k = refuses (g .says ∙ counted) (not-accepted a why p k)
+-- ---- the sheets are found, or one is over
 
-          module _ (place count : ℕ) (k : a ≡ Accepted place count) where
-            accepts : accepted place count ≡ countedFrom room r first sheets
-            accepts = sym (ap told k) ∙ g .says
+module _ {table r records : List ℕ} {first : ℕ} (l : Led table r records first) (a : Answer) {mid : List ℕ} (g : FindsSheets r first records (told a) mid) where
+  pub sheets-bad : (lent : ℕ) (why : Refusal) (p : ℕ) → a ≡ Refused why p → Lists table r lent records (told a) mid
+  sheets-bad lent why p k = refuses table r lent records (g .says ∙ l .counted) (not-accepted a why p k)
 
-            all-there : (count ≡ length sheets) × (count ≤ room)
-            all-there =
-                split (ltb room (length sheets))
-                (λ o. let z : _≡_ {A = ℕ} 0 15 = number-told (rw (o, countedFrom) at accepts) in absurd (omega arith))
-                (λ o. let n : count ≡ length sheets = count-told (rw (o, countedFrom) at accepts) in (n, omega (arith, ltb-false room (length sheets) o)))
+  module _ (place count : ℕ) (k : a ≡ Accepted place count) where
+    abbrev sheets : List (List ℕ)
+    sheets = sheetsFrom r first
 
-            abbrev found-records : List Record
-            found-records = unread first sheets
+    accepts : accepted place count ≡ countedFrom (rollRoom (length records)) r first sheets
+    accepts = sym (ap told k) ∙ g .says
 
-            found-many : length found-records ≡ count
-            found-many = unread-many first sheets ∙ sym (all-there .0)
+    all-there : (count ≡ length sheets) × (count ≤ rollRoom (length records))
+    all-there =
+        split (ltb (rollRoom (length records)) (length sheets))
+        (λ o. let z : _≡_ {A = ℕ} 0 15 = number-told (rw (o, countedFrom) at accepts) in absurd (omega arith))
+        (λ o. let n : count ≡ length sheets = count-told (rw (o, countedFrom) at accepts) in (n, omega (arith, ltb-false (rollRoom (length records)) (length sheets) o)))
 
-            fit : length found-records * recordCells ≤ length records
-            fit = omega (arith, found-many, all-there .1)
+    found-many : length (unread first sheets) ≡ count
+    found-many = unread-many first sheets ∙ sym (all-there .0)
 
-            mid-laid : mid ≡ layRecords records 0 found-records
-            mid-laid = g .laid (number-told (ap told k))
+    mid-laid : mid ≡ layRecords records 0 (unread first sheets)
+    mid-laid = g .laid (number-told (ap told k))
 
-            in-parts : unreadIn (partsOf r) ≡ found-records
-            in-parts = ap unreadIn (roll-parts b) ∙ ap (λ (n : ℕ). unread n sheets) lead-long
+    in-parts : unreadIn (partsOf r) ≡ unread first sheets
+    in-parts = ap unreadIn (roll-parts (l .boundary)) ∙ ap (λ (n : ℕ). unread n sheets) (lead-long (l .boundary))
 
-            -- all sheets are found
-            pub all-found : AllFound r mid count
-            all-found =
-                record {
-                  many = all-there .0 ∙ ap (λ (s : Parts). length (sheetsIn s)) (sym (roll-parts b));
-                  stand =
-                      mid-laid
-                      ∙ lay-stands records found-records fit
-                      ∙ rw (
-                        found-many,
-                        in-parts,
-                        mid-laid,
-                        lay-behind records 0 found-records count (omega (arith, found-many)),
-                      );
-                }
+    pub all-found : AllFound r mid count
+    all-found =
+        record {
+          many = all-there .0 ∙ ap (λ (s : Parts). length (sheetsIn s)) (sym (roll-parts (l .boundary)));
+          stand =
+              mid-laid
+              ∙ lay-stands records (unread first sheets) (omega (arith, found-many, all-there .1))
+              ∙ rw (found-many, in-parts, mid-laid, lay-behind records 0 (unread first sheets) count (omega (arith, found-many)));
+        }
 
-            -- and read
-            pub roll-listed : {after : List ℕ} → after ≡ layRecords mid 0 (recordsIn table lent (partsOf r))
-                → Lists table r lent records (accepted place count) after
-            roll-listed l =
-                let es : List Record = recordsIn table lent (partsOf r) in
-                let as-many : length es ≡ count = records-in table lent (partsOf r) ∙ sym (all-found .many) in
-                record {
-                  says = accepts ∙ counted;
-                  counts = λ z. (all-found .many, all-there .1);
-                  laid = λ z.
-                      l
-                      ∙ ap (λ (m : List ℕ). layRecords m 0 es) mid-laid
-                      ∙ lay-over records found-records es (found-many ∙ sym as-many) (omega (arith, as-many, all-there .1));
-                }
+    -- and they are read
+    pub roll-listed : (lent : ℕ) {after : List ℕ} → after ≡ layRecords mid 0 (recordsIn table lent (partsOf r))
+        → Lists table r lent records (accepted place count) after
+    roll-listed lent laid =
+        let es : List Record = recordsIn table lent (partsOf r) in
+        let as-many : length es ≡ count = records-in table lent (partsOf r) ∙ sym (all-found .many) in
+        record {
+          says = accepts ∙ l .counted;
+          counts = λ z. (all-found .many, all-there .1);
+          laid = λ z.
+              laid
+              ∙ ap (λ (m : List ℕ). layRecords m 0 es) mid-laid
+              ∙ lay-over records (unread first sheets) es (found-many ∙ sym as-many) (omega (arith, as-many, all-there .1));
+        }
 
 -- ---- the whole reading
 

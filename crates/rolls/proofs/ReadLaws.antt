@@ -1,11 +1,11 @@
 -- Sheets of a roll that are read one after another, each by itself. Over plain lists. Assumes nothing.
 -- Document 01, "Rolls".
-use Prim.Native.Nat.{ℕ, suc, _+_, _-_, _*_, _≤_, _<_}
+use Prim.Native.Nat.{ℕ, _+_, _-_, _*_, _≤_, _<_}
 use mathlib.Core.Path.{_≡_, refl, sym, ap, _∙_}
 use mathlib.Core.Bool.{true}
 use mathlib.Core.List.{List, [], _∷_, _++_}
 use native.Mathlib.Omega.{arith}
-use lib.ListN.{length, take, drop, length-append, length-drop}
+use lib.ListN.{length, drop, length-append, length-drop}
 use lib.Seq.{drop-drop, take-append-seam, drop-append-seam}
 use Rattle.paper.specs.Answer.{Told}
 use Rattle.paper.specs.Found.{Found, found, fault}

@@ -1,6 +1,6 @@
 -- Listing a roll: what finding its sheets, reading them and both together answer and write where nothing is zeroed.
 -- Document 01, "Rolls" and "Order".
-use Prim.Native.Nat.{ℕ, suc, _+_, _*_, _≤_, _<_}
+use Prim.Native.Nat.{ℕ, suc, _+_, _*_, _≤_}
 use mathlib.Core.Path.{_≡_}
 use mathlib.Core.Bool.{true, false}
 use mathlib.Core.List.{List, [], _∷_, _++_}

@@ -25,7 +25,8 @@ ghost use Rattle.rolls.specs.Listing.{FindsSheets, Spans, ReadsRecord, A
 // Makes the records of a roll. An acceptance has the roll's length and how many they are; it zeroes no cell, and what a refusal
 // leaves is not told.
 pub fn list(table: &[u8], roll: &[u8], records: &mut [u32], cells: &mut [u32]) -> Answer
-    ensures { λ r. ⌜ Lists (now (table .entry)) (now (roll .entry)) (length (now (cells .entry))) (now (records .entry)) (told r) (now (records .exit)) ⌝ }
+    ensures { λ r. ⌜ Lists (now (table .entry)) (now (roll .entry)) (length (now (cells .entry))) (now (records .entry)) (told r)
+        (now (records .exit)) ⌝ }
 {
     if LIMIT < roll.len() {
         return Answer::Refused {
@@ -105,7 +106,8 @@ fn read_sheets(table: &[u8], roll: &[u8], records: &mut [u32], count: usize, cel
 // Reads the sheet of record number `n` by itself, and puts its answer into the record.
 fn read_sheet(table: &[u8], roll: &[u8], records: &mut [u32], n: usize, cells: &mut [u32])
     requires { ⌜ Valid (now table) × Spans (now roll) (now records) n ⌝ }
-    ensures { λ _. ⌜ ReadsRecord (now (table .entry)) (now (roll .entry)) (length (now (cells .entry))) (now (records .entry)) n (now (records .exit)) ⌝ }
+    ensures { λ _. ⌜ ReadsRecord (now (table .entry)) (now (roll .entry)) (length (now (cells .entry))) (now (records .entry)) n
+        (now (records .exit)) ⌝ }
 {
     let at = n * CELLS;
     let start = records[at];

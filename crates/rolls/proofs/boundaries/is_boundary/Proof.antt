@@ -24,7 +24,9 @@ is-upper-requires : tie.Need-is-upper-requires
 is-upper-requires c κs = search needs
 
 returns-2 : tie.Need-returns-2
-returns-2 c = boundary-upper (c .before .before .before .before .before .before .args .roll .now) (c .before .before .before .before .before .before .args .at) (omega (arith, c .before .before .before .before .if1 .left)) (c .before .before .if2 .taken) _ (c .is-upper .ensures)
+returns-2 c =
+    let top = c .before .before .before .before .before .before in
+    boundary-upper (top .args .roll .now) (top .args .at) (omega (arith, c .before .before .before .before .if1 .left)) (c .before .before .if2 .taken) _ (c .is-upper .ensures)
 
 returns-3 : tie.Need-returns-3
 returns-3 c = boundary-other (c .before .before .before .before .args .roll .now) (c .before .before .before .before .args .at) (omega (arith, c .before .before .if1 .left)) (c .if2 .left)

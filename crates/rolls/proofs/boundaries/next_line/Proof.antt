@@ -37,7 +37,8 @@ add-result c = omega arith
 returns-2 : tie.Need-returns-2 Inv-loop μ-loop
 returns-2 c =
     record {
-      passes = passes-then (c .before .before .before .before .before .loop .inv) (passes-then (text-passes _ _ _ (c .before .before .before .end .ensures)) (line-passes _ _ (omega arith) (c .if2 .taken)));
+      passes =
+          passes-then (c .before .before .before .before .before .loop .inv) (passes-then (text-passes _ _ _ (c .before .before .before .end .ensures)) (line-passes _ _ (omega arith) (c .if2 .taken)));
       further = λ h. omega arith;
     }
 
@@ -48,7 +49,8 @@ loop-less : tie.Need-loop-less Inv-loop μ-loop
 loop-less c = omega arith
 
 loop-again : tie.Need-loop-again Inv-loop μ-loop
-loop-again c = passes-then (c .before .before .before .before .before .loop .inv) (passes-then (text-passes _ _ _ (c .before .before .before .end .ensures)) (other-passes _ _ (omega arith) (c .if2 .left)))
+loop-again c =
+    passes-then (c .before .before .before .before .before .loop .inv) (passes-then (text-passes _ _ _ (c .before .before .before .end .ensures)) (other-passes _ _ (omega arith) (c .if2 .left)))
 
 returns-3 : tie.Need-returns-3 Inv-loop μ-loop
 returns-3 c = record { passes = passes-end true (c .before .loop .inv) (c .loop-test .left); further = λ h. omega arith }

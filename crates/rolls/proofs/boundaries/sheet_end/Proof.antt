@@ -1,6 +1,5 @@
 -- The next boundary behind the sheet's first line.
 use native.Mathlib.Omega.{arith}
-use borrow.Author.Needs.{needs}
 use Rattle.rolls.proofs.Passing.{boundary-inside, sheet-to}
 use Rattle.rolls.proofs.boundaries.sheet_end.Statement.{statement}
 use Rattle.rolls.proofs.boundaries.sheet_end.Tie as tie

@@ -30,7 +30,9 @@ sheet-end-requires : tie.Need-sheet-end-requires Inv-loop μ-loop
 sheet-end-requires c κs = c .before .before .loop .inv .begins .boundary (c .before .loop-test .taken)
 
 found-at-requires : tie.Need-found-at-requires Inv-loop μ-loop
-found-at-requires c κs = (omega (arith, c .before .before .before .before .before .before .before .before .pre .0), omega (arith, c .before .before .before .before .before .before .before .before .pre .0, c .before .sheet-end .ensures .begins .inside))
+found-at-requires c κs =
+    let short = c .before .before .before .before .before .before .before .before .pre .0 in
+    (omega arith, omega (arith, c .before .sheet-end .ensures .begins .inside))
 
 put-requires : tie.Need-put-requires Inv-loop μ-loop
 put-requires c κs = omega (arith, c .before .before .before .before .before .before .room .ensures, c .before .before .before .if1 .left, c .before .before .before .before .before .loop .inv .long)
@@ -43,7 +45,9 @@ loop-less c = omega (arith, c .before .before .before .before .before .sheet-end
 
 loop-again : tie.Need-loop-again Inv-loop μ-loop
 loop-again c =
-    finding-turn (c .before .before .before .before .before .before .before .before .loop .inv) (recordIn (c .before .before .before .found-at .result)) (omega (arith, c .before .before .before .before .before .before .if1 .left)) (c .before .before .before .before .before .sheet-end .ensures) (c .before .before .before .found-at .ensures) (c .before .before .put .ensures)
+    let at-end = c .before .before .before .before .before in
+    finding-turn (at-end .before .before .before .loop .inv) (recordIn (c .before .before .before .found-at .result)) (omega (arith, at-end .before .if1 .left)) (at-end .sheet-end .ensures)
+    (c .before .before .before .found-at .ensures) (c .before .before .put .ensures)
 
 same-length-2 : tie.Need-same-length-2 Inv-loop μ-loop
 same-length-2 c = c .before .loop .inv .long

@@ -1,14 +1,25 @@
 -- A law for each way out, in the paper's order of faults.
 use native.Mathlib.Omega.{arith}
 use mathlib.Core.Path.{sym}
-use lib.ListN.{length}
 use lib.Seq.{length-take-le}
 use borrow.Author.Needs.{needs}
 use Rattle.modes.specs.Table.{Valid}
 use Rattle.modes.proofs.Tables.{accepted-valid}
-use Rattle.rolls.proofs.ListLaws.{roll-long, table-bad, lead-bad, sheets-bad, all-found, roll-listed}
+use Rattle.rolls.proofs.ListLaws.{roll-long, table-bad, lead-bad, Led, lead-good, sheets-bad, all-found, roll-listed}
 use Rattle.rolls.proofs.listing.list.Statement.{statement}
 use Rattle.rolls.proofs.listing.list.Tie as tie
+
+-- the table is read
+valid : (c : tie.After-enum-told) → Valid (c .before .before .before .before .before .before .before .before .args .table .now)
+valid c = accepted-valid _ _ _ _ (c .before .before .read .ensures) (c .enum-told .given .1)
+
+-- and what stands before the first boundary
+led : (c : tie.After-enum-told3) → Led (c .before .before .before .before .before .before .before .before .before .before .before .before .before .args .table .now) (c .before .before .before .before .before .before .before .before .before .before .before .before .before .args .roll .now) (c .before .before .before .before .before .before .before .before .before .before .before .before .before .args .records .now) (c .before .before .before .before .next-boundary .result)
+led c =
+    let at-boundary = c .before .before .before .before in
+    let top = at-boundary .before .before .before .before .before .before .before .before .before in
+    lead-good (top .args .table .now) (top .args .roll .now) 0 _ (omega (arith, at-boundary .before .before .before .before .if1 .left))
+    (valid (at-boundary .before)) (at-boundary .next-boundary .ensures) _ (c .before .before .read-rest .ensures) _ _ _ (c .enum-told3 .given .1)
 
 returns : tie.Need-returns
 returns c = roll-long _ _ _ _ (c .if1 .taken)
@@ -23,7 +34,9 @@ enum-told-2 : tie.Need-enum-told-2
 enum-told-2 c = search needs
 
 returns-2 : tie.Need-returns-2
-returns-2 c = table-bad (c .before .before .before .before .before .before .before .before .args .table .now) (c .before .before .before .before .before .before .before .before .args .roll .now) _ _ (omega (arith, c .before .before .before .if1 .left)) _ _ _ (c .before .before .read .ensures) (c .enum-told2 .given .1)
+returns-2 c =
+    let top = c .before .before .before .before .before .before .before .before in
+    table-bad (top .args .table .now) (top .args .roll .now) _ _ (omega (arith, c .before .before .before .if1 .left)) _ _ _ (c .before .before .read .ensures) (c .enum-told2 .given .1)
 
 next-boundary-requires : tie.Need-next-boundary-requires
 next-boundary-requires c κs = search needs
@@ -39,9 +52,10 @@ enum-known-place c = search needs
 
 returns-3 : tie.Need-returns-3
 returns-3 c =
-    lead-bad (c .before .before .before .before .before .before .before .before .before .before .before .before .before .before .args .table .now) (c .before .before .before .before .before .before .before .before .before .before .before .before .before .before .args .roll .now) _ _ (omega (arith, c .before .before .before .before .before .before .before .before .before .if1 .left))
-    (accepted-valid _ _ _ _ (c .before .before .before .before .before .before .before .before .read .ensures) (c .before .before .before .before .before .before .enum-told .given .1)) (c .before .before .before .before .before .next-boundary .result) (c .before .before .before .before .before .next-boundary .ensures) (c .before .before .before .read-rest .result) (c .before .before .before .read-rest .ensures)
-    _ _ (c .before .place .given .1)
+    let at-boundary = c .before .before .before .before .before in
+    let top = at-boundary .before .before .before .before .before .before .before .before .before in
+    lead-bad (top .args .table .now) (top .args .roll .now) _ _ (omega (arith, at-boundary .before .before .before .before .if1 .left))
+    (valid (at-boundary .before)) (at-boundary .next-boundary .ensures) _ (c .before .before .before .read-rest .ensures) _ _ (c .before .place .given .1)
 
 enum-told-3 : tie.Need-enum-told-3
 enum-told-3 c = search needs
@@ -60,18 +74,13 @@ same-length c = search needs
 
 returns-4 : tie.Need-returns-4
 returns-4 c =
-    sheets-bad (c .before .before .before .before .before .before .before .before .before .before .before .before .before .before .before .before .before .before .before .args .table .now) (c .before .before .before .before .before .before .before .before .before .before .before .before .before .before .before .before .before .before .before .args .roll .now) _ _ (omega (arith, c .before .before .before .before .before .before .before .before .before .before .before .before .before .before .if1 .left))
-    (accepted-valid _ _ _ _ (c .before .before .before .before .before .before .before .before .before .before .before .before .before .read .ensures) (c .before .before .before .before .before .before .before .before .before .before .before .enum-told .given .1)) (c .before .before .before .before .before .before .before .before .before .before .next-boundary .result) (c .before .before .before .before .before .before .before .before .before .before .next-boundary .ensures) (c .before .before .before .before .before .before .before .before .read-rest .result) (c .before .before .before .before .before .before .before .before .read-rest .ensures)
-    _ _ _ (c .before .before .before .before .before .before .enum-told3 .given .1) (c .before .before .before .before .find-sheets .result) _ (c .before .before .before .before .find-sheets .ensures) _ _ (c .enum-told4 .given .1)
+    let at-find = c .before .before .before .before in
+    sheets-bad (led (at-find .before .before)) (at-find .find-sheets .result) (at-find .find-sheets .ensures) _ _ _ (c .enum-told4 .given .1)
 
 read-sheets-requires : tie.Need-read-sheets-requires
 read-sheets-requires c κs =
-    let v : Valid (c .before .before .before .before .before .before .before .before .before .before .before .before .before .before .before .before .before .before .before .before .before .before .args .table .now) = accepted-valid _ _ _ _ (c .before .before .before .before .before .before .before .before .before .before .before .before .before .before .before .before .read .ensures) (c .before .before .before .before .before .before .before .before .before .before .before .before .before .before .enum-told .given .1) in (
-      v,
-      all-found (c .before .before .before .before .before .before .before .before .before .before .before .before .before .before .before .before .before .before .before .before .before .before .args .table .now) (c .before .before .before .before .before .before .before .before .before .before .before .before .before .before .before .before .before .before .before .before .before .before .args .roll .now) (length (c .before .before .before .before .before .before .before .before .before .before .before .before .before .before .before .before .before .before .before .before .before .before .args .cells .now)) _ (omega (arith, c .before .before .before .before .before .before .before .before .before .before .before .before .before .before .before .before .before .if1 .left))
-          v (c .before .before .before .before .before .before .before .before .before .before .before .before .before .next-boundary .result) (c .before .before .before .before .before .before .before .before .before .before .before .before .before .next-boundary .ensures) (c .before .before .before .before .before .before .before .before .before .before .before .read-rest .result) (c .before .before .before .before .before .before .before .before .before .before .before .read-rest .ensures)
-          _ _ _ (c .before .before .before .before .before .before .before .before .before .enum-told3 .given .1) (c .before .before .before .before .before .before .before .find-sheets .result) _ (c .before .before .before .before .before .before .before .find-sheets .ensures) _ _ (c .before .before .before .found .given .1),
-    )
+    let at-find = c .before .before .before .before .before .before .before in
+    (valid (at-find .before .before .before .before .before .before .before), all-found (led (at-find .before .before)) (at-find .find-sheets .result) (at-find .find-sheets .ensures) _ _ (c .before .before .before .found .given .1))
 
 same-length-2 : tie.Need-same-length-2
 same-length-2 c = search needs
@@ -81,9 +90,9 @@ same-length-3 c = search needs
 
 returns-5 : tie.Need-returns-5
 returns-5 c =
-    roll-listed (c .before .before .before .before .before .before .before .before .before .before .before .before .before .before .before .before .before .before .before .before .before .before .before .before .before .before .before .args .table .now) (c .before .before .before .before .before .before .before .before .before .before .before .before .before .before .before .before .before .before .before .before .before .before .before .before .before .before .before .args .roll .now) _ _ (omega (arith, c .before .before .before .before .before .before .before .before .before .before .before .before .before .before .before .before .before .before .before .before .before .before .if1 .left))
-    (accepted-valid _ _ _ _ (c .before .before .before .before .before .before .before .before .before .before .before .before .before .before .before .before .before .before .before .before .before .read .ensures) (c .before .before .before .before .before .before .before .before .before .before .before .before .before .before .before .before .before .before .before .enum-told .given .1)) (c .before .before .before .before .before .before .before .before .before .before .before .before .before .before .before .before .before .before .next-boundary .result) (c .before .before .before .before .before .before .before .before .before .before .before .before .before .before .before .before .before .before .next-boundary .ensures) (c .before .before .before .before .before .before .before .before .before .before .before .before .before .before .before .before .read-rest .result) (c .before .before .before .before .before .before .before .before .before .before .before .before .before .before .before .before .read-rest .ensures)
-    _ _ _ (c .before .before .before .before .before .before .before .before .before .before .before .before .before .before .enum-told3 .given .1) (c .before .before .before .before .before .before .before .before .before .before .before .before .find-sheets .result) _ (c .before .before .before .before .before .before .before .before .before .before .before .before .find-sheets .ensures) _ _ (c .before .before .before .before .before .before .before .before .found .given .1) (c .before .before .before .before .read-sheets .ensures)
+    let at-find = c .before .before .before .before .before .before .before .before .before .before .before .before in
+    roll-listed (led (at-find .before .before)) (at-find .find-sheets .result) (at-find .find-sheets .ensures) _ _ (c .before .before .before .before .before .before .before .before .found .given .1) _
+    (c .before .before .before .before .read-sheets .ensures)
 
 pub list-spec : {M : Type 1} → statement M
 list-spec =

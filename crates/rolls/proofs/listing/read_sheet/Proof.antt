@@ -10,16 +10,24 @@ use Rattle.rolls.proofs.listing.read_sheet.Statement.{statement}
 use Rattle.rolls.proofs.listing.read_sheet.Tie as tie
 
 cast-t25 : tie.Need-cast-t25
-cast-t25 c = omega (arith, small-place (c .before .before .before .before .before .before .before .before .before .before .before .before .before .before .args .table .now) _ (c .before .before .before .before .before .before .before .before .before .before .before .before .before .before .args .cells .now) _ _ (c .before .before .before .before .before .before .before .before .before .before .before .before .before .before .pre .0) (c .before .before .before .before .before .read-under .ensures))
+cast-t25 c =
+    let top = c .before .before .before .before .before .before .before .before .before .before .before .before .before .before in
+    omega (arith, small-place (top .args .table .now) _ (top .args .cells .now) _ _ (top .pre .0) (c .before .before .before .before .before .read-under .ensures))
 
 cast-t26 : tie.Need-cast-t26
-cast-t26 c = omega (arith, small-count (c .before .before .before .before .before .before .before .before .before .before .before .before .before .before .before .args .table .now) _ (c .before .before .before .before .before .before .before .before .before .before .before .before .before .before .before .args .cells .now) _ _ (c .before .before .before .before .before .before .before .before .before .before .before .before .before .before .before .pre .0) (c .before .before .before .before .before .before .read-under .ensures))
+cast-t26 c =
+    let top = c .before .before .before .before .before .before .before .before .before .before .before .before .before .before .before in
+    omega (arith, small-count (top .args .table .now) _ (top .args .cells .now) _ _ (top .pre .0) (c .before .before .before .before .before .before .read-under .ensures))
 
 returns : tie.Need-returns
 returns c =
+    let at-number = c .before .before .before .before .before in
+    let at-under = at-number .before .before .before .before in
+    let top = at-under .before .before .before .before .before .before .before .before .before in
     c .before .before .put .ensures
-    ∙ ap (λ (e : Record). layRecords (c .before .before .before .before .before .before .before .before .before .before .before .before .before .before .before .before .before .before .args .records .now) (c .before .before .before .before .before .before .before .before .before .before .before .before .before .before .before .before .before .before .args .n) (e ∷ []))
-    (record-read (c .before .before .before .before .before .before .before .before .before .before .before .before .before .before .before .before .before .before .args .table .now) _ (c .before .before .before .before .before .before .before .before .before .before .before .before .before .before .before .before .before .before .args .cells .now) _ _ (c .before .before .before .before .before .before .before .before .before .before .before .before .before .before .before .before .before .before .pre .0) (c .before .before .before .before .before .before .before .before .before .read-under .ensures) _ _ _ _ _ (c .before .before .before .before .before .number .ensures) (c .before .before .before .before .place .ensures) (c .before .before .before .count .ensures))
+    ∙ ap (λ (e : Record). layRecords (top .args .records .now) (top .args .n) (e ∷ []))
+    (record-read (top .args .table .now) _ (top .args .cells .now) _ _ (top .pre .0) (at-under .read-under .ensures) _ _ _ _ _
+    (at-number .number .ensures) (c .before .before .before .before .place .ensures) (c .before .before .before .count .ensures))
 
 pub read-sheet-spec : {M : Type 1} → statement M
 read-sheet-spec =

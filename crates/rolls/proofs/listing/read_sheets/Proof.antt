@@ -28,10 +28,12 @@ loop-less : tie.Need-loop-less Inv-loop μ-loop
 loop-less c = omega arith
 
 loop-again : tie.Need-loop-again Inv-loop μ-loop
-loop-again c = (
-  read-turn (c .before .before .before .before .before .before .before .before .loop .inv .0) (c .before .before .before .before .before .before .before .loop-test .taken) _ (c .before .before .before .before .before .before .before .before .loop .inv .1) (c .before .before .before .before .read-sheet .ensures),
-  c .before .before .before .before .read-sheet .kept .1 .1 .1 .1 .0 ∙ c .before .before .before .before .before .before .before .before .loop .inv .1,
-)
+loop-again c =
+    let at-read = c .before .before .before .before in
+    let so-far = at-read .before .before .before .before .loop .inv in (
+      read-turn (so-far .0) (at-read .before .before .before .loop-test .taken) _ (so-far .1) (at-read .read-sheet .ensures),
+      at-read .read-sheet .kept .1 .1 .1 .1 .0 ∙ so-far .1,
+    )
 
 same-length : tie.Need-same-length Inv-loop μ-loop
 same-length c = c .before .loop .inv .0 .long
