@@ -60,12 +60,12 @@ records-in table lent (parts lead sheets) = records-many table lent (length lead
 
 -- ---- the faults, in their order
 
-module _ (table r : List ℕ) (lent : ℕ) (records : List ℕ) where
-  abbrev faults : Told
-  faults = rollFaults table (rollRoom (length records)) r (partsOf r)
+abbrev faults : List ℕ → List ℕ → List ℕ → Told
+faults table r records = rollFaults table (rollRoom (length records)) r (partsOf r)
 
+module _ (table r : List ℕ) (lent : ℕ) (records : List ℕ) where
   -- a refusal says nothing of the cells
-  refuses : {answer : Told} {after : List ℕ} → answer ≡ faults → (answer .number ≡ 0 → ⊥) → Lists table r lent records answer after
+  refuses : {answer : Told} {after : List ℕ} → answer ≡ faults table r records → (answer .number ≡ 0 → ⊥) → Lists table r lent records answer after
   refuses e h = record { says = e; counts = λ z. absurd (h z); laid = λ z. absurd (h z) }
 
   pub roll-long : {after : List ℕ} → rollLimit < length r → Lists table r lent records (refused 13 rollLimit) after
@@ -87,21 +87,21 @@ module _ (table r : List ℕ) (lent : ℕ) (records : List ℕ) where
 -- the first boundary stands at a place, and it is left to count the sheets from there on
 pub record Led (table r records : List ℕ) (first : ℕ) : Type 0 where
   pub boundary : BoundaryFrom r 0 first
-  pub counted : countedFrom (rollRoom (length records)) r first (sheetsFrom r first) ≡ rollFaults table (rollRoom (length records)) r (partsOf r)
+  pub counted : countedFrom (rollRoom (length records)) r first (sheetsFrom r first) ≡ faults table r records
 
 -- how long what stands before it is
 lead-long : {r : List ℕ} {first : ℕ} → BoundaryFrom r 0 first → length (take first r) ≡ first
 lead-long {r} {first} b = length-take-le first r (b .begins .inside)
 
 -- what stands before the first boundary
-module _ (table r : List ℕ) (lent : ℕ) (records : List ℕ) (h : length r ≤ rollLimit) (v : Valid table) {first : ℕ} (b : BoundaryFrom r 0 first) (lead : Part)
+module _ (table r records : List ℕ) (h : length r ≤ rollLimit) (v : Valid table) {first : ℕ} (b : BoundaryFrom r 0 first) (lead : Part)
     (e : seen lead ≡ passed (take first r) (onlyBlanks (take first r))) where
-  pub lead-bad : {after : List ℕ} (why : Refusal) (place : ℕ) → lead ≡ NotRead why place → Lists table r lent records (refused 14 place) after
+  pub lead-bad : (lent : ℕ) {after : List ℕ} (why : Refusal) (place : ℕ) → lead ≡ NotRead why place → Lists table r lent records (refused 14 place) after
   unfolding rollFaults
-  lead-bad why place q = refuses table r lent records (go (onlyBlanks (take first r)) refl (sym (ap seen q) ∙ e)) (λ z. omega arith)
+  lead-bad lent why place q = refuses table r lent records (go (onlyBlanks (take first r)) refl (sym (ap seen q) ∙ e)) (λ z. omega arith)
     where
       go : (x : Found (List ℕ)) → onlyBlanks (take first r) ≡ x → seen (NotRead why place) ≡ passed (take first r) x
-          → refused 14 place ≡ faults table r lent records
+          → refused 14 place ≡ faults table r records
       go (found bs left) f g = absurd (number-positive why (ap (λ (s : Seen). s .number) g))
       go (fault n left) f g =
           rw (roll-parts b, le-ltb rollLimit (length r) h, rollFaults, v, f) (ap (refused 14) (ap (λ (s : Seen). s .place) g))
@@ -111,7 +111,7 @@ module _ (table r : List ℕ) (lent : ℕ) (records : List ℕ) (h : length r �
   lead-good end made own q = record { boundary = b; counted = go (onlyBlanks (take first r)) refl (sym (ap seen q) ∙ e) }
     where
       go : (x : Found (List ℕ)) → onlyBlanks (take first r) ≡ x → seen (Read end made own) ≡ passed (take first r) x
-          → countedFrom (rollRoom (length records)) r first (sheetsFrom r first) ≡ faults table r lent records
+          → countedFrom (rollRoom (length records)) r first (sheetsFrom r first) ≡ faults table r records
       go (found bs left) f g =
           ap (λ (n : ℕ). countedFrom (rollRoom (length records)) r n (sheetsFrom r first)) (sym (lead-long b))
           ∙ rw (roll-parts b, le-ltb rollLimit (length r) h, rollFaults, v, f)

@@ -8,9 +8,6 @@ use lib.ListN.{length, drop}
 use Rattle.paper.specs.Roll.{isBoundary, Parts, parts, partsFrom, partsOf}
 use Rattle.lines.specs.Parts.{part}
 
-abbrev pub leadIn : Parts → List ℕ
-leadIn (parts lead sheets) = lead
-
 abbrev pub sheetsIn : Parts → List (List ℕ)
 sheetsIn (parts lead sheets) = sheets
 

@@ -38,7 +38,8 @@ returns-2 : tie.Need-returns-2 Inv-loop μ-loop
 returns-2 c =
     record {
       passes =
-          passes-then (c .before .before .before .before .before .loop .inv) (passes-then (text-passes _ _ _ (c .before .before .before .end .ensures)) (line-passes _ _ (omega arith) (c .if2 .taken)));
+          passes-then (c .before .before .before .before .before .loop .inv)
+          (passes-then (text-passes _ _ _ (c .before .before .before .end .ensures)) (line-passes _ _ (omega arith) (c .if2 .taken)));
       further = λ h. omega arith;
     }
 

@@ -14,11 +14,15 @@ valid : (c : tie.After-enum-told) → Valid (c .before .before .before .before .
 valid c = accepted-valid _ _ _ _ (c .before .before .read .ensures) (c .enum-told .given .1)
 
 -- and what stands before the first boundary
-led : (c : tie.After-enum-told3) → Led (c .before .before .before .before .before .before .before .before .before .before .before .before .before .args .table .now) (c .before .before .before .before .before .before .before .before .before .before .before .before .before .args .roll .now) (c .before .before .before .before .before .before .before .before .before .before .before .before .before .args .records .now) (c .before .before .before .before .next-boundary .result)
+led : (c : tie.After-enum-told3)
+    → Led (c .before .before .before .before .before .before .before .before .before .before .before .before .before .args .table .now)
+    (c .before .before .before .before .before .before .before .before .before .before .before .before .before .args .roll .now)
+    (c .before .before .before .before .before .before .before .before .before .before .before .before .before .args .records .now)
+    (c .before .before .before .before .next-boundary .result)
 led c =
     let at-boundary = c .before .before .before .before in
     let top = at-boundary .before .before .before .before .before .before .before .before .before in
-    lead-good (top .args .table .now) (top .args .roll .now) 0 _ (omega (arith, at-boundary .before .before .before .before .if1 .left))
+    lead-good (top .args .table .now) (top .args .roll .now) _ (omega (arith, at-boundary .before .before .before .before .if1 .left))
     (valid (at-boundary .before)) (at-boundary .next-boundary .ensures) _ (c .before .before .read-rest .ensures) _ _ _ (c .enum-told3 .given .1)
 
 returns : tie.Need-returns
@@ -42,7 +46,8 @@ next-boundary-requires : tie.Need-next-boundary-requires
 next-boundary-requires c κs = search needs
 
 slice-aggregate-read-rest : tie.Need-slice-aggregate-read-rest
-slice-aggregate-read-rest c = sym (length-take-le _ _ (c .before .next-boundary .ensures .begins .inside))
+slice-aggregate-read-rest c =
+    sym (length-take-le _ _ (c .before .next-boundary .ensures .begins .inside))
 
 read-rest-requires : tie.Need-read-rest-requires
 read-rest-requires c κs = search needs
@@ -54,14 +59,17 @@ returns-3 : tie.Need-returns-3
 returns-3 c =
     let at-boundary = c .before .before .before .before .before in
     let top = at-boundary .before .before .before .before .before .before .before .before .before in
-    lead-bad (top .args .table .now) (top .args .roll .now) _ _ (omega (arith, at-boundary .before .before .before .before .if1 .left))
-    (valid (at-boundary .before)) (at-boundary .next-boundary .ensures) _ (c .before .before .before .read-rest .ensures) _ _ (c .before .place .given .1)
+    lead-bad (top .args .table .now) (top .args .roll .now) _ (omega (arith, at-boundary .before .before .before .before .if1 .left))
+    (valid (at-boundary .before)) (at-boundary .next-boundary .ensures) _ (c .before .before .before .read-rest .ensures) _ _ _ (c .before .place .given .1)
 
 enum-told-3 : tie.Need-enum-told-3
 enum-told-3 c = search needs
 
 find-sheets-requires : tie.Need-find-sheets-requires
-find-sheets-requires c κs = (omega (arith, c .before .before .before .before .before .before .before .before .before .if1 .left), c .before .before .before .before .before .next-boundary .ensures .begins)
+find-sheets-requires c κs = (
+  omega (arith, c .before .before .before .before .before .before .before .before .before .if1 .left),
+  c .before .before .before .before .before .next-boundary .ensures .begins,
+)
 
 enum-known-found : tie.Need-enum-known-found
 enum-known-found c = search needs
@@ -80,7 +88,10 @@ returns-4 c =
 read-sheets-requires : tie.Need-read-sheets-requires
 read-sheets-requires c κs =
     let at-find = c .before .before .before .before .before .before .before in
-    (valid (at-find .before .before .before .before .before .before .before), all-found (led (at-find .before .before)) (at-find .find-sheets .result) (at-find .find-sheets .ensures) _ _ (c .before .before .before .found .given .1))
+    let at-blank = at-find .before .before in (
+      valid (at-blank .before .before .before .before .before),
+      all-found (led at-blank) (at-find .find-sheets .result) (at-find .find-sheets .ensures) _ _ (c .before .before .before .found .given .1),
+    )
 
 same-length-2 : tie.Need-same-length-2
 same-length-2 c = search needs
@@ -91,8 +102,8 @@ same-length-3 c = search needs
 returns-5 : tie.Need-returns-5
 returns-5 c =
     let at-find = c .before .before .before .before .before .before .before .before .before .before .before .before in
-    roll-listed (led (at-find .before .before)) (at-find .find-sheets .result) (at-find .find-sheets .ensures) _ _ (c .before .before .before .before .before .before .before .before .found .given .1) _
-    (c .before .before .before .before .read-sheets .ensures)
+    roll-listed (led (at-find .before .before)) (at-find .find-sheets .result) (at-find .find-sheets .ensures) _ _
+    (c .before .before .before .before .before .before .before .before .found .given .1) _ (c .before .before .before .before .read-sheets .ensures)
 
 pub list-spec : {M : Type 1} → statement M
 list-spec =
