@@ -1,8 +1,8 @@
-/* cdx.h: reading Codex sheets (.cdx), for C.
+/* cdx.h: reading Codex sheets (.cdx) and writing their canonical form, for C.
  *
  * Link with libgateway.a. Every function takes any bytes and any room: there is nothing to check before a call, and a call
- * neither allocates nor keeps anything. What is lent must be there for its whole length, and what a function writes (cells, answer)
- * must not overlap anything else that is lent in the same call.
+ * neither allocates nor keeps anything. What is lent must be there for its whole length, and what a function writes (cells, out,
+ * answer) must not overlap anything else that is lent in the same call.
  *
  * A pointer may not be null, also where its length is 0.
  */
@@ -46,8 +46,8 @@ enum cdx_number {
     CDX_CUT = 9,            /* the input ends before the root is closed */
     CDX_TOO_DEEP = 10,      /* more than CDX_MAX_CONCEPTS Concepts or CDX_MAX_LISTS lists in one another */
     CDX_NO_ENTRY_LEFT = 11, /* more entries than CDX_MAX_ENTRIES, or than there are cells lent for */
-    /* 12 to 16 are for canonical forms and rolls, and none of the functions below gives them: */
-    CDX_NO_ROOM = 12,         /* the canonical form, or the roll with it, is too long */
+    CDX_NO_ROOM = 12,       /* the canonical form has more than CDX_MAX_SHEET bytes, or than there is room lent for */
+    /* 13 to 16 are for rolls, and none of the functions below gives them: */
     CDX_ROLL_TOO_LONG = 13,   /* the roll has more than CDX_MAX_ROLL bytes */
     CDX_BEFORE_BOUNDARY = 14, /* something stands before a roll's first sheet, or a roll to be added to does not end with a line end */
     CDX_TOO_MANY_SHEETS = 15, /* more sheets in a roll than CDX_MAX_SHEETS, or than there are records lent for */
@@ -108,6 +108,13 @@ void cdx_sheet(const uint8_t *table, size_t table_len, const uint8_t *sheet, siz
  * answer: CDX_OK, and where the part starts and ends in the sheet; or CDX_VIEW, 0 and 0, where the entry lies not wholly in the
  * cells, has no kind, or its span is reversed or ends outside of the sheet. */
 void cdx_view(const uint8_t *sheet, size_t sheet_len, const uint32_t *cells, size_t cells_len, uint64_t entry, uint32_t answer[3]);
+
+/* Writes the canonical form of a sheet that reads without refusal. The cells are lent to the reading, as to cdx_sheet, and are all 0
+ * after every answer. A form of more than CDX_MAX_SHEET bytes is refused, so that more room than that is of no use.
+ * answer: CDX_OK, 0 and how many bytes were written, from the first of out on; those behind them are as they came. Or the number of a
+ * refusal, its place and 0: as cdx_sheet answers, and where it accepts CDX_NO_ROOM, 0 and 0. Then all of out is as it came. */
+void cdx_write(const uint8_t *table, size_t table_len, const uint8_t *sheet, size_t sheet_len, uint32_t *cells, size_t cells_len,
+               uint8_t *out, size_t out_len, uint32_t answer[3]);
 
 #ifdef __cplusplus
 }

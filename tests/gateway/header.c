@@ -11,6 +11,7 @@ static char text[2 * CDX_MAX_SHEET]; /* a sheet or a table in the making */
 static size_t length;
 static uint32_t cells[CDX_MAX_CELLS + CDX_CELLS]; /* an entry more than is allowed */
 static const size_t cells_len = sizeof cells / sizeof *cells;
+static uint8_t out[2 * CDX_MAX_SHEET];
 static int status;
 
 static void add(const char *part, size_t times)
@@ -45,12 +46,28 @@ static void table_is(enum cdx_number due, const char *what)
     length = 0;
 }
 
+/* Writes the form of the sheet in the making to so much room, and begins anew. */
+static void form_is(enum cdx_number due, size_t room, const char *what)
+{
+    uint32_t answer[CDX_ANSWER];
+    cdx_write((const uint8_t *)lab, sizeof lab - 1, (const uint8_t *)text, length, cells, cells_len, out, room, answer);
+    if (answer[0] != due)
+        wrong(what, due, answer[0]);
+    length = 0;
+}
+
+/* A sheet of so many bytes, most of them Content. Its canonical form has a line end more. */
+static void add_steps(size_t bytes)
+{
+    add("<Steps>\n\t", 1);
+    add("x", bytes - strlen("<Steps>\n\t\n</Steps>"));
+    add("\n</Steps>", 1);
+}
+
 /* At the limit `past` is 0, and one past it 1. */
 static void add_sheet(size_t past)
 {
-    add("<Steps>\n\t", 1);
-    add("x", CDX_MAX_SHEET + past - strlen("<Steps>\n\t\n</Steps>"));
-    add("\n</Steps>", 1);
+    add_steps(CDX_MAX_SHEET + past);
 }
 
 static void add_entries(size_t past) /* Concept, trait and items */
@@ -137,6 +154,21 @@ static void try_refusals(void)
         wrong("CDX_VIEW", CDX_VIEW, answer[0]);
 }
 
+static void try_forms(void)
+{
+    static const char form[] = "<Lab />\n";
+    for (size_t room = 0; room <= sizeof form; room++) {
+        add("<Lab/>", 1);
+        form_is(room < strlen(form) ? CDX_NO_ROOM : CDX_OK, room, "the room of a form");
+    }
+    if (memcmp(out, form, strlen(form)) != 0)
+        wrong("a form", (unsigned char)form[0], out[0]);
+    add_steps(CDX_MAX_SHEET - 1);
+    form_is(CDX_OK, sizeof out, "a form of CDX_MAX_SHEET bytes");
+    add_steps(CDX_MAX_SHEET);
+    form_is(CDX_NO_ROOM, sizeof out, "a form of more than CDX_MAX_SHEET bytes");
+}
+
 /* An entry of the sheet that was read last: number, kind, form, parent and count. */
 static void entry_is(size_t number, enum cdx_kind kind, unsigned form, uint32_t parent, unsigned count)
 {
@@ -176,6 +208,7 @@ int main(void)
 {
     try_limits();
     try_refusals();
+    try_forms();
     try_entries();
     if (status == 0)
         puts("the limits, refusals, kinds and forms of include/cdx.h are the library's");

@@ -3,7 +3,7 @@
 use Prim.Native.Nat.{ℕ}
 use mathlib.Core.Path.{_≡_, sym, _∙_}
 use mathlib.Core.List.{List}
-use Rattle.gateway.specs.Promises.{TellsTable, TellsSheet, TellsView}
+use Rattle.gateway.specs.Promises.{TellsTable, TellsSheet, TellsView, TellsForm}
 
 pub one-answer-cdx-table : (table answer answer′ : List ℕ) → TellsTable table answer → TellsTable table answer′ → answer ≡ answer′
 one-answer-cdx-table table answer answer′ e e′ = e ∙ sym e′
@@ -15,3 +15,8 @@ one-answer-cdx-sheet table sheet lent cells cells′ answer answer′ p q = (p .
 pub one-answer-cdx-view : (sheet cells : List ℕ) (entry : ℕ) (answer answer′ : List ℕ) → TellsView sheet cells entry answer → TellsView sheet cells entry answer′
     → answer ≡ answer′
 one-answer-cdx-view sheet cells entry answer answer′ e e′ = e ∙ sym e′
+
+pub one-answer-cdx-write : (table sheet : List ℕ) (lent : ℕ) (out : List ℕ) (cells cells′ after after′ answer answer′ : List ℕ)
+    → TellsForm table sheet lent out cells after answer → TellsForm table sheet lent out cells′ after′ answer′
+    → (cells ≡ cells′) × (after ≡ after′) × (answer ≡ answer′)
+one-answer-cdx-write table sheet lent out cells cells′ after after′ answer answer′ p q = (p .0 ∙ sym (q .0), p .1 ∙ sym (q .1), p .2 ∙ sym (q .2))

@@ -5,6 +5,7 @@ use mathlib.Core.Path.{_≡_}
 use mathlib.Core.List.{List}
 use Rattle.paper.specs.Modes.{readTable}
 use Rattle.paper.specs.Reading.{reading}
+use Rattle.paper.specs.Writing.{writing}
 use Rattle.gateway.specs.Answers.{threeOf, viewOf}
 
 -- `cdx_table` writes this answer for a table
@@ -18,3 +19,8 @@ TellsSheet table sheet lent cells answer = (cells ≡ reading table sheet lent .
 -- `cdx_view` writes this answer for an entry
 abbrev pub TellsView : List ℕ → List ℕ → ℕ → List ℕ → Type 0
 TellsView sheet cells entry answer = answer ≡ viewOf sheet cells entry
+
+-- `cdx_write` leaves these cells, of which so many are lent, makes this output of the one that came, and writes this answer
+abbrev pub TellsForm : List ℕ → List ℕ → ℕ → List ℕ → List ℕ → List ℕ → List ℕ → Type 0
+TellsForm table sheet lent out cells after answer =
+    (cells ≡ writing table sheet lent out .cells) × (after ≡ writing table sheet lent out .out) × (answer ≡ threeOf (writing table sheet lent out .answer))

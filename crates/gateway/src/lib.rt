@@ -1,6 +1,7 @@
 // The C interface: the public functions for programs that are not written in Rattle.
 // Document 01, "Refusal numbers" and the answers of "Order"; include/cdx.h declares these functions for C.
 use entries::get;
+use layout::write;
 use paper::Answer;
 use sheets::read;
 use sheets::view_answer;
@@ -8,7 +9,7 @@ ghost use mathlib.Core.Path.{_≡_};
 ghost use lib.ListN.{length};
 ghost use Rattle.paper.specs.Answer.{told};
 ghost use Rattle.gateway.specs.Answers.{Few, threeOf};
-ghost use Rattle.gateway.specs.Promises.{TellsTable, TellsSheet, TellsView};
+ghost use Rattle.gateway.specs.Promises.{TellsTable, TellsSheet, TellsView, TellsForm};
 
 // Reads a mode table. The answer is number, place and count.
 #[no_mangle]
@@ -39,6 +40,22 @@ pub extern "C" fn cdx_view(sheet: &[u8], cells: &[u32], entry: u64, answer: &mut
     }
     let laid = get(cells, entry as usize);
     *answer = [0, laid.start, laid.end];
+}
+
+// Writes the canonical form of a sheet that reads without refusal to the room lent, and leaves all behind it as it came; a refusal
+// leaves all of it. The cells are lent to the reading, and zero after every answer. The answer is number, place and bytes written.
+#[no_mangle]
+pub extern "C" fn cdx_write(
+    table: &[u8],
+    sheet: &[u8],
+    cells: &mut [u32],
+    out: &mut [u8],
+    answer: &mut [u32; 3],
+)
+    ensures { λ _. ⌜ TellsForm (now (table .entry)) (now (sheet .entry)) (length (now (cells .entry))) (now (out .entry))
+        (now (cells .exit)) (now (out .exit)) (now (answer .exit)) ⌝ }
+{
+    tell(write(table, sheet, cells, out), answer);
 }
 
 // Writes an answer's number, place and count. They are small enough for an answer's cells.
