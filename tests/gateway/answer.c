@@ -1,8 +1,8 @@
 /* Answers requests on standard input, one a line, with the functions of libgateway.a. The lines are those of
- * tests/independent/README.md, without `form`, so that the answers of both programs can be compared as text.
+ * tests/independent/README.md, so that the answers of both programs can be compared as text.
  *
- * A call gets copies of the request's bytes and cells, and cells and an answer full of junk, each between guards. A call that
- * changes what it may not has a line that begins with `broken` for its answer.
+ * A call gets copies of the request's bytes and cells, and cells, an output and an answer full of junk, each between guards. A call that
+ * changes what it may not, or leaves what it may not, has a line that begins with `broken` for its answer.
  *
  * Status 0, or 2 where a line could not be read, an answer not be written, or there is no memory. */
 #define _POSIX_C_SOURCE 200809L
@@ -30,7 +30,7 @@ static void *memory(size_t size)
 
 /* ---- Loans */
 
-enum { GUARD = 64, JUNK = 0xA5 };
+enum { GUARD = 64 };
 
 /* `size` bytes to lend, between two guards of GUARD bytes, and all these bytes as they were before the call. */
 struct loan {
@@ -39,6 +39,13 @@ struct loan {
     size_t size;
 };
 
+/* Bytes that look like nothing that is written, and like no neighbour of theirs. */
+static void fill_with_junk(uint8_t *bytes, size_t size)
+{
+    for (size_t at = 0; at < size; at++)
+        bytes[at] = (uint8_t)(0xA5 + 7 * at);
+}
+
 /* Lends a copy of the bytes, or junk where they are NULL. */
 static struct loan lend(const void *bytes, size_t size)
 {
@@ -46,7 +53,7 @@ static struct loan lend(const void *bytes, size_t size)
         fail("no memory left");
     size_t whole = GUARD + size + GUARD;
     struct loan loan = {memory(whole), memory(whole), size};
-    memset(loan.block, JUNK, whole);
+    fill_with_junk(loan.block, whole);
     if (bytes != NULL)
         memcpy(loan.block + GUARD, bytes, size);
     memcpy(loan.before, loan.block, whole);
@@ -77,9 +84,16 @@ static bool guards_kept(struct loan loan)
     return memcmp(loan.block, loan.before, GUARD) == 0 && memcmp(loan.block + behind, loan.before + behind, GUARD) == 0;
 }
 
+/* Whether all from this byte of the loan on is as it was, and its guards too. */
+static bool kept_from(struct loan loan, size_t first)
+{
+    size_t at = GUARD + first;
+    return guards_kept(loan) && memcmp(loan.block + at, loan.before + at, loan.size - first) == 0;
+}
+
 static bool all_kept(struct loan loan)
 {
-    return memcmp(loan.block, loan.before, GUARD + loan.size + GUARD) == 0;
+    return kept_from(loan, 0);
 }
 
 static void give_back(struct loan loan)
@@ -217,6 +231,57 @@ static void answer_sheet(struct input table, struct input sheet, size_t lent)
     give_back(answer);
 }
 
+static void print_bytes(const uint8_t *bytes, size_t size)
+{
+    printf(" %s", size == 0 ? "-" : "");
+    for (size_t at = 0; at < size; at++)
+        printf("%02x", bytes[at]);
+}
+
+/* Number, place, count, and the form, which is empty where it is refused. Behind the form the output must be as it came. */
+static void print_form(const uint32_t answer[CDX_ANSWER], struct loan out)
+{
+    if (answer[2] > out.size)
+        printf("broken: cdx_write says that it wrote %u bytes to room for %zu", (unsigned)answer[2], out.size);
+    else if (!kept_from(out, answer[2]))
+        printf("broken: cdx_write changed more of the output than the %u bytes of its answer", (unsigned)answer[2]);
+    else {
+        print_answer(answer);
+        print_bytes(bytes_of(out), answer[2]);
+    }
+}
+
+static bool all_zero(const uint32_t *cells, size_t count)
+{
+    while (count > 0 && cells[count - 1] == 0)
+        count--;
+    return count == 0;
+}
+
+static void answer_form(struct input table, struct input sheet, size_t lent, size_t room)
+{
+    struct loan lent_table = lend(table.items, table.count), lent_sheet = lend(sheet.items, sheet.count);
+    struct loan cells = lend_cells(NULL, lent), out = lend(NULL, room), answer = lend_cells(NULL, CDX_ANSWER);
+    cdx_write(bytes_of(lent_table), table.count, bytes_of(lent_sheet), sheet.count, cells_of(cells), lent, bytes_of(out), room, cells_of(answer));
+    if (!all_kept(lent_table))
+        printf("broken: cdx_write changed the table or its guards");
+    else if (!all_kept(lent_sheet))
+        printf("broken: cdx_write changed the sheet or its guards");
+    else if (!guards_kept(cells))
+        printf("broken: cdx_write wrote outside of the cells");
+    else if (!all_zero(cells_of(cells), lent))
+        printf("broken: cdx_write left a cell that is not zero");
+    else if (!guards_kept(answer))
+        printf("broken: cdx_write wrote outside of the answer");
+    else
+        print_form(cells_of(answer), out);
+    give_back(lent_table);
+    give_back(lent_sheet);
+    give_back(cells);
+    give_back(out);
+    give_back(answer);
+}
+
 /* Number, 0, the part's length, and the part; a refusal is printed as it came, with no part. */
 static void print_part(const uint32_t answer[CDX_ANSWER], struct input sheet)
 {
@@ -227,9 +292,8 @@ static void print_part(const uint32_t answer[CDX_ANSWER], struct input sheet)
     } else if (start > end || end > sheet.count) {
         printf("broken: cdx_view named the part from %u to %u", (unsigned)start, (unsigned)end);
     } else {
-        printf("0 0 %u %s", (unsigned)(end - start), start == end ? "-" : "");
-        for (uint32_t at = start; at < end; at++)
-            printf("%02x", ((const uint8_t *)sheet.items)[at]);
+        printf("0 0 %u", (unsigned)(end - start));
+        print_bytes((const uint8_t *)sheet.items + start, end - start);
     }
 }
 
@@ -251,17 +315,28 @@ static void answer_view(struct input sheet, uint64_t entry, struct input cells)
     give_back(answer);
 }
 
+/* The room of a form, which is the longest form's unless the request gives it as its last word. */
+static bool read_room(char **rest, uint64_t *room)
+{
+    const char *word = next_word(rest);
+    *room = CDX_MAX_SHEET;
+    return *word == 0 || (read_number(word, SIZE_MAX, room) && *next_word(rest) == 0);
+}
+
 /* Answers the request that stands in the line, or says that there is none. */
 static void answer_line(char *line)
 {
     struct input first = {NULL, 0}, second = {NULL, 0};
-    uint64_t number;
+    uint64_t number, room;
     const char *kind = next_word(&line);
     if (strcmp(kind, "table") == 0 && read_bytes(next_word(&line), &first) && *next_word(&line) == 0)
         answer_table(first);
     else if (strcmp(kind, "sheet") == 0 && read_bytes(next_word(&line), &first) && read_bytes(next_word(&line), &second) &&
              read_number(next_word(&line), SIZE_MAX, &number) && *next_word(&line) == 0)
         answer_sheet(first, second, (size_t)number);
+    else if (strcmp(kind, "form") == 0 && read_bytes(next_word(&line), &first) && read_bytes(next_word(&line), &second) &&
+             read_number(next_word(&line), SIZE_MAX, &number) && read_room(&line, &room))
+        answer_form(first, second, (size_t)number, (size_t)room);
     else if (strcmp(kind, "view") == 0 && read_bytes(next_word(&line), &first) &&
              read_number(next_word(&line), UINT64_MAX, &number) && read_cells(&line, &second))
         answer_view(first, number, second);

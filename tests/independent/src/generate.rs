@@ -68,7 +68,7 @@ fn add_sheet(lines: &mut Vec<String>, chance: &mut Chance, table: &[u8], sheet: 
     if !chance.one_in(4) {
         lines.push(format!("form {rest}"));
     }
-    if chance.one_in(8) {
+    if chance.one_in(4) {
         lines.push(format!("form {rest} {}", random_room(chance, table, sheet)));
     }
     if chance.one_in(8) {
@@ -76,10 +76,11 @@ fn add_sheet(lines: &mut Vec<String>, chance: &mut Chance, table: &[u8], sheet: 
     }
 }
 
-/// Room for a form: exactly enough, one byte too few, or more than any form may take.
+/// Room for a form: exactly enough, one byte too few, fewer, some more, or more than any form may take.
 fn random_room(chance: &mut Chance, table: &[u8], sheet: &[u8]) -> usize {
     let enough = write_form(table, sheet, PLENTY, SHEET_BYTES).0.count;
-    *chance.pick(&[&enough, &enough.saturating_sub(1), &(4 * SHEET_BYTES)])
+    let (fewer, more) = (chance.below(enough + 1), enough + 1 + chance.below(40));
+    *chance.pick(&[&enough, &enough, &enough.saturating_sub(1), &enough.saturating_sub(1), &fewer, &more, &(4 * SHEET_BYTES)])
 }
 
 /// A view of some entry or of none, at times over cells of which one was changed or the last were taken away.
@@ -298,13 +299,15 @@ fn random_byte(chance: &mut Chance) -> u8 {
 /// A sheet at or just past one of the limits of "Sizes", with more room for its form than any form may take.
 fn add_limit(lines: &mut Vec<String>, chance: &mut Chance, longest: usize) {
     let over = chance.below(2);
-    let sheet = match chance.below(7) {
+    let sheet = match chance.below(10) {
         0 => format!("<Lab {}=1/>", "n".repeat(NAME_BYTES + over)),
         1 => format!("<L{}/>", "a".repeat(NAME_BYTES - 1 + over)),
         2 => format!("<Lab n={}1{} />", "[".repeat(LISTS_DEEP + over), "]".repeat(LISTS_DEEP + over)),
         3 => nested(CONCEPTS_DEEP + over),
         4 => format!("<Lab>\n{}</Lab>", "<Lab/>\n".repeat(ENTRIES - 1 + over)),
         5 => of_length(SHEET_BYTES + over),
+        6 | 7 => of_deeper_content(1 + chance.below(CONCEPTS_DEEP - 1), SHEET_BYTES + over),
+        8 => of_escapes(SHEET_BYTES + over),
         _ => of_length(SHEET_BYTES - 1 + over) + "\n",
     };
     let table = Names::papers().table();
@@ -323,6 +326,22 @@ fn nested(depth: usize) -> String {
 fn of_length(length: usize) -> String {
     let frame = "<Steps>\n\t\n</Steps>".len();
     format!("<Steps>\n\t{}\n</Steps>", "x".repeat(length - frame))
+}
+
+/// A sheet whose form has `length` bytes, since Content that stands at the first column goes `depth` tabs deeper.
+fn of_deeper_content(depth: usize, length: usize) -> String {
+    let frame: usize = (0..depth).map(|tabs| 2 * tabs + "<Lab>\n</Lab>\n".len()).sum::<usize>() + 2 * depth + "<Steps>\n</Steps>\n".len();
+    let line = depth + "\tx\n".len();
+    let lines = (length - frame) / line - 1;
+    let last = "x".repeat(length - frame - (lines + 1) * line + 1);
+    let (open, close) = ("<Lab>\n".repeat(depth), "</Lab>\n".repeat(depth));
+    format!("{open}<Steps>\n{}\t{last}\n</Steps>\n{close}", "\tx\n".repeat(lines))
+}
+
+/// A sheet whose form has `length` bytes, most of them a string's tabs, each of which is written as two bytes.
+fn of_escapes(length: usize) -> String {
+    let left = length - "<Lab n=\"\" />\n".len();
+    format!("<Lab n=\"{}{}\"/>", "x".repeat(left % 2), "\t".repeat(left / 2))
 }
 
 // ---- Sheets

@@ -105,10 +105,10 @@ fn answer_line(line: &str) -> Option<String> {
     }
 }
 
-/// The canonical form in hex, or the refusal.
+/// The answer and the canonical form in hex, which is empty where it is refused.
 fn form_words(request: &SheetRequest, room: usize) -> Option<String> {
     let (answer, form) = write_form(&request.table, &request.sheet, request.lent, room);
-    Some(if answer.number == 0 { to_hex(&form) } else { in_words(answer) })
+    Some(format!("{} {}", in_words(answer), to_hex(&form)))
 }
 
 fn numbers(words: &[&str]) -> Option<Vec<u32>> {
