@@ -1,4 +1,4 @@
--- Lines of the input: how long they may be, where one that was read stands, and how many cells one may ask for.
+-- Lines of the input: how long they may be, where one that was read stands, and how many cells and how much room one may ask for.
 -- Of the trials' own form.
 use Prim.Native.Nat.{ℕ, _≤_}
 use mathlib.Core.List.{List}
@@ -23,3 +23,7 @@ Request line = (2 ≤ length line) × (length line ≤ lineLimit)
 -- so many cells can be lent
 abbrev pub cellLimit : ℕ
 cellLimit = 16384
+
+-- so much room can be lent for a form
+abbrev pub roomLimit : ℕ
+roomLimit = 32768

@@ -67,6 +67,23 @@ fn used(cells: &[u32]) -> usize
     n
 }
 
+// Writes the bytes up to the last that is not zero, as `bytes` does. A form has no zeros.
+pub fn written(out: &[u8]) {
+    let n = written_end(out);
+    bytes(&out[..n]);
+}
+
+// How many bytes there are up to the last that is not zero.
+fn written_end(out: &[u8]) -> usize
+    ensures { λ r. ⌜ r ≤ length (now (out .entry)) ⌝ }
+{
+    let mut n = out.len();
+    while 0 < n && out[n - 1] == 0 {
+        n -= 1;
+    }
+    n
+}
+
 // Writes the bytes in hex after a space, if there are any, and a line end.
 pub fn bytes(bytes: &[u8]) {
     let mut i = 0;

@@ -1,5 +1,5 @@
 // Requests: what a line asks, and its answer. A letter says what is asked; behind it stand words, each after one space.
-// Document 01, "The grammar", Bytes and Values, "The mode table", "Entries", and the answers of "Order".
+// Document 01, "The grammar", Bytes and Values, "The mode table", "Entries", "Canonical form", and the answers of "Order".
 use crate::hex;
 use crate::print;
 use crate::words;
@@ -11,9 +11,9 @@ use values::judged::Judged;
 use values::lists;
 ghost use Prim.Native.Nat.{_≤_};
 ghost use lib.ListN.{length};
-ghost use Rattle.trials.specs.Lines.{lineLimit, Request, cellLimit};
+ghost use Rattle.trials.specs.Lines.{lineLimit, Request, cellLimit, roomLimit};
 
-// The longest line spells fewer bytes than this.
+// The longest line spells fewer bytes than this, and so much room can be lent for a form: twice as much as the longest takes.
 const ROOM: usize = 32768;
 
 // So many cells can be lent: twice as many as the entries of a sheet fill.
@@ -27,6 +27,8 @@ const STALE: u32 = 4294967295;
 //     t TABLE              reads a mode table: number, place and count
 //     v BYTES              reads the value that stands in front: 0, its end and its form, or the refusal and its place
 //     s TABLE SHEET LENT   reads a sheet with so many cells lent: number, place, count, and the cells up to the last that is not zero
+//     f TABLE SHEET LENT ROOM
+//                          writes a sheet's canonical form to so much room: number, place, count, and the bytes that the room has then
 //     p SHEET ENTRY CELL.. views an entry of these cells: number, place and count of the second call, and the part in hex
 // Any other line is answered `?`.
 pub fn answer(line: &[u8])
@@ -42,7 +44,7 @@ fn is_answered(line: &[u8]) -> bool
     requires { ⌜ Request (now line) ⌝ }
 {
     match line[0] {
-        b's' => sheet(line),
+        b's' | b'f' => sheet(line),
         b'p' => part(line),
         _ => bytes(line),
     }
@@ -91,6 +93,7 @@ fn value(bytes: &[u8]) {
     }
 }
 
+// Answers a request whose first words are a table and a sheet.
 fn sheet(line: &[u8]) -> bool
     requires { ⌜ Request (now line) ⌝ }
 {
@@ -106,13 +109,27 @@ fn sheet(line: &[u8]) -> bool
     let hex::Spelt::Bytes(n) = hex::read(&line[sheet_start..sheet_end], &mut sheet) else {
         return false;
     };
-    let Numeral::Is(lent) = words::number(&line[lent_start..]) else {
+    of_sheet(line[0], &table[..t], &sheet[..n], &line[lent_start..])
+}
+
+// Answers what the letter asks of a table, a sheet and the words behind them.
+fn of_sheet(letter: u8, table: &[u8], sheet: &[u8], asked: &[u8]) -> bool {
+    if letter == b'f' {
+        form(table, sheet, asked)
+    } else {
+        reading(table, sheet, asked)
+    }
+}
+
+// Reads a sheet with as many cells lent as are asked for.
+fn reading(table: &[u8], sheet: &[u8], asked: &[u8]) -> bool {
+    let Numeral::Is(lent) = words::number(asked) else {
         return false;
     };
     if CELLS < lent {
         return false;
     }
-    read_lent(&table[..t], &sheet[..n], lent);
+    read_lent(table, sheet, lent);
     true
 }
 
@@ -127,6 +144,37 @@ fn read_lent(table: &[u8], sheet: &[u8], lent: usize)
 fn read_into(table: &[u8], sheet: &[u8], cells: &mut [u32]) {
     print::answer(sheets::read(table, sheet, cells));
     print::cells(cells);
+}
+
+// Writes a sheet's form with as many cells and as much room lent as are asked for.
+fn form(table: &[u8], sheet: &[u8], asked: &[u8]) -> bool {
+    let lent_end = words::end(asked, 0);
+    let room_start = words::past(asked, lent_end);
+    let Numeral::Is(lent) = words::number(&asked[..lent_end]) else {
+        return false;
+    };
+    let Numeral::Is(room) = words::number(&asked[room_start..]) else {
+        return false;
+    };
+    if CELLS < lent || ROOM < room {
+        return false;
+    }
+    write_lent(table, sheet, lent, room);
+    true
+}
+
+// Writes a sheet's form with so many cells and so much room lent.
+fn write_lent(table: &[u8], sheet: &[u8], lent: usize, room: usize)
+    requires { ⌜ (lent ≤ cellLimit) × (room ≤ roomLimit) ⌝ }
+{
+    let mut cells = [STALE; CELLS];
+    let mut out = [0u8; ROOM];
+    write_into(table, sheet, &mut cells[..lent], &mut out[..room]);
+}
+
+fn write_into(table: &[u8], sheet: &[u8], cells: &mut [u32], out: &mut [u8]) {
+    print::answer(layout::write(table, sheet, cells, out));
+    print::written(out);
 }
 
 fn part(line: &[u8]) -> bool

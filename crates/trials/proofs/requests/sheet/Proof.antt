@@ -66,52 +66,38 @@ enum-told-2 c = search needs
 returns-2 : tie.Need-returns-2
 returns-2 c = search needs
 
-sub-number : tie.Need-sub-number
-sub-number c = search needs
-
-part-number-start : tie.Need-part-number-start
-part-number-start c = search needs
-
-part-number-end : tie.Need-part-number-end
-part-number-end c = search needs
-
-number-requires : tie.Need-number-requires
-number-requires c κs = search needs
-
-enum-known-lent : tie.Need-enum-known-lent
-enum-known-lent c = search needs
-
-enum-told-3 : tie.Need-enum-told-3
-enum-told-3 c = search needs
-
-returns-3 : tie.Need-returns-3
-returns-3 c = search needs
-
-returns-4 : tie.Need-returns-4
-returns-4 c = search needs
+shared-slice-read-of-sheet : tie.Need-shared-slice-read-of-sheet
+shared-slice-read-of-sheet c = search needs
 
 array-share-prefix-table : tie.Need-array-share-prefix-table
 array-share-prefix-table c =
-    bytes-fit _ _ _ _
-    (c .before .before .before .before .before .before .before .before .before .before .before .before .before .before .before .before .before .read .ensures)
-    (c .before .before .before .before .before .before .before .before .before .before .before .before .before .before .t .given .1)
+    bytes-fit _ _ _ _ (c .before .before .before .before .before .before .before .before .before .before .before .before .read .ensures)
+    (c .before .before .before .before .before .before .before .before .before .t .given .1)
 
-slice-aggregate-read-lent : tie.Need-slice-aggregate-read-lent
-slice-aggregate-read-lent c = sym (length-take-le _ _ (array-share-prefix-table (c .before)))
+slice-aggregate-of-sheet : tie.Need-slice-aggregate-of-sheet
+slice-aggregate-of-sheet c = sym (length-take-le _ _ (array-share-prefix-table (c .before)))
 
 array-share-prefix-sheet : tie.Need-array-share-prefix-sheet
 array-share-prefix-sheet c =
-    bytes-fit _ _ _ _ (c .before .before .before .before .before .before .before .before .before .before .before .read2 .ensures)
-    (c .before .before .before .before .before .before .before .before .n .given .1)
+    bytes-fit _ _ _ _ (c .before .before .before .before .before .before .read2 .ensures) (c .before .before .before .n .given .1)
 
-slice-aggregate-read-lent-2 : tie.Need-slice-aggregate-read-lent-2
-slice-aggregate-read-lent-2 c = sym (length-take-le _ _ (array-share-prefix-sheet (c .before)))
+slice-aggregate-of-sheet-2 : tie.Need-slice-aggregate-of-sheet-2
+slice-aggregate-of-sheet-2 c = sym (length-take-le _ _ (array-share-prefix-sheet (c .before)))
 
-read-lent-requires : tie.Need-read-lent-requires
-read-lent-requires c κs = search needs
+sub-of-sheet : tie.Need-sub-of-sheet
+sub-of-sheet c = search needs
 
-returns-5 : tie.Need-returns-5
-returns-5 c = search needs
+part-of-sheet-start : tie.Need-part-of-sheet-start
+part-of-sheet-start c = search needs
+
+part-of-sheet-end : tie.Need-part-of-sheet-end
+part-of-sheet-end c = search needs
+
+of-sheet-requires : tie.Need-of-sheet-requires
+of-sheet-requires c κs = search needs
+
+returns-3 : tie.Need-returns-3
+returns-3 c = search needs
 
 pub sheet-spec : {M : Type 1} → statement M
 sheet-spec =
@@ -137,17 +123,13 @@ sheet-spec =
     enum-known-n
     enum-told-2
     returns-2
-    sub-number
-    part-number-start
-    part-number-end
-    number-requires
-    enum-known-lent
-    enum-told-3
-    returns-3
-    returns-4
+    shared-slice-read-of-sheet
     array-share-prefix-table
-    slice-aggregate-read-lent
+    slice-aggregate-of-sheet
     array-share-prefix-sheet
-    slice-aggregate-read-lent-2
-    read-lent-requires
-    returns-5)
+    slice-aggregate-of-sheet-2
+    sub-of-sheet
+    part-of-sheet-start
+    part-of-sheet-end
+    of-sheet-requires
+    returns-3)
