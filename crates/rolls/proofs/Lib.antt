@@ -6,3 +6,4 @@ pub mod ReadLaws
 pub mod ListLaws
 pub mod AddLaws
 pub mod OneAnswer
+pub mod DemandThree
