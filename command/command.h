@@ -1,0 +1,38 @@
+/* What the commands of cdx have in common: how each is asked for, and how it ends.
+ * The answers are document 01's, from the functions of include/cdx.h; around them there is a shell, files and a person. */
+#ifndef COMMAND_H
+#define COMMAND_H
+
+#include <stdbool.h>
+#include <stddef.h>
+
+/* How a command ends: the exit status. Of several files the worst decides. */
+enum status {
+    ALL_WELL = 0,
+    REFUSED = 1, /* a sheet or a mode table is refused */
+    FAILED = 2   /* wrong use, or something could not be read or written */
+};
+
+/* What is asked of a command. The options that it does not have are as nobody gave them. */
+struct request {
+    const char *table; /* -t */
+    bool as_text;      /* -d */
+    bool in_place;     /* -w */
+    bool list;         /* -l */
+    char **files;      /* at least one; standard input where none was named */
+    size_t count;
+};
+
+struct command {
+    const char *name;
+    const char *options; /* for getopt */
+    const char *help;
+    enum status (*run)(const struct request *request);
+};
+
+extern const struct command table_command, check_command, show_command, format_command;
+
+/* Says what is wrong with how a command was asked for, after the manner of printf. */
+__attribute__((format(printf, 2, 3))) enum status wrong_use(const struct command *command, const char *why, ...);
+
+#endif

@@ -1,0 +1,14 @@
+/* A file replaced by another: whoever opens it finds the old bytes or the new ones, never half.
+ * It keeps the rolls and sheets of document 01 whole where a disk is full or a machine stops. */
+#ifndef REPLACE_H
+#define REPLACE_H
+
+#include <stdbool.h>
+#include <stddef.h>
+#include <stdint.h>
+
+/* Puts a new file with these bytes in the place of an old one, with its owner and mode. Behind a link it is the file that the link
+ * names. Where that fails it says so, gives false, and the old file is as it was. */
+bool replace(const char *file, const uint8_t *bytes, size_t length);
+
+#endif

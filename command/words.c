@@ -1,0 +1,68 @@
+/* The numbers of an answer and of an entry in words.
+ * They follow the sections "Entries" and "Refusal numbers" of document 01. */
+#include "words.h"
+
+#include "cdx.h"
+#include "glyphs.h"
+#include "places.h"
+
+const char *refusal_in_words(uint32_t number)
+{
+    static const char *const words[] = {
+        [CDX_TABLE] = "the mode table is not in order",
+        [CDX_SHEET_TOO_LONG] = "the sheet has more than 16,384 bytes",
+        [CDX_BYTES] = "no sheet may have these bytes",
+        [CDX_NAME] = "this name breaks the name rule, or has more than 32 letters",
+        [CDX_UNLISTED] = "this name is not in the mode table",
+        [CDX_VALUE] = "this value is of no kind",
+        [CDX_DUE] = "something else was due here",
+        [CDX_CLOSING_NAME] = "the open Concept has another name",
+        [CDX_CUT] = "the sheet ends before its root is closed",
+        [CDX_TOO_DEEP] = "more than 32 Concepts, or 8 lists, in one another",
+        [CDX_NO_ENTRY_LEFT] = "more than 1,024 entries",
+        [CDX_NO_ROOM] = "the canonical form has more than 16,384 bytes",
+    };
+    return words[number];
+}
+
+const char *kind_in_words(uint32_t kind)
+{
+    static const char *const words[] = {
+        [CDX_CONCEPT] = "Concept",       [CDX_TRAIT] = "trait",     [CDX_ITEM] = "item",
+        [CDX_ANNOTATION] = "annotation", [CDX_CONTENT] = "Content",
+    };
+    return words[kind];
+}
+
+const char *concept_form_in_words(uint32_t form)
+{
+    static const char *const words[] = {
+        [CDX_SELF_CLOSED] = "self-closed",
+        [CDX_CHILDREN] = "children",
+        [CDX_HAS_CONTENT] = "Content",
+    };
+    return words[form];
+}
+
+const char *value_form_in_words(uint32_t form)
+{
+    static const char *const words[] = {
+        [CDX_STRING] = "string",   [CDX_CHARACTER] = "character",   [CDX_BOOLEAN] = "boolean",   [CDX_INTEGER] = "integer",
+        [CDX_DECIMAL] = "decimal", [CDX_SCIENTIFIC] = "scientific", [CDX_FRACTION] = "fraction", [CDX_PASCAL] = "$ word",
+        [CDX_CAMEL] = "~ word",    [CDX_UUID] = "UUID",             [CDX_IRI] = "IRI",           [CDX_LIST] = "list",
+    };
+    return words[form];
+}
+
+void print_entries(FILE *out, uint32_t entries)
+{
+    fprintf(out, "%u %s", entries, entries == 1 ? "entry" : "entries");
+}
+
+void print_refusal(FILE *out, const char *name, const uint8_t *bytes, size_t length, size_t at, uint32_t number, const char *why)
+{
+    struct place place = place_of(bytes, length, at);
+    print_name(out, name);
+    fprintf(out, ":%zu:%zu: refused %u: %s\n", place.line, place.column, number, why);
+    print_line(out, bytes, length, at);
+}

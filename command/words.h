@@ -1,0 +1,26 @@
+/* The numbers of an answer and of an entry in words.
+ * They follow the sections "Entries" and "Refusal numbers" of document 01. */
+#ifndef WORDS_H
+#define WORDS_H
+
+#include <stddef.h>
+#include <stdint.h>
+#include <stdio.h>
+
+/* What a refusal says. */
+const char *refusal_in_words(uint32_t number);
+
+/* What an entry is. */
+const char *kind_in_words(uint32_t kind);
+
+/* The form of a Concept, and that of a value. */
+const char *concept_form_in_words(uint32_t form);
+const char *value_form_in_words(uint32_t form);
+
+/* Prints how many entries there are. */
+void print_entries(FILE *out, uint32_t entries);
+
+/* Says that a file is refused: where, why, and the line with a caret under the place. */
+void print_refusal(FILE *out, const char *name, const uint8_t *bytes, size_t length, size_t at, uint32_t number, const char *why);
+
+#endif
