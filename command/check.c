@@ -31,9 +31,15 @@ static enum status check(const struct request *request, const struct table *tabl
     return ALL_WELL;
 }
 
-static enum status run(const struct request *request)
+static const char *wrong_with(const struct request *request)
 {
-    return for_each_sheet(request, check);
+    (void)request;
+    return NULL;
 }
 
-const struct command check_command = {"check", ":ht:", help, run};
+static enum status run(const struct request *request, const struct table *table)
+{
+    return for_each_sheet(request, table, check);
+}
+
+const struct command check_command = {"check", ":ht:", help, wrong_with, run};

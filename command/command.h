@@ -23,16 +23,16 @@ struct request {
     size_t count;
 };
 
+struct table;
+
+/* A command with -t is run under that table; for one without, the table is NULL. */
 struct command {
     const char *name;
     const char *options; /* for getopt */
     const char *help;
-    enum status (*run)(const struct request *request);
+    const char *(*wrong_with)(const struct request *request); /* what is wrong with a request, or NULL */
+    enum status (*run)(const struct request *request, const struct table *table);
 };
 
 extern const struct command table_command, check_command, show_command, format_command;
-
-/* Says what is wrong with how a command was asked for, after the manner of printf. */
-__attribute__((format(printf, 2, 3))) enum status wrong_use(const struct command *command, const char *why, ...);
-
 #endif

@@ -42,7 +42,6 @@ static enum status format(const struct request *request, const struct table *tab
     return ALL_WELL;
 }
 
-/* What is wrong with what was asked, or NULL. */
 static const char *wrong_with(const struct request *request)
 {
     if (!request->list && !request->in_place && request->count > 1)
@@ -53,12 +52,9 @@ static const char *wrong_with(const struct request *request)
     return NULL;
 }
 
-static enum status run(const struct request *request)
+static enum status run(const struct request *request, const struct table *table)
 {
-    const char *wrong = wrong_with(request);
-    if (wrong != NULL)
-        return wrong_use(&format_command, "%s", wrong);
-    return for_each_sheet(request, format);
+    return for_each_sheet(request, table, format);
 }
 
-const struct command format_command = {"format", ":ht:lw", help, run};
+const struct command format_command = {"format", ":ht:lw", help, wrong_with, run};

@@ -5,6 +5,7 @@
 #include "command.h"
 #include "files.h"
 #include "glyphs.h"
+#include "tables.h"
 
 #include <fcntl.h>
 #include <signal.h>
@@ -34,7 +35,8 @@ static const char overview[] =
 
 static const struct command *const commands[] = {&table_command, &check_command, &show_command, &format_command};
 
-enum status wrong_use(const struct command *command, const char *why, ...)
+/* Says what is wrong with how a command was asked for, after the manner of printf. */
+__attribute__((format(printf, 2, 3))) static enum status wrong_use(const struct command *command, const char *why, ...)
 {
     va_list rest;
     va_start(rest, why);
@@ -82,6 +84,18 @@ static int read_options(const struct command *command, int count, char **words, 
     return 0;
 }
 
+static enum status answer(const struct command *command, const struct request *request)
+{
+    static struct table table;
+    const char *wrong = command->wrong_with(request);
+    if (wrong != NULL)
+        return wrong_use(command, "%s", wrong);
+    if (request->table == NULL)
+        return command->run(request, NULL);
+    enum status status = load_table(request->table, &table);
+    return status != ALL_WELL ? status : command->run(request, &table);
+}
+
 /* Reads a command's words, of which the first is its name, and runs it. */
 static enum status ask(const struct command *command, int count, char **words)
 {
@@ -100,7 +114,7 @@ static enum status ask(const struct command *command, int count, char **words)
         request.files = words + optind;
         request.count = (size_t)(count - optind);
     }
-    return command->run(&request);
+    return answer(command, &request);
 }
 
 /* Sees to it that no file is opened in the place of standard input, output or error where the shell has closed one: then it fails. */

@@ -12,15 +12,12 @@ static bool load_sheet(const char *file, struct sheet *sheet)
     return load(file, sheet->bytes, sizeof sheet->bytes, &sheet->length);
 }
 
-enum status for_each_sheet(const struct request *request, sheet_action act)
+enum status for_each_sheet(const struct request *request, const struct table *table, sheet_action act)
 {
-    static struct table table;
     static struct sheet sheet;
-    enum status worst = load_table(request->table, &table);
-    if (worst != ALL_WELL)
-        return worst;
+    enum status worst = ALL_WELL;
     for (size_t number = 0; number < request->count; number++) {
-        enum status status = load_sheet(request->files[number], &sheet) ? act(request, &table, &sheet) : FAILED;
+        enum status status = load_sheet(request->files[number], &sheet) ? act(request, table, &sheet) : FAILED;
         worst = status > worst ? status : worst;
         if (!is_written())
             return FAILED;

@@ -27,8 +27,8 @@ struct form {
 /* What a command does with a sheet whose file was read. */
 typedef enum status (*sheet_action)(const struct request *request, const struct table *table, struct sheet *sheet);
 
-/* Reads the mode table and the files that a request names, and acts on each sheet, until standard output takes no more. */
-enum status for_each_sheet(const struct request *request, sheet_action act);
+/* Reads the files that a request names, and acts on each sheet, until standard output takes no more. */
+enum status for_each_sheet(const struct request *request, const struct table *table, sheet_action act);
 
 /* Reads the sheet itself: its entries are in the cells. Gives whether it is accepted. */
 bool read_sheet(const struct table *table, struct sheet *sheet);

@@ -182,11 +182,14 @@ static enum status show(const struct request *request, const struct table *table
     return ALL_WELL;
 }
 
-static enum status run(const struct request *request)
+static const char *wrong_with(const struct request *request)
 {
-    if (request->count > 1)
-        return wrong_use(&show_command, "more than one FILE");
-    return for_each_sheet(request, show);
+    return request->count > 1 ? "more than one FILE" : NULL;
 }
 
-const struct command show_command = {"show", ":ht:", help, run};
+static enum status run(const struct request *request, const struct table *table)
+{
+    return for_each_sheet(request, table, show);
+}
+
+const struct command show_command = {"show", ":ht:", help, wrong_with, run};

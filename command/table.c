@@ -25,13 +25,19 @@ static const char help[] =
     "\n"
     "Example: cdx table course.txt >course.table\n";
 
-static enum status run(const struct request *request)
+static const char *wrong_with(const struct request *request)
+{
+    if (request->count > 1)
+        return "more than one FILE";
+    if (!request->as_text && isatty(STDOUT_FILENO))
+        return "a table is binary and not for a terminal; send it to a file, or ask for its text with -d";
+    return NULL;
+}
+
+static enum status run(const struct request *request, const struct table *none)
 {
     struct table table;
-    if (request->count > 1)
-        return wrong_use(&table_command, "more than one FILE");
-    if (!request->as_text && isatty(STDOUT_FILENO))
-        return wrong_use(&table_command, "a table is binary and not for a terminal; send it to a file, or ask for its text with -d");
+    (void)none;
     enum status status = load_table(request->files[0], &table);
     if (status != ALL_WELL)
         return status;
@@ -42,4 +48,4 @@ static enum status run(const struct request *request)
     return is_written() ? ALL_WELL : FAILED;
 }
 
-const struct command table_command = {"table", ":hd", help, run};
+const struct command table_command = {"table", ":hd", help, wrong_with, run};

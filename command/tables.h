@@ -14,7 +14,7 @@ struct table {
     uint8_t bytes[CDX_MAX_TABLE];
 };
 
-/* Reads a file that has a mode table or the text of one. Where it is neither it says so on standard error. */
+/* Reads a file that has a mode table or the text of one. Where it has neither it says so on standard error. */
 enum status load_table(const char *file, struct table *table);
 
 /* Prints the text of a table: it reads back to the same table. */
