@@ -37,7 +37,7 @@ static enum status format(const struct request *request, const struct table *tab
         if (request->in_place && !replace(sheet->name, form.bytes, form.length))
             return FAILED;
         if (request->list)
-            puts(sheet->name);
+            puts(sheet->name); /* as it is, for other programs */
     }
     return ALL_WELL;
 }
