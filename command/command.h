@@ -13,7 +13,7 @@ enum status {
     FAILED = 2   /* wrong use, or something could not be read or written */
 };
 
-/* What is asked of a command. The options that it does not have are as nobody gave them. */
+/* What is asked of a command. An option that was not given is NULL or false. */
 struct request {
     const char *table; /* -t */
     bool as_text;      /* -d */

@@ -8,7 +8,8 @@
 #include <stdint.h>
 
 /* Puts a new file with these bytes in the place of an old one, with its owner and mode. Behind a link it is the file that the link
- * names. Where that fails it says so, gives false, and the old file is as it was. */
+ * names. Where that fails it says so, gives false, and the old file is as it was; but a flush of the folder comes last, and where
+ * that one fails the new file has its place, though perhaps not on the disk. */
 bool replace(const char *file, const uint8_t *bytes, size_t length);
 
 #endif
