@@ -22,8 +22,8 @@ pub extern "C" fn cdx_table(table: &[u8], answer: &mut [u32; 3])
 // Reads a sheet under a mode table into the cells lent. The answer is number, place and count.
 #[no_mangle]
 pub extern "C" fn cdx_sheet(table: &[u8], sheet: &[u8], cells: &mut [u32], answer: &mut [u32; 3])
-    ensures { λ _.
-        ⌜ TellsSheet (now (table .entry)) (now (sheet .entry)) (length (now (cells .entry))) (now (cells .exit)) (now (answer .exit)) ⌝ }
+    ensures { λ _. ⌜ TellsSheet (now (table .entry)) (now (sheet .entry)) (length (now (cells .entry)))
+        (now (cells .exit)) (now (answer .exit)) ⌝ }
 {
     tell(read(table, sheet, cells), answer);
 }
