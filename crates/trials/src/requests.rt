@@ -44,8 +44,7 @@ fn is_answered(line: &[u8]) -> bool
     requires { ⌜ Request (now line) ⌝ }
 {
     match line[0] {
-        b's' | b'f' => sheet(line),
-        b'p' => part(line),
+        b's' | b'f' | b'p' => several(line),
         _ => bytes(line),
     }
 }
@@ -93,23 +92,36 @@ fn value(bytes: &[u8]) {
     }
 }
 
-// Answers a request whose first words are a table and a sheet.
-fn sheet(line: &[u8]) -> bool
+// Answers a request of several words: two, and the rest of the line.
+fn several(line: &[u8]) -> bool
     requires { ⌜ Request (now line) ⌝ }
 {
-    let mut table = [0u8; ROOM];
-    let mut sheet = [0u8; ROOM];
-    let table_end = words::end(line, 2);
-    let sheet_start = words::past(line, table_end);
-    let sheet_end = words::end(line, sheet_start);
-    let lent_start = words::past(line, sheet_end);
-    let hex::Spelt::Bytes(t) = hex::read(&line[2..table_end], &mut table) else {
+    let first_end = words::end(line, 2);
+    let second_start = words::past(line, first_end);
+    let second_end = words::end(line, second_start);
+    let rest_start = words::past(line, second_end);
+    let first = &line[2..first_end];
+    let second = &line[second_start..second_end];
+    let rest = &line[rest_start..];
+    if line[0] == b'p' {
+        return part(first, second, rest);
+    }
+    sheet(line[0], first, second, rest)
+}
+
+// Answers a request whose first words are a table and a sheet in hex.
+fn sheet(letter: u8, table: &[u8], sheet: &[u8], asked: &[u8]) -> bool
+    requires { ⌜ (length (now table) ≤ lineLimit) × (length (now sheet) ≤ lineLimit) ⌝ }
+{
+    let mut table_room = [0u8; ROOM];
+    let mut sheet_room = [0u8; ROOM];
+    let hex::Spelt::Bytes(t) = hex::read(table, &mut table_room) else {
         return false;
     };
-    let hex::Spelt::Bytes(n) = hex::read(&line[sheet_start..sheet_end], &mut sheet) else {
+    let hex::Spelt::Bytes(n) = hex::read(sheet, &mut sheet_room) else {
         return false;
     };
-    of_sheet(line[0], &table[..t], &sheet[..n], &line[lent_start..])
+    of_sheet(letter, &table_room[..t], &sheet_room[..n], asked)
 }
 
 // Answers what the letter asks of a table, a sheet and the words behind them.
@@ -177,25 +189,22 @@ fn write_into(table: &[u8], sheet: &[u8], cells: &mut [u32], out: &mut [u8]) {
     print::written(out);
 }
 
-fn part(line: &[u8]) -> bool
-    requires { ⌜ Request (now line) ⌝ }
+// Views an entry: the words are the sheet in hex, the entry's number, and the cells.
+fn part(sheet: &[u8], entry: &[u8], cells: &[u8]) -> bool
+    requires { ⌜ length (now sheet) ≤ lineLimit ⌝ }
 {
-    let mut sheet = [0u8; ROOM];
-    let mut cells = [0u32; CELLS];
-    let sheet_end = words::end(line, 2);
-    let entry_start = words::past(line, sheet_end);
-    let entry_end = words::end(line, entry_start);
-    let cells_start = words::past(line, entry_end);
-    let hex::Spelt::Bytes(n) = hex::read(&line[2..sheet_end], &mut sheet) else {
+    let mut sheet_room = [0u8; ROOM];
+    let mut cell_room = [0u32; CELLS];
+    let hex::Spelt::Bytes(n) = hex::read(sheet, &mut sheet_room) else {
         return false;
     };
-    let Numeral::Is(entry) = words::number(&line[entry_start..entry_end]) else {
+    let Numeral::Is(number) = words::number(entry) else {
         return false;
     };
-    let Listed::Cells(k) = words::cells(&line[cells_start..], &mut cells) else {
+    let Listed::Cells(k) = words::cells(cells, &mut cell_room) else {
         return false;
     };
-    view(&sheet[..n], &cells[..k], entry);
+    view(&sheet_room[..n], &cell_room[..k], number);
     true
 }
 
