@@ -29,7 +29,7 @@ use Rattle.paper.proofs.Tests.{split, true-false}
 use Rattle.paper.proofs.Lists.{byFront, starts-is}
 use Rattle.paper.proofs.Finds.{Tail, tail-length, tail-then, tail-drop, Reads}
 use Rattle.paper.proofs.Runs.{Shorter}
-use Rattle.paper.proofs.Lines.{ReadBlank, rest-reads, ReadName, name-reads, due-reads, blank-shorter}
+use Rattle.paper.proofs.Lines.{ReadBlank, rest-reads, blank-shorter}
 use Rattle.paper.proofs.Annotations.{ReadAnnotations, annotations-reads, annotation-shorter}
 use Rattle.paper.proofs.Content.{line-shorter}
 use Rattle.paper.proofs.Pieces.{byInside, turn-closes, turn-escapes, turn-breaks, turn-itself, turn-shorter, tick-shorter}

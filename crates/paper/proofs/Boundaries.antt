@@ -6,8 +6,6 @@ use mathlib.Core.Bool.{Bool, true, false, _&&_}
 use mathlib.Core.List.{List, [], _∷_, _++_}
 use native.Mathlib.Omega.{arith}
 use lib.ListN.{length, take}
-use lib.Dec.{eqb}
-use borrow.Author.Tests.{eqb-true}
 use Rattle.paper.specs.Bytes.{byte, bytes, isUpper, startsIn, startsWith, lf}
 use Rattle.paper.specs.Roll.{isBoundary, endsLine, Parts, parts, inFront, partsFrom, partsOf, together}
 use Rattle.paper.proofs.Tests.{split, true-false}

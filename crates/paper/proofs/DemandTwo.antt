@@ -1,15 +1,13 @@
 -- Demand 2's second half: "Where the canonical form fits, reading it back gives the same tree, values and Content, and laying it out again changes no byte."
 -- Document 01, "Canonical form" and "Order". Assumes nothing.
-use Prim.Native.Nat.{ℕ, _+_, _≤_, min}
+use Prim.Native.Nat.{ℕ, _≤_, min}
 use mathlib.Core.Path.{_≡_, refl, sym, ap, subst, _∙_}
-use mathlib.Core.Bool.{true, false}
-use mathlib.Core.List.{List, [], _∷_, _++_, map}
+use mathlib.Core.List.{List, map}
 use native.Mathlib.Omega.{arith}
-use lib.ListN.{length, take, drop}
+use lib.ListN.{length, take}
 use lib.Seq.{take-at}
-use lib.Dec.{leb}
 use borrow.Author.Tests.{leb-true, le-leb}
-use Rattle.paper.specs.Answer.{Told, accepted, refused}
+use Rattle.paper.specs.Answer.{Told, accepted}
 use Rattle.paper.specs.Modes.{Modes}
 use Rattle.paper.specs.Tree.{Sheet}
 use Rattle.paper.specs.Grammar.{Derives}
@@ -17,7 +15,7 @@ use Rattle.paper.specs.Limits.{sheetLimit}
 use Rattle.paper.specs.Entries.{entries}
 use Rattle.paper.specs.Reading.{roomOf, reading}
 use Rattle.paper.specs.Canonical.{SheetSense, meaning, print, canonical}
-use Rattle.paper.specs.Writing.{Begun, tree, unread, begin, Writing, notWritten, writtenAt, formFits, writeForm, writing}
+use Rattle.paper.specs.Writing.{Begun, tree, unread, begin, Writing, writtenAt, formFits, writeForm, writing}
 use Rattle.paper.proofs.Tests.{split}
 use Rattle.paper.proofs.Told.{told-apart}
 use Rattle.paper.proofs.Exactly.{accepting}

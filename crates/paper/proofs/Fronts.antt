@@ -6,9 +6,9 @@ use mathlib.Core.List.{List, [], _∷_, _++_, append-nil, append-assoc}
 use lib.ListN.{length, drop, replicate}
 use lib.Seq.{drop-drop, drop-append-seam}
 use Rattle.paper.specs.Bytes.{byte, lf, tab}
-use Rattle.paper.specs.Values.{valueOnto, spelling}
+use Rattle.paper.specs.Values.{spelling}
 use Rattle.paper.specs.Tree.{LineEnd, LF, CRLF, Blank, Trait, Marker, Annotation, Line, blank, text, Concept, selfClosed, children, content, Body, done, blankLine}
-use Rattle.paper.specs.Tree.{element, Ending, block, self}
+use Rattle.paper.specs.Tree.{element, block, self}
 use Rattle.paper.specs.Grammar.{lineEndOnto, blankOnto, blanksOnto, tabsOnto, annotationOnto, annotationsOnto, traitOnto, traitsOnto, markerOnto, endingOnto}
 use Rattle.paper.specs.Grammar.{closingOnto, linesOnto, conceptOnto, bodyOnto}
 use Rattle.paper.proofs.ReadValues.{value-append}

@@ -1,31 +1,31 @@
 -- What the entries of a sheet tell beside offsets: names, and what values, annotations and Content mean. The entries of its canonical form tell the same.
 -- Document 01, "Entries" and "Canonical form"; demand 2. Assumes nothing.
-use Prim.Native.Nat.{ℕ, suc, _+_, _-_}
-use mathlib.Core.Path.{_≡_, refl, sym, ap, subst, _∙_}
+use Prim.Native.Nat.{ℕ, _+_, _-_}
+use mathlib.Core.Path.{_≡_, refl, sym, ap, _∙_}
 use mathlib.Core.Bool.{true, _&&_}
 use mathlib.Core.List.{List, [], _∷_, _++_, map}
 use native.Mathlib.Omega.{arith}
-use lib.ListN.{length, take, drop, length-append, replicate, length-replicate}
+use lib.ListN.{length, take, drop, replicate, length-replicate}
 use lib.Dec.{leb}
 use lib.Seq.{take-append-seam}
 use Rattle.paper.specs.Bytes.{byte, tab, all, isBlank, isWhite, isLower, isUpper}
 use Rattle.paper.specs.Names.{nameRule}
 use Rattle.paper.specs.Values.{Leaf, string, character, backtick, word, Value, leaf, emptyList, list, More, close, comma, valueOnto, moreOnto, spelling, collapse}
 use Rattle.paper.specs.Values.{valueRule, moreRule, listEnders}
-use Rattle.paper.specs.Tree.{Blank, Trait, Marker, Annotation, Line, Concept, selfClosed, children, content, Body, done, blankLine, element, Sheet, block, self}
+use Rattle.paper.specs.Tree.{Blank, Trait, Marker, Annotation, Line, Concept, selfClosed, children, content, Body, done, blankLine, element, Sheet, block}
 use Rattle.paper.specs.Grammar.{blankOnto, blanksOnto, tabsOnto, annotationOnto, annotationsOnto, traitOnto, traitsOnto, markerOnto, endingOnto, closingOnto}
 use Rattle.paper.specs.Grammar.{linesOnto, conceptOnto, bodyOnto, sheetOnto, blankRule, annotationRule, traitRule, markerRule, lineRule, opensBlock, conceptRule}
 use Rattle.paper.specs.Grammar.{bodyRule, sheetRule}
 use Rattle.paper.specs.Entries.{Entry, valueWidth, itemEntries, moreEntries, itemSize, traitEntries, traitSize, traitName, traitValue, traitsSize}
-use Rattle.paper.specs.Entries.{annotationEntries, conceptEntry, conceptSize, conceptWidth, markerName, markerOf, bodyStart, insideEntries, bodyEntries, noParent}
+use Rattle.paper.specs.Entries.{annotationEntries, conceptSize, conceptWidth, markerName, markerOf, bodyStart, insideEntries, bodyEntries, noParent}
 use Rattle.paper.specs.Entries.{rootStart, entries}
-use Rattle.paper.specs.Canonical.{ValueSense, quoted, letter, spelt, listed, ItemsSense, none, item, TraitSense, MarkerSense, ConceptSense, bare, around, saying}
+use Rattle.paper.specs.Canonical.{ValueSense, quoted, letter, spelt, listed, ItemsSense, none, item, TraitSense, ConceptSense, bare, around, saying}
 use Rattle.paper.specs.Canonical.{BodySense, empty, with, SheetSense, leafSense, valueSense, moreSense, markerSense, lineSense, annotationSense, conceptSense}
-use Rattle.paper.specs.Canonical.{bodySense, meaning, canonical}
+use Rattle.paper.specs.Canonical.{bodySense, meaning}
 use Rattle.paper.proofs.Lists.{both, all-head}
 use Rattle.paper.proofs.Concepts.{element-parts}
 use Rattle.paper.proofs.ReadValues.{value-append}
-use Rattle.paper.proofs.Fronts.{Front, run-front, byte-front, blank-front, blanks-front, note-front, notes-front, trait-front, traits-front, marker-front}
+use Rattle.paper.proofs.Fronts.{blank-front, blanks-front, note-front, notes-front, trait-front, marker-front}
 use Rattle.paper.proofs.Fronts.{lines-front, whole-front, concept-ends, past-bytes, past-front, front-append}
 
 -- ---- what an entry tells

@@ -35,7 +35,7 @@ use Rattle.values.specs.declared.entering.Entered.the-variants.{Items, Full}
 use Rattle.values.specs.Shown.{Shown, shown, shownOf, Judges}
 use Rattle.values.specs.Entering.{Ready, leftOf, firstOver, Ahead, Enters}
 use Rattle.values.proofs.Showing.{stands}
-use Rattle.lines.specs.Parts.{Seen, seen, passed, Makes, In}
+use Rattle.lines.specs.Parts.{Seen, seen, passed, In}
 use Rattle.lines.specs.declared.part.Part.{Part}
 use Rattle.lines.specs.declared.part.Part.the-variants.{Read, Refused}
 use Rattle.lines.proofs.Crossing.{makes-refused, makes-passed, makes-read}

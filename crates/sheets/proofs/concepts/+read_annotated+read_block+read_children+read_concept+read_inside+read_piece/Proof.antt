@@ -48,12 +48,8 @@ use Rattle.sheets.proofs.concepts.end_concept.Reads as end-concept-read
 use Rattle.sheets.proofs.concepts.is_closing.Reads as is-closing-reads
 use Rattle.sheets.proofs.opening.read_opening.Reads as read-opening-reads
 use Rattle.text.proofs.runs.end.Reads as end-reads
-use Rattle.sheets.proofs.concepts.+read_annotated+read_block+read_children+read_concept+read_inside+read_piece.{
-  statement,
-}
-use Rattle.sheets.proofs.concepts.+read_annotated+read_block+read_children+read_concept+read_inside+read_piece.Tie.{
-  close,
-}
+use Rattle.sheets.proofs.concepts.+read_annotated+read_block+read_children+read_concept+read_inside+read_piece.{statement}
+use Rattle.sheets.proofs.concepts.+read_annotated+read_block+read_children+read_concept+read_inside+read_piece.Tie.{close}
 
 -- ---- the measures, and what each function asks and learns
 

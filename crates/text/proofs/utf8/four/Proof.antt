@@ -1,5 +1,5 @@
 -- Each byte that follows is a turn of one law; `first` is the row of the first byte, the others what the calls found. Assumes nothing.
-use mathlib.Core.Path.{_≡_, refl}
+use mathlib.Core.Path.{refl}
 use Prim.Native.Nat.{ℕ, _+_, _-_, _*_, _<_, _≤_}
 use native.Mathlib.Omega.{arith}
 use lib.ListN.{getD}

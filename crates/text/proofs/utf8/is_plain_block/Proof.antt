@@ -6,7 +6,6 @@ use native.Mathlib.Omega.{arith}
 use native.Mathlib.Nat.{add-zero}
 use borrow.Author.Needs.{needs}
 use borrow.Author.Tests.{eqb-true}
-use lib.ListN.{length}
 use Rattle.text.specs.Steps.{checkedAt}
 use Rattle.text.proofs.Checks.{block-on}
 use Rattle.text.proofs.utf8.is_plain_block.Statement.{statement}

@@ -1,11 +1,11 @@
 -- Each byte that follows is a turn of one law; `first` is the row of the first byte, the others what the calls found. Assumes nothing.
-use mathlib.Core.Path.{_≡_, refl}
-use Prim.Native.Nat.{ℕ, _+_, _-_, _*_, _<_, _≤_}
+use mathlib.Core.Path.{refl}
+use Prim.Native.Nat.{ℕ, _+_, _-_, _<_, _≤_}
 use native.Mathlib.Omega.{arith}
 use lib.ListN.{getD}
 use borrow.Author.Needs.{needs}
 use Rattle.paper.proofs.Scalars.{leads-as}
-use Rattle.text.proofs.Steps.{Awaits, awaits-two, broken, six, goes-on, is-whole}
+use Rattle.text.proofs.Steps.{Awaits, awaits-two, broken, six, is-whole}
 use Rattle.text.proofs.utf8.two.Statement.{statement}
 use Rattle.text.proofs.utf8.two.Tie as tie
 

@@ -3,7 +3,6 @@ use Prim.Native.Nat.{_-_, _≤_}
 use mathlib.Core.Path.{_≡_, _∙_}
 use native.Mathlib.Omega.{arith}
 use borrow.Author.Needs.{needs}
-use lib.ListN.{length}
 use Rattle.text.specs.Steps.{checkedAt}
 use Rattle.text.proofs.Checks.{plain-on, walks-from}
 use Rattle.text.proofs.utf8.walk.Statement.{statement}
