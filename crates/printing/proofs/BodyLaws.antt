@@ -1,16 +1,16 @@
 -- The elements of a children body: the first of them, what is left of them, and what is put for them. Document 01, "Canonical form". Assumes nothing.
-use Prim.Native.Nat.{ℕ, suc, _+_, _-_, _*_, _≤_, _<_, max}
+use Prim.Native.Nat.{ℕ, _+_, _-_, _≤_, _<_}
 use mathlib.Core.Path.{_≡_, refl, sym, ap, _∙_}
-use mathlib.Core.Bool.{Bool, true, false, _&&_}
+use mathlib.Core.Bool.{Bool, true, false}
 use mathlib.Core.List.{List, [], _∷_, _++_, map}
 use native.Mathlib.Omega.{arith}
-use lib.ListN.{length, take, drop, replicate, length-replicate, length-append}
+use lib.ListN.{length, drop, replicate, length-replicate}
 use Rattle.paper.specs.Found.{pick}
 use Rattle.paper.specs.Bytes.{all, lf, tab}
 use Rattle.paper.specs.Names.{nameLimit}
-use Rattle.paper.specs.Tree.{Blank, Annotation, Concept, Body, done, blankLine, element}
+use Rattle.paper.specs.Tree.{Annotation, Concept, Body, done, blankLine, element}
 use Rattle.paper.specs.Grammar.{blankOnto, annotationsOnto, tabsOnto, conceptOnto, bodyOnto, blankRule, annotationRule, conceptRule, bodyRule}
-use Rattle.paper.specs.Limits.{listLimit, conceptFits, bodyFits, conceptDepth, bodyDepth}
+use Rattle.paper.specs.Limits.{listLimit, conceptFits, bodyFits, bodyDepth}
 use Rattle.paper.specs.Entries.{Entry, annotationEntries, conceptSize, bodySize, bodyCount, conceptWidth, conceptEntry, insideEntries, bodyEntries}
 use Rattle.paper.specs.Canonical.{ConceptSense, BodySense, empty, with, annotationSense, conceptSense, bodySense, printNotes, printConcept, printBody}
 use Rattle.paper.specs.Canonical.{printMore}

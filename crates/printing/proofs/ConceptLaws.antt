@@ -1,10 +1,10 @@
 -- A Concept: its marker, what stands inside, and its closing marker, put one behind the other. Document 01, "Canonical form". Assumes nothing.
-use Prim.Native.Nat.{ℕ, suc, _+_, _-_, _*_, _≤_, _<_}
+use Prim.Native.Nat.{ℕ, suc, _+_, _-_, _≤_, _<_}
 use mathlib.Core.Path.{_≡_, refl, sym, ap, _∙_}
-use mathlib.Core.Bool.{Bool, true, false, not, _&&_}
+use mathlib.Core.Bool.{Bool, true, false}
 use mathlib.Core.List.{List, [], _∷_, _++_, map}
 use native.Mathlib.Omega.{arith}
-use lib.ListN.{length, take, drop, length-append}
+use lib.ListN.{length, take, drop}
 use lib.Dec.{eqb}
 use borrow.Author.Tests.{eq-eqb, ne-eqb}
 use Rattle.paper.specs.Found.{pick}
@@ -12,14 +12,13 @@ use Rattle.paper.specs.Bytes.{byte, bytes, all, lf}
 use Rattle.paper.specs.Names.{nameLimit}
 use Rattle.paper.specs.Values.{Value, leaf, emptyList, list, More, close, comma}
 use Rattle.paper.specs.Tree.{Blank, Trait, Marker, Line, Concept, selfClosed, children, content, Body, block, self}
-use Rattle.paper.specs.Grammar.{blankOnto, tabsOnto, markerOnto, traitOnto, traitsOnto, endingOnto, closingOnto, linesOnto, conceptOnto, bodyOnto, blankRule}
-use Rattle.paper.specs.Grammar.{markerRule, opensBlock, inMode, lineRule, conceptRule, bodyRule}
-use Rattle.paper.specs.declared.Mode.the-variants.{Children, Content, Absent}
-use Rattle.paper.specs.Limits.{listLimit, markerFits, conceptFits, bodyFits, conceptDepth, bodyDepth}
-use Rattle.paper.specs.Entries.{Entry, unnamed, valueWidth, itemSize, itemEntries, moreEntries, traitSize, traitValue, traitEntry, traitEntries, traitsSize}
-use Rattle.paper.specs.Entries.{conceptSize, conceptCount, bodySize, bodyCount, markerOf, conceptForm, markerName, bodyStart, conceptEntry, insideEntries}
+use Rattle.paper.specs.Grammar.{blankOnto, tabsOnto, markerOnto, traitOnto, endingOnto, closingOnto, linesOnto, conceptOnto, bodyOnto, blankRule}
+use Rattle.paper.specs.Grammar.{markerRule, opensBlock, lineRule, conceptRule, bodyRule}
+use Rattle.paper.specs.Limits.{listLimit, markerFits, conceptFits, bodyFits, conceptDepth}
+use Rattle.paper.specs.Entries.{Entry, valueWidth, itemSize, itemEntries, moreEntries, traitSize, traitValue, traitEntries, traitsSize}
+use Rattle.paper.specs.Entries.{conceptSize, bodySize, bodyCount, markerOf, conceptForm, markerName, bodyStart, conceptEntry, insideEntries}
 use Rattle.paper.specs.Entries.{bodyEntries}
-use Rattle.paper.specs.Canonical.{MarkerSense, markerSense, lineSense, conceptSense, bodySense, printMarker, printLines, printConcept, printBody}
+use Rattle.paper.specs.Canonical.{markerSense, lineSense, conceptSense, bodySense, printMarker, printLines, printConcept, printBody}
 use Rattle.paper.proofs.Lists.{both}
 use Rattle.paper.proofs.Sizes.{traits-size}
 use Rattle.paper.proofs.Concepts.{element-parts}
@@ -27,7 +26,7 @@ use Rattle.paper.proofs.Fronts.{marker-front, blank-front, past-front, past-byt
 use Rattle.entries.specs.Laid.{entryAt}
 use Rattle.quoting.specs.Page.{page, Puts}
 use Rattle.printing.specs.Standing.{Stand, Ends, OfConcept, OfBody}
-use Rattle.printing.specs.Walking.{OfContent, Keeps, KeepsBody, traitsIn, Elements, ContentPut, ConceptPut, BodyPut}
+use Rattle.printing.specs.Walking.{OfContent, Keeps, traitsIn, Elements, ContentPut, ConceptPut, BodyPut}
 use Rattle.printing.specs.Wholes.{MarkerPut}
 use Rattle.printing.proofs.Standing.{stand-entry, stand-front, stand-back}
 use Rattle.quoting.proofs.Parts.{part-is}

@@ -1,22 +1,21 @@
 -- Lines of Content: where a line ends, its text, and what is put for it. Document 01, "Content" and "Canonical form". Assumes nothing.
 use Prim.Native.Nat.{ℕ, zero, suc, _+_, _-_, _≤_, _<_}
 use mathlib.Core.Path.{_≡_, refl, sym, ap, _∙_}
-use mathlib.Core.Bool.{Bool, true, false, not, _||_}
+use mathlib.Core.Bool.{Bool, true, false, not}
 use mathlib.Core.List.{List, [], _∷_, _++_, map, append-assoc, append-nil}
 use native.Mathlib.Omega.{arith}
 use lib.ListN.{length, take, drop, replicate, length-append, length-replicate, length-drop, drop-of-length-le}
 use lib.Seq.{drop-append-seam, take-length, take-all}
 use lib.Dec.{eqb}
 use borrow.Author.Tests.{not-true, eqb-true}
-use Rattle.paper.specs.Found.{pick}
 use Rattle.paper.specs.Bytes.{isBlank, isLineEnd, all, startsIn, startsWith, lengthIn, front, behind, lf, cr, tab, space}
-use Rattle.paper.specs.Tree.{LineEnd, LF, CRLF, Blank, Line, blank, text}
-use Rattle.paper.specs.Grammar.{lineEndOnto, blankOnto, tabsOnto, closingOnto, lineOnto, linesOnto, lineRule}
+use Rattle.paper.specs.Tree.{LineEnd, LF, CRLF, Line, blank, text}
+use Rattle.paper.specs.Grammar.{lineEndOnto, tabsOnto, closingOnto, lineOnto, linesOnto, lineRule}
 use Rattle.paper.specs.Entries.{Entry, unnamed}
 use Rattle.paper.specs.Reading.{isTab}
 use Rattle.paper.specs.Canonical.{lineSense, printLine, printLines}
 use Rattle.paper.proofs.Tests.{split, true-false, either}
-use Rattle.paper.proofs.Lists.{both, all-head, all-cons, all-weaken, all-append, all-nil, front-all, front-of, front-length, behind-of}
+use Rattle.paper.proofs.Lists.{both, all-head, all-weaken, all-append, all-nil, front-all, front-of, front-length, behind-of}
 use Rattle.paper.proofs.Lines.{all-tabs, tabs-length}
 use Rattle.paper.proofs.Fronts.{lines-front, past-front, front-append}
 use Rattle.text.proofs.Places.{front-behind}

@@ -1,5 +1,5 @@
 -- Annotations that stand in the cells and in the sheet, put one behind the other. Document 01, "Canonical form". Assumes nothing.
-use Prim.Native.Nat.{ℕ, suc, _+_, _-_, _*_, _≤_, _<_}
+use Prim.Native.Nat.{ℕ, _+_, _-_}
 use mathlib.Core.Path.{_≡_, refl, sym, ap, _∙_}
 use mathlib.Core.List.{List, [], _∷_, _++_, map}
 use native.Mathlib.Omega.{arith}
@@ -8,12 +8,12 @@ use Rattle.paper.specs.Bytes.{byte, bytes, lf, tab}
 use Rattle.paper.specs.Values.{collapse}
 use Rattle.paper.specs.Tree.{Annotation}
 use Rattle.paper.specs.Grammar.{tabsOnto, blankOnto, annotationOnto, annotationsOnto}
-use Rattle.paper.specs.Entries.{Entry, entryCells, unnamed, annotationEntries}
+use Rattle.paper.specs.Entries.{Entry, unnamed, annotationEntries}
 use Rattle.paper.specs.Canonical.{annotationSense, printNotes}
 use Rattle.paper.proofs.Fronts.{note-front, past-front, past-bytes}
 use Rattle.entries.specs.Laid.{entryAt}
 use Rattle.quoting.specs.Page.{page, Puts}
-use Rattle.printing.specs.Standing.{Stand, kindAt}
+use Rattle.printing.specs.Standing.{kindAt}
 use Rattle.printing.specs.Walking.{OfNotes}
 use Rattle.printing.proofs.Standing.{stand-entry, stand-back}
 use Rattle.quoting.proofs.Parts.{part-is}

@@ -2,11 +2,11 @@
 -- Document 01, "Canonical form".
 use Prim.Native.Nat.{ℕ, suc}
 use mathlib.Core.Bool.{Bool, true, false}
-use mathlib.Core.List.{List, [], _∷_, map}
+use mathlib.Core.List.{List, _∷_}
 use Rattle.paper.specs.Bytes.{lf, space}
 use Rattle.paper.specs.Tree.{Trait, Concept, selfClosed, children, content, Ending, block, self}
 use Rattle.paper.specs.Grammar.{tabsOnto}
-use Rattle.paper.specs.Canonical.{TraitSense, valueSense, printBeside, printBelow, printTrait}
+use Rattle.paper.specs.Canonical.{TraitSense, valueSense, printBeside, printBelow}
 
 abbrev pub traitSense : Trait → TraitSense
 traitSense t = record { name = t .name; value = valueSense (t .value) }

@@ -1,16 +1,16 @@
 -- Bytes put on a page: what fits, what does not, and one step behind another. Over plain lists. Assumes nothing.
-use Prim.Native.Nat.{ℕ, suc, _+_, _-_, _≤_, _<_, _/_, _%_}
+use Prim.Native.Nat.{ℕ, suc, _+_, _≤_, _<_, _/_, _%_}
 use mathlib.Core.Path.{_≡_, sym, ap, _∙_}
 use mathlib.Core.List.{List, [], _∷_, _++_}
 use native.Mathlib.Numerals.{add-one}
 use native.Mathlib.Nat.{add-zero}
 use native.Mathlib.Omega.{arith}
 use borrow.Author.Tests.{lt-leb, lt-ltb, le-ltb}
-use lib.ListN.{length, length-append, replicate, set, getD, drop, drop-of-length-le}
+use lib.ListN.{length, length-append, set, getD, drop, drop-of-length-le}
 use lib.Seq.{sets, length-sets, drop-cons}
 use mathlib.Core.Bool.{Bool, true, false}
 use Rattle.paper.specs.Found.{pick}
-use Rattle.paper.specs.Bytes.{byte, bytes, tab, space}
+use Rattle.paper.specs.Bytes.{byte, bytes, space}
 use Rattle.paper.specs.Canonical.{hexLetter, hexOnto}
 use Rattle.quoting.specs.Page.{page, full, Puts}
 
@@ -45,25 +45,15 @@ stored out after at to w e f =
           rw (n, l, sets-append w next out at, ← e, ← f);
     }
 
--- a turn of the loop that copies, and its end
-pub copies-more : (out part : List ℕ) (at i : ℕ) → i < length part
-    → sets (set out (at + i) (getD part i 0)) (at + (i + 1)) (drop (i + 1) part) ≡ sets out (at + i) (drop i part)
-copies-more out part at i h =
+-- a turn of a loop that stores these bytes one by one, and its end
+pub stores-more : (out part : List ℕ) (at i b : ℕ) → i < length part → b ≡ getD part i 0
+    → sets (set out (at + i) b) (at + (i + 1)) (drop (i + 1) part) ≡ sets out (at + i) (drop i part)
+stores-more out part at i b h is =
     let e : at + suc i ≡ suc (at + i) = omega arith in
-    rw (add-one i, drop-cons part i 0 h, e)
+    rw (is, add-one i, drop-cons part i 0 h, e)
 
-pub copies-end : (out part : List ℕ) (at i : ℕ) → length part ≤ i → sets out (at + i) (drop i part) ≡ out
-copies-end out part at i h = rw (drop-of-length-le part h)
-
-pub tabs-more : (out : List ℕ) (at n i : ℕ) → i < n → sets (set out (at + i) tab) (at + (i + 1)) (replicate (n - (i + 1)) tab)
-    ≡ sets out (at + i) (replicate (n - i) tab)
-tabs-more out at n i h =
-    let e : at + (i + 1) ≡ suc (at + i) = omega arith in
-    let left : n - i ≡ suc (n - (i + 1)) = omega arith in
-    rw (left, e)
-
-pub tabs-end : (out : List ℕ) (at n i : ℕ) → n ≤ i → sets out (at + i) (replicate (n - i) tab) ≡ out
-tabs-end out at n i h = let left : n - i ≡ 0 = omega arith in rw left
+pub stores-end : (out part : List ℕ) (at i : ℕ) → length part ≤ i → sets out (at + i) (drop i part) ≡ out
+stores-end out part at i h = rw (drop-of-length-le part h)
 
 -- ---- one step behind another
 

@@ -1,7 +1,7 @@
 -- Spellings between quotes: which piece stands at a place, and what is put for it. Document 01, "Canonical form". Assumes nothing.
-use Prim.Native.Nat.{ℕ, suc, _+_, _-_, _≤_, _<_, _/_, _%_, min}
+use Prim.Native.Nat.{ℕ, _+_, _-_, _≤_, _<_, _/_, _%_, min}
 use mathlib.Core.Path.{_≡_, refl, sym, ap, _∙_}
-use mathlib.Core.Bool.{Bool, true, false, not, _&&_, _||_}
+use mathlib.Core.Bool.{true, false, _&&_, _||_}
 use mathlib.Core.List.{List, [], _∷_, _++_}
 use native.Mathlib.Omega.{arith}
 use lib.ListN.{length, take, drop, getD, length-append, length-drop, drop-of-length-le}
@@ -17,7 +17,7 @@ use Rattle.text.proofs.Places.{here, front-behind}
 use Rattle.paper.proofs.Lists.{both, front-length, front-least, starts-is}
 use Rattle.paper.proofs.Scalars.{byScalar}
 use Rattle.paper.proofs.Pieces.{piece-longer}
-use Rattle.quoting.specs.Page.{page, Puts}
+use Rattle.quoting.specs.Page.{Puts}
 use Rattle.quoting.proofs.Sequences.{Sequence, Left, left-all, left-on, left-over}
 
 pub bytes-append : (quote : ℕ) (a b next : List ℕ) → bytesOnto quote (a ++ b) next ≡ bytesOnto quote a (bytesOnto quote b next)

@@ -6,7 +6,7 @@ use native.Mathlib.Nat.{add-zero}
 use lib.ListN.{length, drop, length-set}
 use lib.Seq.{sets}
 use borrow.Author.Needs.{needs}
-use Rattle.quoting.proofs.Putting.{no-room, stored, copies-more, copies-end}
+use Rattle.quoting.proofs.Putting.{no-room, stored, stores-more, stores-end}
 use Rattle.quoting.proofs.page.put.Statement.{statement}
 use Rattle.quoting.proofs.page.put.Tie as tie
 
@@ -54,8 +54,8 @@ loop-again c =
       omega arith,
       omega arith,
       simp length-set (omega arith),
-      copies-more (turn .loop .out) (start .args .part .now) (start .args .at) (turn .loop .i)
-          (omega arith) ∙ turn .loop .inv .3,
+      stores-more (turn .loop .out) (start .args .part .now) (start .args .at) (turn .loop .i) _ (omega arith) refl
+          ∙ turn .loop .inv .3,
     )
 
 add-result-2 : tie.Need-add-result-2 Inv-loop μ-loop
@@ -69,7 +69,7 @@ returns-3 c =
     let turn = c .before in
     let start = turn .before .before .before in
     stored (start .args .out .now) _ (start .args .at) _ (start .args .part .now)
-    (sym (copies-end (turn .loop .out) (start .args .part .now) (start .args .at) (turn .loop .i) (omega arith)) ∙ turn .loop .inv .3) refl
+    (sym (stores-end (turn .loop .out) (start .args .part .now) (start .args .at) (turn .loop .i) (omega arith)) ∙ turn .loop .inv .3) refl
 
 pub put-spec : {M : Type 1} → statement M
 put-spec =

@@ -2,18 +2,18 @@
 use Prim.Native.Nat.{_≤_, _+_, _-_}
 use mathlib.Core.Path.{_≡_, refl, sym, _∙_}
 use native.Mathlib.Omega.{arith}
-use native.Mathlib.Numerals.{unary-clauses}
-use lib.ListN.{length, length-set, replicate, length-replicate}
+use native.Mathlib.Nat.{add-zero}
+use lib.ListN.{length, drop, length-set, replicate, length-replicate, getD-replicate}
 use lib.Seq.{sets}
 use borrow.Author.Needs.{needs}
 use Rattle.paper.specs.Bytes.{tab}
-use Rattle.quoting.proofs.Putting.{no-room, stored, tabs-more, tabs-end}
+use Rattle.quoting.proofs.Putting.{no-room, stored, stores-more, stores-end}
 use Rattle.quoting.proofs.page.put_tabs.Statement.{statement}
 use Rattle.quoting.proofs.page.put_tabs.Tie as tie
 
 abbrev Inv-loop : tie.InvT-loop
 Inv-loop out₀ at tabs i₀ out i = (i ≤ tabs) × (at + tabs ≤ length out₀) × (length out ≡ length out₀) ×
-    (sets out (at + i) (replicate (tabs - i) tab) ≡ sets out₀ at (replicate tabs tab))
+    (sets out (at + i) (drop i (replicate tabs tab)) ≡ sets out₀ at (replicate tabs tab))
 
 abbrev μ-loop : tie.MeasureT-loop
 μ-loop out₀ at tabs i₀ out i = tabs - i
@@ -32,7 +32,7 @@ returns-2 c = no-room (c .before .before .args .out .now) (c .before .before .ar
     (simp length-replicate (omega arith)) (omega arith)
 
 loop-holds : tie.Need-loop-holds Inv-loop μ-loop
-loop-holds c = (omega arith, omega arith, refl, simp unary-clauses)
+loop-holds c = (omega arith, omega arith, refl, rw add-zero refl)
 
 add-out : tie.Need-add-out Inv-loop μ-loop
 add-out c = omega arith
@@ -53,8 +53,8 @@ loop-again c =
       omega arith,
       omega arith,
       simp length-set (omega arith),
-      tabs-more (turn .loop .out) (start .args .at) (start .args .tabs) (turn .loop .i) (omega arith)
-          ∙ turn .loop .inv .3,
+      stores-more (turn .loop .out) (replicate (start .args .tabs) tab) (start .args .at) (turn .loop .i) tab (simp length-replicate (omega arith))
+          (sym (getD-replicate (start .args .tabs) (turn .loop .i) tab 0 (omega arith))) ∙ turn .loop .inv .3,
     )
 
 add-result-2 : tie.Need-add-result-2 Inv-loop μ-loop
@@ -68,7 +68,8 @@ returns-3 c =
     let turn = c .before in
     let start = turn .before .before .before in
     stored (start .args .out .now) _ (start .args .at) _ (replicate (start .args .tabs) tab)
-    (sym (tabs-end (turn .loop .out) (start .args .at) (start .args .tabs) (turn .loop .i) (omega arith)) ∙ turn .loop .inv .3) (simp length-replicate)
+    (sym (stores-end (turn .loop .out) (replicate (start .args .tabs) tab) (start .args .at) (turn .loop .i) (simp length-replicate (omega arith)))
+    ∙ turn .loop .inv .3) (simp length-replicate)
 
 pub put-tabs-spec : {M : Type 1} → statement M
 put-tabs-spec =
