@@ -1,8 +1,8 @@
-/* cdx.h: reading Codex sheets (.cdx) and writing their canonical form, for C.
+/* cdx.h: reading Codex sheets (.cdx) and rolls of them, writing a sheet's canonical form and adding it to a roll, for C.
  *
  * Link with libgateway.a. Every function takes any bytes and any room: there is nothing to check before a call, and a call
- * neither allocates nor keeps anything. What is lent must be there for its whole length, and what a function writes (cells, out,
- * answer) must not overlap anything else that is lent in the same call.
+ * neither allocates nor keeps anything. What is lent must be there for its whole length, and what a function writes (cells, records,
+ * out, answer, and the roll of cdx_add) must not overlap anything else that is lent in the same call.
  *
  * A pointer may not be null, also where its length is 0.
  */
@@ -35,19 +35,18 @@ extern "C" {
 /* An answer's first number: CDX_OK, or why the input is refused. */
 enum cdx_number {
     CDX_OK = 0,
-    CDX_TABLE = 1,          /* the mode table is not in order */
-    CDX_SHEET_TOO_LONG = 2, /* the sheet has more than CDX_MAX_SHEET bytes */
-    CDX_BYTES = 3,          /* bytes that no sheet may have: not UTF-8, or a control byte */
-    CDX_NAME = 4,           /* a name breaks the name rule or is longer than CDX_MAX_NAME bytes */
-    CDX_UNLISTED = 5,       /* a Concept's name is not in the mode table */
-    CDX_VALUE = 6,          /* a trait's value is of no kind */
-    CDX_DUE = 7,            /* something else was due here */
-    CDX_CLOSING_NAME = 8,   /* a closing marker has another name than the open Concept */
-    CDX_CUT = 9,            /* the input ends before the root is closed */
-    CDX_TOO_DEEP = 10,      /* more than CDX_MAX_CONCEPTS Concepts or CDX_MAX_LISTS lists in one another */
-    CDX_NO_ENTRY_LEFT = 11, /* more entries than CDX_MAX_ENTRIES, or than there are cells lent for */
-    CDX_NO_ROOM = 12,       /* the canonical form has more than CDX_MAX_SHEET bytes, or than there is room lent for */
-    /* 13 to 16 are for rolls, and none of the functions below gives them: */
+    CDX_TABLE = 1,            /* the mode table is not in order */
+    CDX_SHEET_TOO_LONG = 2,   /* the sheet has more than CDX_MAX_SHEET bytes */
+    CDX_BYTES = 3,            /* bytes that no sheet may have: not UTF-8, or a control byte */
+    CDX_NAME = 4,             /* a name breaks the name rule or is longer than CDX_MAX_NAME bytes */
+    CDX_UNLISTED = 5,         /* a Concept's name is not in the mode table */
+    CDX_VALUE = 6,            /* a trait's value is of no kind */
+    CDX_DUE = 7,              /* something else was due here */
+    CDX_CLOSING_NAME = 8,     /* a closing marker has another name than the open Concept */
+    CDX_CUT = 9,              /* the input ends before the root is closed */
+    CDX_TOO_DEEP = 10,        /* more than CDX_MAX_CONCEPTS Concepts or CDX_MAX_LISTS lists in one another */
+    CDX_NO_ENTRY_LEFT = 11,   /* more entries than CDX_MAX_ENTRIES, or than there are cells lent for */
+    CDX_NO_ROOM = 12,         /* the canonical form has more than CDX_MAX_SHEET bytes, or than there is room lent for */
     CDX_ROLL_TOO_LONG = 13,   /* the roll has more than CDX_MAX_ROLL bytes */
     CDX_BEFORE_BOUNDARY = 14, /* something stands before a roll's first sheet, or a roll to be added to does not end with a line end */
     CDX_TOO_MANY_SHEETS = 15, /* more sheets in a roll than CDX_MAX_SHEETS, or than there are records lent for */
@@ -94,6 +93,20 @@ enum cdx_value_form {
     CDX_LIST = 12
 };
 
+/* A record of a roll is so many cells, and these are its cells by their place in it. */
+#define CDX_RECORD 5
+
+/* Cells for the records of every roll. */
+#define CDX_MAX_RECORD_CELLS (CDX_MAX_SHEETS * CDX_RECORD)
+
+enum cdx_record_cell {
+    CDX_SHEET_START = 0,  /* where the sheet starts in the roll, */
+    CDX_SHEET_END = 1,    /*   and the place behind its last byte */
+    CDX_SHEET_NUMBER = 2, /* what cdx_sheet answers for its bytes: an enum cdx_number, */
+    CDX_SHEET_PLACE = 3,  /*   a place in the sheet, which is its length where the number is CDX_OK, */
+    CDX_SHEET_COUNT = 4   /*   and how many entries it has */
+};
+
 /* Reads a mode table.
  * answer: CDX_OK, the table's length and how many names it has; or CDX_TABLE, the place of the fault and 0. */
 void cdx_table(const uint8_t *table, size_t table_len, uint32_t answer[3]);
@@ -115,6 +128,26 @@ void cdx_view(const uint8_t *sheet, size_t sheet_len, const uint32_t *cells, siz
  * refusal, its place and 0: as cdx_sheet answers, and where it accepts CDX_NO_ROOM, 0 and 0. Then all of out is as it came. */
 void cdx_write(const uint8_t *table, size_t table_len, const uint8_t *sheet, size_t sheet_len, uint32_t *cells, size_t cells_len,
                uint8_t *out, size_t out_len, uint32_t answer[3]);
+
+/* Reads a roll under a mode table, and writes a record of each of its sheets into the record cells lent. A sheet begins where a line
+ * begins with "<" and an upper case letter, and ends where the next one begins; a sheet that is refused hurts no other.
+ * The cells are lent to the reading of each sheet, as to cdx_sheet, and are all 0 after every answer. records_len and cells_len count
+ * cells, not bytes; there is room for records_len / CDX_RECORD records, and no roll has more than CDX_MAX_SHEETS.
+ * answer: CDX_OK, the roll's length and how many records there are; all record cells behind them are 0. Or CDX_ROLL_TOO_LONG,
+ * CDX_TABLE, CDX_BEFORE_BOUNDARY or CDX_TOO_MANY_SHEETS, its place (in the table for CDX_TABLE, else in the roll) and 0; then every
+ * record cell is 0. */
+void cdx_roll(const uint8_t *table, size_t table_len, const uint8_t *roll, size_t roll_len, uint32_t *records, size_t records_len,
+              uint32_t *cells, size_t cells_len, uint32_t answer[3]);
+
+/* Adds the canonical form of a sheet that reads without refusal, and one further line end, behind the first n bytes of a roll.
+ * roll_len is all the room that is lent, of which n bytes are in use; n may be any number. A roll begins empty, with n = 0, and the count
+ * of one answer is the n of the next call. The cells are lent to the reading, as to cdx_sheet, and are all 0 after every answer.
+ * answer: CDX_OK, 0 and how many bytes of the roll are in use now; those before n and those behind are as they came. Or the number of a
+ * refusal, its place and 0; then all of the roll is as it came. Refusals are those of cdx_sheet; then CDX_ROOT_ANNOTATED, at the "["; then
+ * CDX_NO_ROOM, at 0, where the form and its line end have more than CDX_MAX_SHEET bytes, or the new length is more than roll_len or
+ * CDX_MAX_ROLL; then CDX_BEFORE_BOUNDARY, at n, where n is not 0 and the byte before it is no line end (LF). */
+void cdx_add(const uint8_t *table, size_t table_len, const uint8_t *sheet, size_t sheet_len, uint8_t *roll, size_t roll_len, uint64_t n,
+             uint32_t *cells, size_t cells_len, uint32_t answer[3]);
 
 #ifdef __cplusplus
 }

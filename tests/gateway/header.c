@@ -1,5 +1,5 @@
 /* Holds the numbers of cdx.h to libgateway.a: what is at a limit is accepted and what is one past it refused, each refusal has its
- * number, and each kind and form of an entry too. Says what is not so, and then ends with status 1. */
+ * number, and each kind and form of an entry and cell of a record too. Says what is not so, and then ends with status 1. */
 #include "cdx.h"
 
 #include <stdio.h>
@@ -7,11 +7,13 @@
 
 static const char lab[] = "\1\3Lab\1\5Steps"; /* Lab in children mode, Steps in content mode */
 
-static char text[2 * CDX_MAX_SHEET]; /* a sheet or a table in the making */
+static char text[2 * CDX_MAX_ROLL]; /* a sheet, a table or a roll in the making */
 static size_t length;
 static uint32_t cells[CDX_MAX_CELLS + CDX_CELLS]; /* an entry more than is allowed */
 static const size_t cells_len = sizeof cells / sizeof *cells;
-static uint8_t out[2 * CDX_MAX_SHEET];
+static uint32_t records[CDX_MAX_RECORD_CELLS + CDX_RECORD]; /* a record more than is allowed */
+static const size_t records_len = sizeof records / sizeof *records;
+static uint8_t out[2 * CDX_MAX_ROLL];
 static int status;
 
 static void add(const char *part, size_t times)
@@ -51,6 +53,26 @@ static void form_is(enum cdx_number due, size_t room, const char *what)
 {
     uint32_t answer[CDX_ANSWER];
     cdx_write((const uint8_t *)lab, sizeof lab - 1, (const uint8_t *)text, length, cells, cells_len, out, room, answer);
+    if (answer[0] != due)
+        wrong(what, due, answer[0]);
+    length = 0;
+}
+
+/* Reads the roll in the making, into so many record cells, and begins anew. */
+static void roll_is(enum cdx_number due, size_t lent, const char *what)
+{
+    uint32_t answer[CDX_ANSWER];
+    cdx_roll((const uint8_t *)lab, sizeof lab - 1, (const uint8_t *)text, length, records, lent, cells, cells_len, answer);
+    if (answer[0] != due)
+        wrong(what, due, answer[0]);
+    length = 0;
+}
+
+/* Adds the sheet in the making behind the first n bytes of the output, with so much room, and begins anew. */
+static void adding_is(enum cdx_number due, size_t room, uint64_t n, const char *what)
+{
+    uint32_t answer[CDX_ANSWER];
+    cdx_add((const uint8_t *)lab, sizeof lab - 1, (const uint8_t *)text, length, out, room, n, cells, cells_len, answer);
     if (answer[0] != due)
         wrong(what, due, answer[0]);
     length = 0;
@@ -169,6 +191,53 @@ static void try_forms(void)
     form_is(CDX_NO_ROOM, sizeof out, "a form of more than CDX_MAX_SHEET bytes");
 }
 
+static void try_rolls(void)
+{
+    for (size_t past = 0; past < 2; past++) {
+        add("\n", CDX_MAX_ROLL + past);
+        roll_is(past ? CDX_ROLL_TOO_LONG : CDX_OK, records_len, "CDX_MAX_ROLL");
+        add("<Lab/>\n", CDX_MAX_SHEETS + past);
+        roll_is(past ? CDX_TOO_MANY_SHEETS : CDX_OK, records_len, "CDX_MAX_SHEETS");
+        add("<Lab/>\n", 2 + past);
+        roll_is(past ? CDX_TOO_MANY_SHEETS : CDX_OK, 2 * CDX_RECORD, "CDX_RECORD");
+    }
+    add("x<Lab/>", 1);
+    roll_is(CDX_BEFORE_BOUNDARY, records_len, "CDX_BEFORE_BOUNDARY");
+}
+
+static void try_records(void)
+{
+    static const uint32_t due[2][CDX_RECORD] = {
+        {[CDX_SHEET_START] = 1, [CDX_SHEET_END] = 12, [CDX_SHEET_NUMBER] = CDX_OK, [CDX_SHEET_PLACE] = 11, [CDX_SHEET_COUNT] = 2},
+        {[CDX_SHEET_START] = 12, [CDX_SHEET_END] = 20, [CDX_SHEET_NUMBER] = CDX_UNLISTED, [CDX_SHEET_PLACE] = 1, [CDX_SHEET_COUNT] = 0},
+    };
+    add("\n<Lab n=4/>\n<Other/>", 1);
+    roll_is(CDX_OK, records_len, "a roll");
+    for (size_t at = 0; at < 2 * CDX_RECORD; at++)
+        if (records[at] != due[at / CDX_RECORD][at % CDX_RECORD])
+            wrong("a cell of a record", due[at / CDX_RECORD][at % CDX_RECORD], records[at]);
+}
+
+static void try_adding(void)
+{
+    static const char form[] = "<Lab />\n\n";
+    for (size_t room = 0; room <= sizeof form; room++) {
+        add("<Lab/>", 1);
+        adding_is(room < strlen(form) ? CDX_NO_ROOM : CDX_OK, room, 0, "the room of a form that is added");
+    }
+    for (size_t past = 0; past < 2; past++) {
+        add("<Lab/>", 1);
+        out[CDX_MAX_ROLL - strlen(form) + past - 1] = '\n';
+        adding_is(past ? CDX_NO_ROOM : CDX_OK, sizeof out, CDX_MAX_ROLL - strlen(form) + past, "CDX_MAX_ROLL of a roll that is added to");
+        add_steps(CDX_MAX_SHEET - 2 + past);
+        adding_is(past ? CDX_NO_ROOM : CDX_OK, sizeof out, 0, "a form and its line end of CDX_MAX_SHEET bytes");
+    }
+    add("[a]\n<Lab/>", 1);
+    adding_is(CDX_ROOT_ANNOTATED, sizeof out, 0, "CDX_ROOT_ANNOTATED");
+    add("<Lab/>", 1);
+    adding_is(CDX_BEFORE_BOUNDARY, sizeof out, 1, "CDX_BEFORE_BOUNDARY of a roll that is added to");
+}
+
 /* An entry of the sheet that was read last: number, kind, form, parent and count. */
 static void entry_is(size_t number, enum cdx_kind kind, unsigned form, uint32_t parent, unsigned count)
 {
@@ -210,7 +279,10 @@ int main(void)
     try_refusals();
     try_forms();
     try_entries();
+    try_rolls();
+    try_records();
+    try_adding();
     if (status == 0)
-        puts("the limits, refusals, kinds and forms of include/cdx.h are the library's");
+        puts("the limits, refusals, kinds, forms and records of include/cdx.h are the library's");
     return status;
 }

@@ -3,7 +3,7 @@
 use Prim.Native.Nat.{ℕ}
 use mathlib.Core.Path.{_≡_, sym, _∙_}
 use mathlib.Core.List.{List}
-use Rattle.gateway.specs.Promises.{TellsTable, TellsSheet, TellsView, TellsForm}
+use Rattle.gateway.specs.Promises.{TellsTable, TellsSheet, TellsView, TellsForm, TellsRoll, TellsAdding}
 
 pub one-answer-cdx-table : (table answer answer′ : List ℕ) → TellsTable table answer → TellsTable table answer′ → answer ≡ answer′
 one-answer-cdx-table table answer answer′ e e′ = e ∙ sym e′
@@ -20,3 +20,13 @@ pub one-answer-cdx-write : (table sheet : List ℕ) (lent : ℕ) (out : List ℕ
     → TellsForm table sheet lent out cells after answer → TellsForm table sheet lent out cells′ after′ answer′
     → (cells ≡ cells′) × (after ≡ after′) × (answer ≡ answer′)
 one-answer-cdx-write table sheet lent out cells cells′ after after′ answer answer′ p q = (p .0 ∙ sym (q .0), p .1 ∙ sym (q .1), p .2 ∙ sym (q .2))
+
+pub one-answer-cdx-roll : (table roll : List ℕ) (records lent : ℕ) (kept kept′ cells cells′ answer answer′ : List ℕ)
+    → TellsRoll table roll records lent kept cells answer → TellsRoll table roll records lent kept′ cells′ answer′
+    → (kept ≡ kept′) × (cells ≡ cells′) × (answer ≡ answer′)
+one-answer-cdx-roll table roll records lent kept kept′ cells cells′ answer answer′ p q = (p .0 ∙ sym (q .0), p .1 ∙ sym (q .1), p .2 ∙ sym (q .2))
+
+pub one-answer-cdx-add : (table sheet roll : List ℕ) (n lent : ℕ) (after after′ cells cells′ answer answer′ : List ℕ)
+    → TellsAdding table sheet roll n lent after cells answer → TellsAdding table sheet roll n lent after′ cells′ answer′
+    → (after ≡ after′) × (cells ≡ cells′) × (answer ≡ answer′)
+one-answer-cdx-add table sheet roll n lent after after′ cells cells′ answer answer′ p q = (p .0 ∙ sym (q .0), p .1 ∙ sym (q .1), p .2 ∙ sym (q .2))

@@ -1,11 +1,12 @@
 -- What the functions for C promise: their contracts cite it, and so do the theorems that there is one answer only.
--- Document 01, the answers of "Order", and "One answer only".
+-- Document 01, "Rolls", the answers of "Order", and "One answer only".
 use Prim.Native.Nat.{ℕ}
 use mathlib.Core.Path.{_≡_}
 use mathlib.Core.List.{List}
 use Rattle.paper.specs.Modes.{readTable}
 use Rattle.paper.specs.Reading.{reading}
 use Rattle.paper.specs.Writing.{writing}
+use Rattle.paper.specs.Roll.{rollReading, adding}
 use Rattle.gateway.specs.Answers.{threeOf, viewOf}
 
 -- `cdx_table` writes this answer for a table
@@ -24,3 +25,17 @@ TellsView sheet cells entry answer = answer ≡ viewOf sheet cells entry
 abbrev pub TellsForm : List ℕ → List ℕ → ℕ → List ℕ → List ℕ → List ℕ → List ℕ → Type 0
 TellsForm table sheet lent out cells after answer =
     (cells ≡ writing table sheet lent out .cells) × (after ≡ writing table sheet lent out .out) × (answer ≡ threeOf (writing table sheet lent out .answer))
+
+-- `cdx_roll` leaves these records and these cells, of both of which so many are lent, and writes this answer
+abbrev pub TellsRoll : List ℕ → List ℕ → ℕ → ℕ → List ℕ → List ℕ → List ℕ → Type 0
+TellsRoll table roll records lent recordsAfter cells answer =
+    (recordsAfter ≡ rollReading table roll records lent .records)
+    × (cells ≡ rollReading table roll records lent .cells)
+    × (answer ≡ threeOf (rollReading table roll records lent .answer))
+
+-- `cdx_add` makes this roll of the one that came, behind its first n bytes, leaves these cells, of which so many are lent, and writes this answer
+abbrev pub TellsAdding : List ℕ → List ℕ → List ℕ → ℕ → ℕ → List ℕ → List ℕ → List ℕ → Type 0
+TellsAdding table sheet roll n lent after cells answer =
+    (after ≡ adding table sheet roll n lent .out)
+    × (cells ≡ adding table sheet roll n lent .cells)
+    × (answer ≡ threeOf (adding table sheet roll n lent .answer))

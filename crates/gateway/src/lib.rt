@@ -9,7 +9,7 @@ ghost use mathlib.Core.Path.{_≡_};
 ghost use lib.ListN.{length};
 ghost use Rattle.paper.specs.Answer.{told};
 ghost use Rattle.gateway.specs.Answers.{Few, threeOf};
-ghost use Rattle.gateway.specs.Promises.{TellsTable, TellsSheet, TellsView, TellsForm};
+ghost use Rattle.gateway.specs.Promises.{TellsTable, TellsSheet, TellsView, TellsForm, TellsRoll, TellsAdding};
 
 // Reads a mode table. The answer is number, place and count.
 #[no_mangle]
@@ -56,6 +56,40 @@ pub extern "C" fn cdx_write(
         (now (cells .exit)) (now (out .exit)) (now (answer .exit)) ⌝ }
 {
     tell(write(table, sheet, cells, out), answer);
+}
+
+// Reads a roll into the records lent. The cells are lent to the reading of each sheet, and zero after every answer. The answer is
+// number, place and count of records; a refusal leaves every record cell zero.
+#[no_mangle]
+pub extern "C" fn cdx_roll(
+    table: &[u8],
+    roll: &[u8],
+    records: &mut [u32],
+    cells: &mut [u32],
+    answer: &mut [u32; 3],
+)
+    ensures { λ _. ⌜ TellsRoll (now (table .entry)) (now (roll .entry)) (length (now (records .entry))) (length (now (cells .entry)))
+        (now (records .exit)) (now (cells .exit)) (now (answer .exit)) ⌝ }
+{
+    tell(rolls::read(table, roll, records, cells), answer);
+}
+
+// Adds the canonical form of a sheet that reads without refusal, and one further LF, behind the first n bytes of the roll, and leaves
+// every other byte of it as it came; a refusal leaves all of it. The cells are lent to the reading, and zero after every answer. The
+// answer is number, place and the roll's new length.
+#[no_mangle]
+pub extern "C" fn cdx_add(
+    table: &[u8],
+    sheet: &[u8],
+    roll: &mut [u8],
+    n: u64,
+    cells: &mut [u32],
+    answer: &mut [u32; 3],
+)
+    ensures { λ _. ⌜ TellsAdding (now (table .entry)) (now (sheet .entry)) (now (roll .entry)) n (length (now (cells .entry)))
+        (now (roll .exit)) (now (cells .exit)) (now (answer .exit)) ⌝ }
+{
+    tell(rolls::add(table, sheet, roll, n as usize, cells), answer);
 }
 
 // Writes an answer's number, place and count. They are small enough for an answer's cells.
