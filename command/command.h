@@ -9,7 +9,7 @@
 /* How a command ends: the exit status. Of several files the worst decides. */
 enum status {
     ALL_WELL = 0,
-    REFUSED = 1, /* a sheet or a mode table is refused */
+    REFUSED = 1, /* a sheet, a roll or a mode table is refused */
     FAILED = 2   /* wrong use, or something could not be read or written */
 };
 
@@ -34,5 +34,5 @@ struct command {
     enum status (*run)(const struct request *request, const struct table *table);
 };
 
-extern const struct command table_command, check_command, show_command, format_command;
+extern const struct command table_command, check_command, show_command, format_command, roll_command, add_command;
 #endif

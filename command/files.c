@@ -10,6 +10,7 @@
 #include <fcntl.h>
 #include <stdio.h>
 #include <string.h>
+#include <sys/stat.h>
 #include <unistd.h>
 
 bool is_standard_input(const char *file)
@@ -28,6 +29,19 @@ bool cannot(const char *action, const char *name)
     fprintf(stderr, "cdx: cannot %s ", action);
     print_name(stderr, name);
     fprintf(stderr, ": %s\n", strerror(reason));
+    return false;
+}
+
+bool is_regular(const char *file)
+{
+    struct stat found;
+    if (stat(file, &found) != 0)
+        return cannot("find", file);
+    if (S_ISREG(found.st_mode))
+        return true;
+    fputs("cdx: cannot replace ", stderr);
+    print_name(stderr, file);
+    fputs(": it is no regular file\n", stderr);
     return false;
 }
 

@@ -16,6 +16,9 @@ const char *called(const char *file);
 /* Says on standard error what could not be done with a file, and why: errno has the reason. Gives false. */
 bool cannot(const char *action, const char *name);
 
+/* Whether a file that is there is a regular one, which can be replaced. Where it is not, it says so. */
+bool is_regular(const char *file);
+
 /* Reads a file from its start into the room, as far as both go. Where that fails it says so and gives false. */
 bool load(const char *file, uint8_t *room, size_t size, size_t *length);
 

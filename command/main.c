@@ -15,25 +15,30 @@
 #include <unistd.h>
 
 static const char overview[] =
-    "cdx reads Codex sheets under a mode table and writes their canonical form.\n"
+    "cdx reads Codex sheets, writes their canonical form, and keeps them in rolls.\n"
     "\n"
     "  cdx table [FILE]              a mode table from its text; -d: its text again\n"
     "  cdx check -t TABLE [FILE..]   whether sheets are in order, or what is wrong where\n"
     "  cdx show -t TABLE [FILE]      the entries of a sheet, as a tree\n"
     "  cdx format -t TABLE [FILE]    the canonical form of a sheet, printed;\n"
     "                                -w FILE..: in place; -l: names what changes\n"
+    "  cdx roll -t TABLE [ROLL]      what the sheets of a roll are, and whether in order\n"
+    "  cdx add -t TABLE ROLL [FILE..]\n"
+    "                                adds sheets to a roll, all of them or none\n"
     "\n"
     "TABLE is a mode table or its text, lines like `children Lab` and `content Steps`.\n"
     "No FILE, or `-`, is standard input. Messages go to standard error.\n"
     "\n"
     "Status: 0 all is well\n"
-    "        1 a sheet or a table is refused\n"
+    "        1 a sheet, a roll or a table is refused\n"
     "        2 wrong use, or something could not be read or written\n"
     "\n"
     "`cdx COMMAND -h` tells more of a command. docs/FORMAT.md tells of sheets, and\n"
     "examples/README.md shows cdx at work.\n";
 
-static const struct command *const commands[] = {&table_command, &check_command, &show_command, &format_command};
+static const struct command *const commands[] = {
+    &table_command, &check_command, &show_command, &format_command, &roll_command, &add_command,
+};
 
 /* Says what is wrong with how a command was asked for, after the manner of printf. */
 __attribute__((format(printf, 2, 3))) static enum status wrong_use(const struct command *command, const char *why, ...)

@@ -5,7 +5,6 @@
 #include "replace.h"
 
 #include "files.h"
-#include "glyphs.h"
 
 #include <errno.h>
 #include <fcntl.h>
@@ -60,12 +59,8 @@ static bool find(struct exchange *exchange, struct stat *old)
 {
     if (realpath(exchange->file, exchange->old) == NULL || stat(exchange->old, old) != 0)
         return cannot("find", exchange->file);
-    if (!S_ISREG(old->st_mode)) {
-        fputs("cdx: cannot replace ", stderr);
-        print_name(stderr, exchange->file);
-        fputs(": it is no regular file\n", stderr);
+    if (!is_regular(exchange->file))
         return false;
-    }
     if (access(exchange->old, W_OK) != 0)
         return cannot("write", exchange->file);
     strcpy(exchange->folder, exchange->old);

@@ -21,6 +21,10 @@ const char *refusal_in_words(uint32_t number)
         [CDX_TOO_DEEP] = "more than 32 Concepts, or 8 lists, in one another",
         [CDX_NO_ENTRY_LEFT] = "more than 1,024 entries",
         [CDX_NO_ROOM] = "the canonical form has more than 16,384 bytes",
+        [CDX_ROLL_TOO_LONG] = "the roll has more than 65,536 bytes",
+        [CDX_BEFORE_BOUNDARY] = "something stands before the first sheet",
+        [CDX_TOO_MANY_SHEETS] = "more than 256 sheets",
+        [CDX_ROOT_ANNOTATED] = "no sheet of a roll has an annotation before its root",
     };
     return words[number];
 }
@@ -57,6 +61,11 @@ const char *value_form_in_words(uint32_t form)
 void print_entries(FILE *out, uint32_t entries)
 {
     fprintf(out, "%u %s", entries, entries == 1 ? "entry" : "entries");
+}
+
+void print_sheet_count(FILE *out, uint32_t sheets)
+{
+    fprintf(out, "%u %s", sheets, sheets == 1 ? "sheet" : "sheets");
 }
 
 void print_refusal(FILE *out, const char *name, const uint8_t *bytes, size_t length, size_t at, uint32_t number, const char *why)

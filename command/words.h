@@ -17,8 +17,9 @@ const char *kind_in_words(uint32_t kind);
 const char *concept_form_in_words(uint32_t form);
 const char *value_form_in_words(uint32_t form);
 
-/* Prints how many entries there are. */
+/* Prints how many entries there are, and how many sheets. */
 void print_entries(FILE *out, uint32_t entries);
+void print_sheet_count(FILE *out, uint32_t sheets);
 
 /* Says that a file is refused: where, why, and the line with a caret under the place. */
 void print_refusal(FILE *out, const char *name, const uint8_t *bytes, size_t length, size_t at, uint32_t number, const char *why);
