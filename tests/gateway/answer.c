@@ -1,8 +1,8 @@
 /* Answers requests on standard input, one a line, with the functions of libgateway.a. The lines are those of
  * tests/independent/README.md, so that the answers of both programs can be compared as text.
  *
- * A call gets copies of the request's bytes and cells, and cells, an output and an answer full of junk, each between guards. A call that
- * changes what it may not, or leaves what it may not, has a line that begins with `broken` for its answer.
+ * A call gets copies of the request's bytes and cells, and cells, records, an output and an answer full of junk, each between guards. A
+ * call that changes what it may not, or leaves what it may not, has a line that begins with `broken` for its answer.
  *
  * Status 0, or 2 where a line could not be read, an answer not be written, or there is no memory. */
 #define _POSIX_C_SOURCE 200809L
@@ -94,6 +94,12 @@ static bool kept_from(struct loan loan, size_t first)
 static bool all_kept(struct loan loan)
 {
     return kept_from(loan, 0);
+}
+
+/* Whether all but the bytes from `start` up to `end` is as it was, and the guards too. */
+static bool kept_around(struct loan loan, size_t start, size_t end)
+{
+    return kept_from(loan, end) && memcmp(loan.block, loan.before, GUARD + start) == 0;
 }
 
 static void give_back(struct loan loan)
@@ -262,7 +268,8 @@ static void answer_form(struct input table, struct input sheet, size_t lent, siz
 {
     struct loan lent_table = lend(table.items, table.count), lent_sheet = lend(sheet.items, sheet.count);
     struct loan cells = lend_cells(NULL, lent), out = lend(NULL, room), answer = lend_cells(NULL, CDX_ANSWER);
-    cdx_write(bytes_of(lent_table), table.count, bytes_of(lent_sheet), sheet.count, cells_of(cells), lent, bytes_of(out), room, cells_of(answer));
+    cdx_write(bytes_of(lent_table), table.count, bytes_of(lent_sheet), sheet.count, cells_of(cells), lent, bytes_of(out), room,
+              cells_of(answer));
     if (!all_kept(lent_table))
         printf("broken: cdx_write changed the table or its guards");
     else if (!all_kept(lent_sheet))
@@ -315,6 +322,86 @@ static void answer_view(struct input sheet, uint64_t entry, struct input cells)
     give_back(answer);
 }
 
+/* Number, place, count, and the records. */
+static void answer_roll(struct input table, struct input roll, size_t room, size_t lent)
+{
+    struct loan lent_table = lend(table.items, table.count), lent_roll = lend(roll.items, roll.count);
+    struct loan records = lend_cells(NULL, room), cells = lend_cells(NULL, lent), answer = lend_cells(NULL, CDX_ANSWER);
+    cdx_roll(bytes_of(lent_table), table.count, bytes_of(lent_roll), roll.count, cells_of(records), room, cells_of(cells), lent,
+             cells_of(answer));
+    if (!all_kept(lent_table))
+        printf("broken: cdx_roll changed the table or its guards");
+    else if (!all_kept(lent_roll))
+        printf("broken: cdx_roll changed the roll or its guards");
+    else if (!guards_kept(records))
+        printf("broken: cdx_roll wrote outside of the records");
+    else if (!guards_kept(cells))
+        printf("broken: cdx_roll wrote outside of the cells");
+    else if (!all_zero(cells_of(cells), lent))
+        printf("broken: cdx_roll left an entry cell that is not zero");
+    else if (!guards_kept(answer))
+        printf("broken: cdx_roll wrote outside of the answer");
+    else {
+        print_answer(cells_of(answer));
+        print_cells(cells_of(records), room);
+    }
+    give_back(lent_table);
+    give_back(lent_roll);
+    give_back(records);
+    give_back(cells);
+    give_back(answer);
+}
+
+/* Lends so many bytes for a roll: those of the request, as far as there is room for them, and behind them bytes FF. */
+static struct loan lend_roll(struct input roll, size_t room)
+{
+    uint8_t *bytes = memory(room + 1);
+    memset(bytes, 0xFF, room);
+    memcpy(bytes, roll.items, roll.count < room ? roll.count : room);
+    struct loan loan = lend(bytes, room);
+    free(bytes);
+    return loan;
+}
+
+/* Number, place, count, and the bytes added, which are none where it is refused. Before and behind them the roll must be as it came. */
+static void print_added(const uint32_t answer[CDX_ANSWER], uint64_t n, struct loan roll)
+{
+    size_t start = answer[0] == CDX_OK ? n : 0, end = answer[2];
+    if (start > end || end > roll.size)
+        printf("broken: cdx_add says that it added the bytes from %zu to %zu to room for %zu", start, end, roll.size);
+    else if (!kept_around(roll, start, end))
+        printf("broken: cdx_add changed more of the roll than the bytes from %zu to %zu", start, end);
+    else {
+        print_answer(answer);
+        print_bytes(bytes_of(roll) + start, end - start);
+    }
+}
+
+static void answer_add(struct input table, struct input sheet, size_t lent, struct input roll, uint64_t n, size_t room)
+{
+    struct loan lent_table = lend(table.items, table.count), lent_sheet = lend(sheet.items, sheet.count), lent_roll = lend_roll(roll, room);
+    struct loan cells = lend_cells(NULL, lent), answer = lend_cells(NULL, CDX_ANSWER);
+    cdx_add(bytes_of(lent_table), table.count, bytes_of(lent_sheet), sheet.count, bytes_of(lent_roll), room, n, cells_of(cells), lent,
+            cells_of(answer));
+    if (!all_kept(lent_table))
+        printf("broken: cdx_add changed the table or its guards");
+    else if (!all_kept(lent_sheet))
+        printf("broken: cdx_add changed the sheet or its guards");
+    else if (!guards_kept(cells))
+        printf("broken: cdx_add wrote outside of the cells");
+    else if (!all_zero(cells_of(cells), lent))
+        printf("broken: cdx_add left a cell that is not zero");
+    else if (!guards_kept(answer))
+        printf("broken: cdx_add wrote outside of the answer");
+    else
+        print_added(cells_of(answer), n, lent_roll);
+    give_back(lent_table);
+    give_back(lent_sheet);
+    give_back(lent_roll);
+    give_back(cells);
+    give_back(answer);
+}
+
 /* The room of a form, which is the longest form's unless the request gives it as its last word. */
 static bool read_room(char **rest, uint64_t *room)
 {
@@ -323,27 +410,40 @@ static bool read_room(char **rest, uint64_t *room)
     return *word == 0 || (read_number(word, SIZE_MAX, room) && *next_word(rest) == 0);
 }
 
+static bool read_size(const char *word, uint64_t *size)
+{
+    return read_number(word, SIZE_MAX, size);
+}
+
 /* Answers the request that stands in the line, or says that there is none. */
 static void answer_line(char *line)
 {
-    struct input first = {NULL, 0}, second = {NULL, 0};
-    uint64_t number, room;
+    struct input first = {NULL, 0}, second = {NULL, 0}, third = {NULL, 0};
+    uint64_t number, room, end;
     const char *kind = next_word(&line);
     if (strcmp(kind, "table") == 0 && read_bytes(next_word(&line), &first) && *next_word(&line) == 0)
         answer_table(first);
     else if (strcmp(kind, "sheet") == 0 && read_bytes(next_word(&line), &first) && read_bytes(next_word(&line), &second) &&
-             read_number(next_word(&line), SIZE_MAX, &number) && *next_word(&line) == 0)
+             read_size(next_word(&line), &number) && *next_word(&line) == 0)
         answer_sheet(first, second, (size_t)number);
     else if (strcmp(kind, "form") == 0 && read_bytes(next_word(&line), &first) && read_bytes(next_word(&line), &second) &&
-             read_number(next_word(&line), SIZE_MAX, &number) && read_room(&line, &room))
+             read_size(next_word(&line), &number) && read_room(&line, &room))
         answer_form(first, second, (size_t)number, (size_t)room);
     else if (strcmp(kind, "view") == 0 && read_bytes(next_word(&line), &first) &&
              read_number(next_word(&line), UINT64_MAX, &number) && read_cells(&line, &second))
         answer_view(first, number, second);
+    else if (strcmp(kind, "roll") == 0 && read_bytes(next_word(&line), &first) && read_bytes(next_word(&line), &second) &&
+             read_size(next_word(&line), &room) && read_size(next_word(&line), &number) && *next_word(&line) == 0)
+        answer_roll(first, second, (size_t)room, (size_t)number);
+    else if (strcmp(kind, "add") == 0 && read_bytes(next_word(&line), &first) && read_bytes(next_word(&line), &second) &&
+             read_size(next_word(&line), &number) && read_bytes(next_word(&line), &third) &&
+             read_number(next_word(&line), UINT64_MAX, &end) && read_size(next_word(&line), &room) && *next_word(&line) == 0)
+        answer_add(first, second, (size_t)number, third, end, (size_t)room);
     else
         printf("not a request");
     free(first.items);
     free(second.items);
+    free(third.items);
 }
 
 int main(void)

@@ -1,7 +1,8 @@
-//! Every example of document 01's "Sheets to try" and of READINGS.md that concerns tables, sheets, views and forms.
+//! Every example of document 01's "Sheets to try" and of READINGS.md that concerns tables, sheets, views, forms and rolls.
 //! The numbers in the comments are READINGS.md's; `7@4` there is (7, 4) here, an acceptance is ACCEPTED.
 
 use crate::reader::{read_sheet, table_answer, view, view_answer, Answer, Refusal};
+use crate::rolls::{add_sheet, read_roll};
 use crate::writer::write_form;
 
 /// Lab in children mode, Steps in content mode.
@@ -482,4 +483,101 @@ fn reading_48() {
     assert_eq!(view_answer(sheet, &[9, 0, 0, 0, 0, 0, 11, 11], 0), Answer { number: 0, place: 0, count: 0 });
     assert_eq!(view_answer(sheet, &[9, 0, 0, 0, 0, 0, 11, 12], 0), refused);
     assert_eq!(view_answer(sheet, &[9, 0, 0, 0, 0, 0, 5, 4], 0), refused);
+}
+
+// ---- Rolls and adding
+
+const ALL_RECORDS: usize = 1_280;
+
+#[track_caller]
+fn roll_refused(roll: impl AsRef<[u8]>, room: usize, number: u32, place: usize) {
+    let roll = roll.as_ref();
+    assert_eq!(read_roll(TABLE, roll, room, ALL), (Answer { number, place, count: 0 }, vec![0; room]), "{}", shown(roll));
+}
+
+#[track_caller]
+fn records(roll: impl AsRef<[u8]>, records: &[[u32; 5]]) {
+    let roll = roll.as_ref();
+    let (answer, cells) = read_roll(TABLE, roll, ALL_RECORDS, ALL);
+    assert_eq!(answer, Answer { number: ACCEPTED, place: roll.len(), count: records.len() }, "{}", shown(roll));
+    let (made, left) = cells.split_at(5 * records.len());
+    assert_eq!(made, records.concat(), "{}", shown(roll));
+    assert!(left.iter().all(|&cell| cell == 0));
+}
+
+/// Adding to a roll of which `room` bytes are lent: its bytes, then bytes FF. Where it is refused the roll stays as it came.
+#[track_caller]
+fn adds(sheet: impl AsRef<[u8]>, roll: &[u8], room: usize, n: usize, right: Result<&[u8], (u32, usize)>) {
+    let mut lent = roll.to_vec();
+    lent.resize(room, 0xFF);
+    let before = lent.clone();
+    let answer = add_sheet(TABLE, sheet.as_ref(), &mut lent, n, ALL);
+    match right {
+        Ok(added) => {
+            let count = n + added.len();
+            assert_eq!(answer, Answer { number: ACCEPTED, place: 0, count });
+            assert_eq!(lent, [&before[..n], added, &before[count..]].concat());
+        }
+        Err((number, place)) => {
+            assert_eq!(answer, Answer { number, place, count: 0 });
+            assert_eq!(lent, before);
+        }
+    }
+}
+
+#[test]
+fn in_a_roll() {
+    let right = "<Lab n=4>\n\t<Steps>\n\t\tboot 7\n\t</Steps>\n</Lab>\n\n";
+    assert_eq!(right.len(), 46);
+    adds("<Lab  n=4>\n<Steps>\n\tboot 7\n</Steps>\n</Lab>", b"", 60, 0, Ok(right.as_bytes()));
+    records(right, &[[0, 46, 0, 46, 4]]);
+}
+
+#[test]
+fn readings_49_and_50() {
+    records("", &[]);
+    records(" \n\t\r\n  ", &[]);
+    roll_refused("\n  x", ALL_RECORDS, 14, 3);
+    roll_refused(" <Lab/>", ALL_RECORDS, 14, 1);
+    roll_refused("\n\r<Lab/>", ALL_RECORDS, 14, 1);
+    roll_refused("[a]\n<Lab/>", ALL_RECORDS, 14, 0);
+    records("\n<Lab/>\n[a]\n<Lab", &[[1, 12, 7, 7, 0], [12, 16, 9, 4, 0]]);
+    records("<Lab n=`\n<Lab/>\n", &[[0, 9, 9, 9, 0], [9, 16, 0, 7, 1]]);
+    records("<Steps>\n<A", &[[0, 8, 9, 8, 0], [8, 10, 9, 2, 0]]);
+    records("<Lab/>\r<Lab/>", &[[0, 13, 3, 6, 0]]);
+}
+
+#[test]
+fn reading_51() {
+    roll_refused("<Lab/>\n<Lab/>\n<Lab/>", 14, 15, 14);
+    roll_refused("<Lab/>", 4, 15, 0);
+    roll_refused("<Lab/>\n".repeat(257), 2_000, 15, 7 * 256);
+    assert_eq!(read_roll(TABLE, "<Lab/>\n".repeat(256).as_bytes(), 2_000, ALL).0.count, 256);
+    let long = format!("<Steps>\n\t{}\n</Steps>\n", "x".repeat(16_384 - 18));
+    records(&long, &[[0, 16_385, 2, 16_384, 0]]);
+}
+
+#[test]
+fn reading_52() {
+    roll_refused("x".repeat(65_537), ALL_RECORDS, 13, 65_536);
+    assert_eq!(read_roll(b"", b"x", 5, 8).0, Answer { number: 1, place: 0, count: 0 });
+    assert_eq!(read_roll(b"", &[b'x'; 65_537], 5, 8).0.number, 13);
+}
+
+#[test]
+fn reading_53() {
+    let form = b"<Lab />\n\n";
+    adds("<Lab/>", b"x\n", 11, 2, Ok(form));
+    adds("<Lab/>", b"x\n", 10, 2, Err((12, 0)));
+    adds("<Lab/>", b"xx", 11, 2, Err((14, 2)));
+    adds("<Lab/>", b"xx", 10, 2, Err((12, 0)));
+    adds("<Lab/>", b"xx", 11, 0, Ok(form));
+    adds("<Lab/>", b"x\n", 11, usize::MAX, Err((12, 0)));
+    adds("\n\t[a]\n[b]\n<Lab/>", b"xx", 0, 2, Err((16, 2)));
+    adds("<Lab>", b"xx", 0, 2, Err((9, 5)));
+    adds("<Lab/>", &[b'\n'; 65_527], 70_000, 65_527, Ok(form));
+    adds("<Lab/>", &[b'\n'; 65_528], 70_000, 65_528, Err((12, 0)));
+    let long = format!("<Steps>\n\t{}\n</Steps>\n", "x".repeat(16_383 - 19));
+    adds(&long, b"", 20_000, 0, Ok(format!("{long}\n").as_bytes()));
+    adds(long.replacen('x', "xx", 1), b"", 20_000, 0, Err((12, 0)));
 }

@@ -1,7 +1,8 @@
-//! Makes request lines from a seed: tables and sheets that are valid, nearly valid, damaged, cut or at a limit.
+//! Makes request lines from a seed: tables, sheets and rolls that are valid, nearly valid, damaged, cut or at a limit.
 //! Follows document 01's grammar to print trees in random layouts; each printed rule may be broken once.
 
 use crate::reader::{read_sheet, CONCEPTS_DEEP, ENTRIES, ENTRY_CELLS, NAME_BYTES, SHEET_BYTES};
+use crate::rolls::{read_roll, RECORD_CELLS, ROLL_BYTES, SHEETS};
 use crate::to_hex;
 use crate::values::LISTS_DEEP;
 use crate::writer::write_form;
@@ -10,9 +11,9 @@ use crate::writer::write_form;
 const PLENTY: usize = ENTRIES * ENTRY_CELLS;
 
 /// The kinds of requests, by their first words.
-pub const KINDS: [&str; 4] = ["table", "sheet", "form", "view"];
+pub const KINDS: [&str; 6] = ["table", "sheet", "form", "view", "roll", "add"];
 
-/// `count` request lines of the kinds named, none with a sheet longer than `longest`.
+/// `count` request lines of the kinds named, none with a sheet longer than `longest` or a roll longer than four times that.
 pub fn requests(seed: u64, count: usize, longest: usize, kinds: &[&str]) -> Vec<String> {
     let mut chance = Chance(seed);
     let mut lines = Vec::new();
@@ -25,10 +26,10 @@ pub fn requests(seed: u64, count: usize, longest: usize, kinds: &[&str]) -> Vec<
     lines
 }
 
-/// The requests about one table or sheet, of all kinds.
+/// The requests about one table, sheet or roll, of all kinds.
 fn add_requests(lines: &mut Vec<String>, chance: &mut Chance, longest: usize) {
     let names = Names::random(chance);
-    match chance.below(200) {
+    match chance.below(320) {
         0..=19 => add_table(lines, chance, &names, longest),
         20..=27 => add_limit(lines, chance, longest),
         28 => add_cuts(lines, chance, &names, longest),
@@ -40,6 +41,8 @@ fn add_requests(lines: &mut Vec<String>, chance: &mut Chance, longest: usize) {
             let sheet = one_value(chance);
             add_sheet(lines, chance, &Names::papers().table(), sheet.as_bytes(), longest);
         }
+        90..=149 => add_roll(lines, chance, &names, longest),
+        150..=209 => add_adding(lines, chance, &names, longest),
         _ => {
             let sheet = any_sheet(chance, &names);
             add_sheet(lines, chance, &names.table(), &sheet, longest);
@@ -140,6 +143,120 @@ fn add_cuts(lines: &mut Vec<String>, chance: &mut Chance, names: &Names, longest
         let lent = if chance.one_in(4) { chance.below(40) } else { PLENTY };
         lines.push(format!("sheet {} {} {}", to_hex(&table), to_hex(&sheet[..length]), lent));
     }
+}
+
+// ---- Rolls
+
+/// A roll, mostly with room for all its records and all entries of its sheets.
+fn add_roll(lines: &mut Vec<String>, chance: &mut Chance, names: &Names, longest: usize) {
+    let roll = any_roll(chance, names, longest);
+    if roll.len() > 4 * longest {
+        return;
+    }
+    let table = if chance.one_in(12) { damaged_table(chance, names) } else { names.table() };
+    let most = SHEETS * RECORD_CELLS;
+    let enough = read_roll(&table, &roll, most, 0).0.count * RECORD_CELLS;
+    let records = match chance.below(12) {
+        0 => chance.below(12),
+        1..=3 => enough,
+        4..=5 => enough.saturating_sub(1),
+        6 => enough + chance.below(12),
+        7 => most + chance.below(40),
+        _ => most,
+    };
+    let lent = if chance.one_in(4) { chance.below(40) } else { PLENTY + chance.below(2) * chance.below(40) };
+    lines.push(format!("roll {} {} {records} {lent}", to_hex(&table), to_hex(&roll)));
+}
+
+/// Some sheets one behind the other, or a roll at a limit; as it is, damaged or cut. What stands before the first is mostly blank.
+fn any_roll(chance: &mut Chance, names: &Names, longest: usize) -> Vec<u8> {
+    let blank = ["", "", "\n", " \t\r\n\n", "\n\t \n"];
+    let faulty = [" ", "\t", "\n  x", "\r", "x\n", "[a]\n", "\n ", " <Lab/>\n", "<lab/>\n", "<\n", "\0"];
+    let before = if chance.one_in(6) { &faulty[..] } else { &blank[..] };
+    let mut roll = chance.pick(before).as_bytes().to_vec();
+    match chance.below(24) {
+        0 => roll.extend(b"<A\n".repeat(SHEETS - 1 + chance.below(3))),
+        1 if longest > SHEET_BYTES => roll = roll_at_limit(chance, names),
+        _ => {
+            for _ in 0..chance.below(6) {
+                roll.extend(sheet_of_roll(chance, names));
+            }
+        }
+    }
+    match chance.below(12) {
+        0 => damaged(chance, roll),
+        1 => roll[..chance.below(roll.len() + 1)].to_vec(),
+        _ => roll,
+    }
+}
+
+/// A sheet as adding writes it, at times damaged behind its first two bytes or cut; or any other.
+fn sheet_of_roll(chance: &mut Chance, names: &Names) -> Vec<u8> {
+    let sheet = any_sheet(chance, names);
+    let (_, form) = write_form(&names.table(), &sheet, PLENTY, SHEET_BYTES);
+    let mut part = if form.is_empty() && !chance.one_in(4) { b"<Lab />\n".to_vec() } else { form };
+    match chance.below(12) {
+        0 => part = sheet,
+        1 if part.len() > 2 => {
+            let rest = damaged(chance, part.split_off(2));
+            part.extend(rest);
+        }
+        2 => part.truncate(chance.below(part.len() + 1)),
+        _ => {}
+    }
+    let end = chance.pick(&["\n", "\n", "\n", "\n", "", "\r\n", "\r", "\n\n\t\n"]);
+    part.extend_from_slice(end.as_bytes());
+    part
+}
+
+/// A roll of as many bytes as are allowed, or one or two more or fewer, at times with a sheet as long as is allowed or a byte more.
+fn roll_at_limit(chance: &mut Chance, names: &Names) -> Vec<u8> {
+    let length = ROLL_BYTES - 2 + chance.below(5);
+    let mut roll = of_length(SHEET_BYTES - 1 + chance.below(2)).into_bytes();
+    roll.truncate(if chance.one_in(2) { roll.len() } else { 0 });
+    roll.push(b'\n');
+    let one = sheet_of_roll(chance, names);
+    while !one.is_empty() && roll.len() + one.len() < length {
+        roll.extend(&one);
+    }
+    roll.resize(length, b'\n');
+    roll
+}
+
+/// A sheet to be added to a roll.
+fn add_adding(lines: &mut Vec<String>, chance: &mut Chance, names: &Names, longest: usize) {
+    let sheet = if chance.one_in(12) { of_length(SHEET_BYTES - 2 + chance.below(4)).into_bytes() } else { any_sheet(chance, names) };
+    let roll = any_roll(chance, names, longest);
+    if sheet.len() > longest || roll.len() > 4 * longest {
+        return;
+    }
+    let table = if chance.one_in(16) { damaged_table(chance, names) } else { names.table() };
+    let lent = random_lent(chance, &table, &sheet);
+    let n = random_end(chance, &roll);
+    let added = write_form(&table, &sheet, PLENTY, SHEET_BYTES).0.count + 1;
+    let room = random_room_behind(chance, roll.len(), n.saturating_add(added));
+    lines.push(format!("add {} {} {lent} {} {n} {room}", to_hex(&table), to_hex(&sheet), to_hex(&roll)));
+}
+
+/// How many bytes of a roll are in use: mostly all of it, or up to a line's end; else none, some, more than there are, or too many.
+fn random_end(chance: &mut Chance, roll: &[u8]) -> usize {
+    let lines: Vec<usize> = (1..=roll.len()).filter(|&end| roll[end - 1] == b'\n').collect();
+    match chance.below(12) {
+        0 => 0,
+        1 => chance.below(roll.len() + 1),
+        2 => roll.len() + 1 + chance.below(3),
+        3 => *chance.pick(&[&ROLL_BYTES, &(ROLL_BYTES + 1), &(1 << 32), &(1 << 63), &(usize::MAX - 1), &usize::MAX]),
+        4..=8 if !lines.is_empty() => lines[chance.below(lines.len())],
+        _ => roll.len(),
+    }
+}
+
+/// Room for a roll that grows to `total`: some more, exactly enough, one byte too few, fewer, what is there, or more than any roll may take.
+fn random_room_behind(chance: &mut Chance, there: usize, total: usize) -> usize {
+    let most = ROLL_BYTES + chance.below(40);
+    let (fewer, more) = (chance.below(total.min(most) + 1), total.saturating_add(chance.below(40)));
+    let room = *chance.pick(&[&total, &total, &(total - 1), &(total - 1), &fewer, &there, &more, &more, &more, &more, &most]);
+    room.min(most)
 }
 
 // ---- Chance

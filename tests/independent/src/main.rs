@@ -1,9 +1,10 @@
 //! Answers requests on standard input, one a line, or prints such requests made from a seed.
-//! The answers are those of document 01 as reader.rs and writer.rs read it; see README.md for the lines.
+//! The answers are those of document 01 as reader.rs, writer.rs and rolls.rs read it; see README.md for the lines.
 
 mod definitions;
 mod generate;
 mod reader;
+mod rolls;
 mod values;
 mod writer;
 
@@ -12,6 +13,7 @@ mod examples;
 
 use generate::KINDS;
 use reader::{read_sheet, table_answer, view, view_answer, Answer, SHEET_BYTES};
+use rolls::{add_sheet, read_roll};
 use std::io::{BufRead, Write};
 use writer::write_form;
 
@@ -101,8 +103,24 @@ fn answer_line(line: &str) -> Option<String> {
         ["form", rest @ .., room] if rest.len() == 3 => form_words(&SheetRequest::of(rest)?, room.parse().ok()?),
         ["form", rest @ ..] => form_words(&SheetRequest::of(rest)?, SHEET_BYTES),
         ["view", sheet, number, cells @ ..] => view_words(&from_hex(sheet)?, number.parse().ok()?, &numbers(cells)?),
+        ["roll", table, roll, records, lent] => {
+            let (answer, cells) = read_roll(&from_hex(table)?, &from_hex(roll)?, records.parse().ok()?, lent.parse().ok()?);
+            Some(in_words(answer) + &cells_in_words(&cells))
+        }
+        ["add", rest @ .., roll, n, room] => adding_words(&SheetRequest::of(rest)?, from_hex(roll)?, n.parse().ok()?, room.parse().ok()?),
         _ => None,
     }
+}
+
+/// What the room of a roll is full of behind the bytes that are given.
+const UNUSED: u8 = 0xFF;
+
+/// The answer and the bytes added in hex, which are none where it is refused.
+fn adding_words(request: &SheetRequest, mut roll: Vec<u8>, n: usize, room: usize) -> Option<String> {
+    roll.resize(room, UNUSED);
+    let answer = add_sheet(&request.table, &request.sheet, &mut roll, n, request.lent);
+    let added = if answer.number == 0 { &roll[n..answer.count] } else { &[] };
+    Some(format!("{} {}", in_words(answer), to_hex(added)))
 }
 
 /// The answer and the canonical form in hex, which is empty where it is refused.
