@@ -1,6 +1,6 @@
 -- Blank lines, and the tabs and blanks of a line, read at a place: a law for each way out of src/blank.rt.
 -- Over plain lists. Assumes nothing.
-use Prim.Native.Nat.{ℕ, _≤_, _<_}
+use Prim.Native.Nat.{ℕ, suc, _+_, _≤_, _<_}
 use mathlib.Core.Path.{_≡_, refl, sym, ap, _∙_}
 use mathlib.Core.Bool.{Bool, true, false}
 use mathlib.Core.List.{List, [], _∷_}
@@ -9,7 +9,7 @@ use lib.ListN.{length, getD, drop, drop-of-length-le}
 use lib.Dec.{eqb}
 use Rattle.paper.specs.declared.Refusal.{Refusal}
 use Rattle.paper.specs.Found.{found, fault, more, turnOf}
-use Rattle.paper.specs.Bytes.{isBlank, isLineEnd, startsIn, lengthIn, front, behind, startsWith, space}
+use Rattle.paper.specs.Bytes.{isBlank, isLineEnd, startsIn, lengthIn, front, behind, startsWith, space, tab}
 use Rattle.paper.specs.Values.{is}
 use Rattle.paper.specs.Reading.{lineRest, isBlankLine, blankTurn, blankLines, isTab, noSpace, tabsOnly, lastBlanks}
 use Rattle.paper.proofs.Tests.{split}
@@ -20,7 +20,7 @@ use Rattle.lines.specs.declared.part.Part.{Part}
 use Rattle.lines.specs.declared.part.Part.the-variants.{Read, Refused}
 use Rattle.text.proofs.Stretch.{Stretch, behind-at, behind-none, behind-some}
 use Rattle.lines.proofs.Crossing.{says-read}
-use Rattle.lines.proofs.Ends.{RestAt}
+use Rattle.lines.proofs.Ends.{RestAt, starts-one}
 use Rattle.lines.proofs.Turns.{turn-more, turn-over, turn-refused}
 
 -- ---- the blanks that stand from a place to an end
@@ -42,13 +42,22 @@ module _ (s : List ℕ) (at end : ℕ) (run : Stretch isBlank s at end) where
   unfolding lastBlanks
   last-none h = rw (behind-none isBlank s at end run h) (ap (found (front isBlank (drop at s))) (sym (drop-of-length-le s h)))
 
--- ---- the tabs of a line on which a blank line may stand too
+-- tabs with no space behind them are all the blanks there are
+tab-blank : (b : ℕ) → eqb b tab ≡ true → isBlank b ≡ true
+unfolding isBlank
+tab-blank b t = split (eqb b space) (λ e. rw e) (λ e. rw (e, t))
 
--- one fixed byte in front
-starts-one : (b : ℕ) (l : List ℕ) → startsWith (b ∷ []) l ≡ startsIn (is b) l
-unfolding startsWith startsIn
-starts-one b [] = refl
-starts-one b (c ∷ l) = split (eqb c b) (λ e. rw (e, startsWith)) (λ e. rw (e, startsWith))
+as-many : (l : List ℕ) → startsIn isBlank (behind isTab l) ≡ false → lengthIn isBlank l ≡ lengthIn isTab l
+unfolding lengthIn startsIn
+as-many [] e = refl
+as-many (b ∷ l) e =
+    split (eqb b tab) (λ t. rw (tab-blank b t, lengthIn, t) (ap suc (as-many l (rw (lengthIn, t) at e)))) (λ f. rw (lengthIn, f, rw (lengthIn, f) at e))
+
+pub tabs-blanks : (s : List ℕ) (at end : ℕ) → Stretch isTab s at end → startsIn isBlank (drop end s) ≡ false → Stretch isBlank s at end
+tabs-blanks s at end run e =
+    (run .0 ∙ ap (λ (k : ℕ). at + k) (sym (as-many (drop at s) (ap (startsIn isBlank) (behind-at isTab s at end run) ∙ e))), run .1, run .2)
+
+-- ---- the tabs of a line on which a blank line may stand too
 
 module _ (s : List ℕ) (at mark : ℕ) (run : Stretch isBlank s at mark) where
   pub tabs-cut : mark ≡ length s → tabsOnly (drop at s) ≡ fault 9 []

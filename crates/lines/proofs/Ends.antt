@@ -8,21 +8,28 @@ use native.Mathlib.Omega.{arith}
 use lib.ListN.{length, getD, drop, length-drop, drop-of-length-le}
 use lib.Seq.{drop-drop, length-take-le}
 use lib.Dec.{leb, eqb}
-use borrow.Author.Tests.{eq-eqb, ne-eqb, le-leb, lt-leb, not-true, not-false}
+use borrow.Author.Tests.{eq-eqb, ne-eqb, eqb-true, le-leb, lt-leb, not-true, not-false}
 use Rattle.paper.specs.Found.{found, fault}
-use Rattle.paper.specs.Bytes.{isBlank, isNameByte, front, startsWith, lf, cr}
-use Rattle.paper.specs.Names.{run, pastRun}
+use Rattle.paper.specs.Bytes.{isUpper, isLower, isBlank, isNameByte, startsIn, front, startsWith, lf, cr}
+use Rattle.paper.specs.Names.{run, pastRun, isConceptName, isTraitName}
+use Rattle.paper.specs.Values.{is}
 use Rattle.paper.specs.Tree.{LF, CRLF, Blank}
 use Rattle.paper.specs.Grammar.{blankOnto}
 use Rattle.paper.specs.Reading.{due, nameOf, name, lineEnd, lineRest}
 use Rattle.paper.proofs.Tests.{split}
 use Rattle.paper.proofs.Lines.{ReadBlank, rest-reads}
 use Rattle.text.proofs.Places.{here}
-use Rattle.lines.specs.Parts.{seen, passed, part}
+use Rattle.text.proofs.Compared.{stands-inside}
+use Rattle.names.specs.declared.Run.{Run}
+use Rattle.names.specs.Runs.{Measures}
+use Rattle.names.proofs.Rule.{ruled}
+use Rattle.lines.specs.Parts.{seen, passed, part, ruleOf, ruleBy}
+use Rattle.lines.specs.declared.part.Whose.{Whose}
+use Rattle.lines.specs.declared.part.Whose.the-variants.{Concepts, Traits, Closings}
 use Rattle.lines.specs.declared.part.Part.{Part}
 use Rattle.lines.specs.declared.part.Part.the-variants.{Read}
-use Rattle.text.proofs.Stretch.{Stretch, behind-at, front-at, behind-none, behind-some}
-use Rattle.lines.proofs.Crossing.{further, found-at}
+use Rattle.text.proofs.Stretch.{Stretch, stops, behind-at, front-at, behind-none, behind-some}
+use Rattle.lines.proofs.Crossing.{further, found-at, says-read}
 
 -- ---- a byte that is due
 
@@ -58,19 +65,26 @@ module _ (rule : List ℕ → Bool) (s : List ℕ) (at end : ℕ) (ends : Stretc
     name-none e = rw (onward, nameOf, lt-leb 1 (length (run (drop at s))) (omega (arith, long)))
 
     module _ (some : end ≡ at → ⊥) (o : Bool) (judged : o ≡ rule (part s at end)) where
-      ruled : rule (run (drop at s)) ≡ o
-      ruled = ap rule (front-at isNameByte s at end ends) ∙ sym judged
+      kept : rule (run (drop at s)) ≡ o
+      kept = ap rule (front-at isNameByte s at end ends) ∙ sym judged
 
       some-run : leb 1 (length (run (drop at s))) ≡ true
       some-run = le-leb 1 (length (run (drop at s))) (omega (arith, long, ends .1))
 
       pub name-bad : not o ≡ true → name rule (drop at s) ≡ fault 4 (drop at s)
       unfolding nameOf
-      name-bad n = rw (onward, nameOf, some-run, ruled ∙ not-true o n)
+      name-bad n = rw (onward, nameOf, some-run, kept ∙ not-true o n)
 
       pub name-good : not o ≡ false → name rule (drop at s) ≡ found (run (drop at s)) (drop end s)
       unfolding nameOf
-      name-good n = rw (onward, nameOf, some-run, ruled ∙ not-false o n) (ap (found (run (drop at s))) (sym (here s end (omega (arith, ends .2)))))
+      name-good n = rw (onward, nameOf, some-run, kept ∙ not-false o n) (ap (found (run (drop at s))) (sym (here s end (omega (arith, ends .2)))))
+
+-- a name by whose name it is, from its first byte and what was judged of its run
+pub rule-by : (whose : Whose) {s : List ℕ} {at : ℕ} {r : Run} → Measures s at r → (r .end ≡ at → ⊥)
+    → ruleBy whose (getD s at 0) (r .keeps) ≡ ruleOf whose (part s at (r .end))
+rule-by Concepts {s} {at} {r} m some = ruled isUpper m some ∙ ap isConceptName (front-at isNameByte s at (r .end) (m .ends))
+rule-by Traits {s} {at} {r} m some = ruled isLower m some ∙ ap isTraitName (front-at isNameByte s at (r .end) (m .ends))
+rule-by Closings m some = refl
 
 -- ---- a line end
 
@@ -111,6 +125,32 @@ pub rest-from : (s : List ℕ) (at end : ℕ) → Stretch isBlank s at end → p
 rest-from s at end ends =
     any-blanks s [] (front isBlank (drop at s)) (drop end s)
     ∙ ap (λ (l : List ℕ). passed s (lineEnd (front isBlank (drop at s)) l)) (sym (behind-at isBlank s at end ends))
+
+-- one fixed byte that stands at a place
+pub starts-one : (b : ℕ) (l : List ℕ) → startsWith (b ∷ []) l ≡ startsIn (is b) l
+unfolding startsWith startsIn
+starts-one b [] = refl
+starts-one b (c ∷ l) = split (eqb c b) (λ e. rw (e, startsWith)) (λ e. rw (e, startsWith))
+
+pub stands-one : (b : ℕ) (s : List ℕ) (at : ℕ) → startsWith (b ∷ []) (drop at s) ≡ true → (at < length s) × (getD s at 0 ≡ b)
+unfolding startsIn
+stands-one b s at e =
+    let h : at < length s = omega (arith, stands-inside (b ∷ []) s at e) in
+    (h, eqb-true (getD s at 0) b (rw (here s at h) at (sym (starts-one b (drop at s)) ∙ e)))
+
+-- LF behind the blanks that stand from a place to their end
+pub rest-lf : (s : List ℕ) (at end : ℕ) → Stretch isBlank s at end → startsWith (lf ∷ []) (drop end s) ≡ true → (r : Part) → r ≡ Read (end + 1) 0 0
+    → seen r ≡ passed s (lineRest (drop at s))
+rest-lf s at end ends e r q =
+    let one = stands-one lf s end e in
+    says-read (λ b. 0) (λ b. 0) s (lineEnd [] (drop end s)) r _ (end + 1) 0 0 q (omega (arith, one .0)) (line-lf [] s end (one .0) (one .1)) refl refl
+    ∙ rest-from s at end ends
+
+-- no blanks in front of what is none
+pub no-blanks : (b : ℕ) (s : List ℕ) (at : ℕ) → isBlank b ≡ false → startsWith (b ∷ []) (drop at s) ≡ true → Stretch isBlank s at at
+no-blanks b s at n e =
+    let one = stands-one b s at e in
+    (sym (stops isBlank s at (one .0) (ap isBlank (one .1) ∙ n)), omega arith, omega (arith, one .0))
 
 -- ---- what is read up to an end
 

@@ -2,12 +2,12 @@
 -- Document 01, "Order" and "Entries".
 use Prim.Native.Nat.{ℕ, _+_, _-_, _≤_}
 use mathlib.Core.Path.{_≡_}
-use mathlib.Core.Bool.{Bool, true, false}
+use mathlib.Core.Bool.{Bool, true, false, _&&_}
 use mathlib.Core.List.{List, [], _∷_}
 use lib.ListN.{length, take, drop}
 use Rattle.paper.specs.Answer.{numberOf}
 use Rattle.paper.specs.Found.{Found, found, fault, andThen, Turn, more, over, stop, placeIn}
-use Rattle.paper.specs.Bytes.{isBlank, front, behind}
+use Rattle.paper.specs.Bytes.{isUpper, isLower, isBlank, front, behind}
 use Rattle.paper.specs.Names.{isConceptName, isTraitName}
 use Rattle.paper.specs.Limits.{sheetLimit}
 use Rattle.paper.specs.Tree.{Annotation, Marker, Concept, selfClosed, children, content}
@@ -66,6 +66,12 @@ abbrev pub ruleOf : Whose → List ℕ → Bool
 ruleOf Concepts = isConceptName
 ruleOf Traits = isTraitName
 ruleOf Closings = λ w. true
+
+-- the same by its first byte, and whether it keeps the rule but for its start
+abbrev pub ruleBy : Whose → ℕ → Bool → Bool
+ruleBy Concepts first keeps = isUpper first && keeps
+ruleBy Traits first keeps = isLower first && keeps
+ruleBy Closings first keeps = true
 
 -- the part of a list between two places
 abbrev pub part : List ℕ → ℕ → ℕ → List ℕ

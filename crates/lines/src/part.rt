@@ -1,8 +1,9 @@
 // What reading a part of a sheet answers, and the parts that stand everywhere: a byte that is due, a name, a line end.
 // Document 01, "The grammar", Names and Lines; refusals 4, 7 and 9.
-use names::is_concept_name;
-use names::is_trait_name;
+use names::run_at;
 use paper::Refusal;
+use text::classes::is_lower;
+use text::classes::is_upper;
 use text::parts::starts_with;
 use text::runs;
 use text::runs::Class;
@@ -12,7 +13,7 @@ ghost use Prim.Native.Nat.{_≤_};
 ghost use Rattle.paper.specs.declared.Refusal.{Refusal};
 ghost use Rattle.paper.specs.Reading.{due, name, lineEnd, lineRest};
 ghost use mathlib.Core.List.{[]};
-ghost use Rattle.lines.specs.Parts.{seen, passed, dueAll, ruleOf};
+ghost use Rattle.lines.specs.Parts.{seen, passed, dueAll, ruleOf, ruleBy};
 
 // A part was read up to its end: how many entries it made, and how many of them name the part's Concept as parent. Or it is refused.
 pub enum Part {
@@ -88,26 +89,27 @@ pub fn name_end(s: &[u8], at: usize, whose: Whose) -> Part
     requires { ⌜ at ≤ length (now s) ⌝ }
     ensures { λ r. ⌜ seen r ≡ passed (now (s .entry)) (name (ruleOf whose) (drop at (now (s .entry)))) ⌝ }
 {
-    let end = runs::end(s, at, Class::Name);
+    let run = run_at(s, at);
+    let end = run.end;
     if end == s.len() {
         return cut(s);
     }
     if end == at {
         return refused(Refusal::Due, at);
     }
-    if !keeps_rule(&s[at..end], whose) {
+    if !keeps_rule(whose, s[at], run.keeps) {
         return refused(Refusal::Name, at);
     }
     past(end)
 }
 
-// Whether the name keeps the rule of whose name it is.
-fn keeps_rule(w: &[u8], whose: Whose) -> bool
-    ensures { λ r. ⌜ r ≡ ruleOf whose (now (w .entry)) ⌝ }
+// Whether a name keeps the rule of whose name it is, by its first byte and whether it keeps all else.
+fn keeps_rule(whose: Whose, first: u8, keeps: bool) -> bool
+    ensures { λ r. ⌜ r ≡ ruleBy whose first keeps ⌝ }
 {
     match whose {
-        Whose::Concepts => is_concept_name(w),
-        Whose::Traits => is_trait_name(w),
+        Whose::Concepts => is_upper(first) && keeps,
+        Whose::Traits => is_lower(first) && keeps,
         Whose::Closings => true,
     }
 }
@@ -134,6 +136,9 @@ pub fn line_rest(s: &[u8], at: usize) -> Part
     requires { ⌜ at ≤ length (now s) ⌝ }
     ensures { λ r. ⌜ seen r ≡ passed (now (s .entry)) (lineRest (drop at (now (s .entry)))) ⌝ }
 {
+    if starts_with(s, at, b"\n") {
+        return past(at + 1);
+    }
     let end = runs::end(s, at, Class::Blank);
     line_end(s, end)
 }

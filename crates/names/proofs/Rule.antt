@@ -1,71 +1,174 @@
--- The name rule: a turn of the loop that counts capitals, its ends, and the rule from how a name starts.
+-- The name rule: a turn of the loop that measures a run and counts its capitals, its ends, and the whole rule from how a name starts.
 -- Over plain lists. Assumes nothing.
-use Prim.Native.Nat.{ℕ, _+_, _≤_, _<_}
-use mathlib.Core.Path.{_≡_, refl, sym}
+use Prim.Native.Nat.{ℕ, suc, _+_, _-_, _≤_, _<_}
+use mathlib.Core.Path.{_≡_, refl, sym, ap, _∙_}
 use mathlib.Core.List.{List, [], _∷_}
-use mathlib.Core.Bool.{Bool, true, false, _&&_, and-false}
+use mathlib.Core.Bool.{Bool, true, false, _&&_, and-true, and-false}
 use native.Mathlib.Omega.{arith}
-use lib.ListN.{length, getD, drop, drop-of-length-le}
-use lib.Dec.{leb}
-use borrow.Author.Tests.{lt-ltb, le-ltb, le-leb, lt-leb}
-use Rattle.paper.specs.Bytes.{isUpper, isNameByte, startsIn}
-use Rattle.paper.specs.Names.{nameLimit, fewCapitals, nameRule}
+use lib.ListN.{length, getD, take, drop, length-drop, drop-of-length-le}
+use lib.Seq.{length-take-le, take-all}
+use lib.Dec.{leb, ltb}
+use borrow.Author.Tests.{lt-ltb, le-ltb}
+use Rattle.paper.specs.Bytes.{isUpper, isLetter, isNameByte, startsIn, lengthIn}
+use Rattle.paper.specs.Names.{nameLimit, run, fewCapitals, nameRule, isName}
+use Rattle.paper.proofs.Tests.{split}
 use Rattle.text.proofs.Places.{here}
+use Rattle.text.proofs.Stretch.{Stretch, front-at, goes-on, stops, cut-off}
+use Rattle.names.specs.declared.Run.{Run}
+use Rattle.names.specs.Runs.{kept, Measures}
 
--- ---- capitals in a row, where n stand directly before
+-- ---- a run, byte by byte
 
-module _ (s : List ℕ) (i n : ℕ) (h : i < length s) where
-  pub one-capital : isUpper (getD s i 0) ≡ true → n < 2 → fewCapitals n (drop i s) ≡ fewCapitals (n + 1) (drop (i + 1) s)
-  unfolding fewCapitals
-  one-capital u l = rw (here s i h, fewCapitals, u, lt-ltb n 2 l)
+upper-name : (b : ℕ) → isUpper b ≡ true → isNameByte b ≡ true
+unfolding isNameByte isLetter
+upper-name b u = rw u
 
-  pub third-capital : isUpper (getD s i 0) ≡ true → 2 ≤ n → fewCapitals n (drop i s) ≡ false
-  unfolding fewCapitals
-  third-capital u l = rw (here s i h, fewCapitals, u, le-ltb n 2 l)
+module _ (s : List ℕ) (i : ℕ) (h : i < length s) where
+  run-on : isNameByte (getD s i 0) ≡ true → run (drop i s) ≡ getD s i 0 ∷ run (drop (i + 1) s)
+  unfolding lengthIn
+  run-on e = rw (here s i h, lengthIn, e)
 
-  pub no-capital : isUpper (getD s i 0) ≡ false → isNameByte (getD s i 0) ≡ true → fewCapitals n (drop i s) ≡ fewCapitals 0 (drop (i + 1) s)
-  unfolding fewCapitals
-  no-capital u e = rw (here s i h, fewCapitals, u, e)
+  run-over : isNameByte (getD s i 0) ≡ false → run (drop i s) ≡ []
+  unfolding lengthIn
+  run-over e = rw (here s i h, lengthIn, e)
 
-  pub no-name-byte : isUpper (getD s i 0) ≡ false → isNameByte (getD s i 0) ≡ false → fewCapitals n (drop i s) ≡ false
-  unfolding fewCapitals
-  no-name-byte u e = rw (here s i h, fewCapitals, u, e)
+  -- capitals in a row, where n stand directly before
+  module _ (n : ℕ) where
+    one-capital : isUpper (getD s i 0) ≡ true → n < 2 → fewCapitals n (run (drop i s)) ≡ fewCapitals (n + 1) (run (drop (i + 1) s))
+    unfolding fewCapitals
+    one-capital u l = rw (run-on (upper-name _ u), fewCapitals, u, lt-ltb n 2 l)
 
-pub capitals-end : (s : List ℕ) (i n : ℕ) → length s ≤ i → fewCapitals n (drop i s) ≡ true
-unfolding fewCapitals
-capitals-end s i n h = rw (drop-of-length-le s h)
+    third-capital : isUpper (getD s i 0) ≡ true → 2 ≤ n → fewCapitals n (run (drop i s)) ≡ false
+    unfolding fewCapitals
+    third-capital u l = rw (run-on (upper-name _ u), fewCapitals, u, le-ltb n 2 l)
 
--- ---- the rule but for the start
+    no-capital : isUpper (getD s i 0) ≡ false → isNameByte (getD s i 0) ≡ true → fewCapitals n (run (drop i s)) ≡ fewCapitals 0 (run (drop (i + 1) s))
+    unfolding fewCapitals
+    no-capital u e = rw (run-on e, fewCapitals, u, e)
 
-abbrev pub kept : List ℕ → Bool
-kept w = fewCapitals 0 w && leb (length w) nameLimit
+-- ---- the loop: the run from i on, with the capitals directly before it, decides as the run from a place on
 
-module _ (w : List ℕ) where
-  pub too-long : nameLimit < length w → false ≡ kept w
-  too-long h = rw (lt-leb (length w) nameLimit h) (sym (and-false (fewCapitals 0 w)))
+pub record Judged (s : List ℕ) (at capitals : ℕ) (few : Bool) (i : ℕ) : Type 0 where
+  pub ahead : at ≤ i
+  pub inside : i ≤ length s
+  pub ends : i + lengthIn isNameByte (drop i s) ≡ at + lengthIn isNameByte (drop at s)
+  pub row : capitals ≤ 2
+  pub decides : (few && fewCapitals capitals (run (drop i s))) ≡ fewCapitals 0 (run (drop at s))
 
-  pub broken : fewCapitals 0 w ≡ false → false ≡ kept w
-  broken e = rw e
+pub judged-begin : (s : List ℕ) (at : ℕ) → at ≤ length s → Judged s at 0 true at
+judged-begin s at h = record { ahead = omega arith; inside = h; ends = refl; row = omega arith; decides = refl }
 
-  pub keeps : fewCapitals 0 w ≡ true → length w ≤ nameLimit → true ≡ kept w
-  keeps e h = rw (e, le-leb (length w) nameLimit h)
+module _ {s : List ℕ} {at capitals : ℕ} {few : Bool} {i : ℕ} (so-far : Judged s at capitals few i) where
+  module _ (h : i < length s) where
+    module _ (u : isUpper (getD s i 0) ≡ true) where
+      further : (i + 1) + lengthIn isNameByte (drop (i + 1) s) ≡ at + lengthIn isNameByte (drop at s)
+      further = sym (goes-on isNameByte s i h (upper-name _ u)) ∙ so-far .ends
+
+      pub judged-capital : capitals < 2 → Judged s at (capitals + 1) few (i + 1)
+      judged-capital l = record {
+        ahead = omega (arith, so-far .ahead);
+        inside = omega arith;
+        ends = further;
+        row = omega arith;
+        decides = ap (λ (k : Bool). few && k) (sym (one-capital s i h capitals u l)) ∙ so-far .decides;
+      }
+
+      pub judged-third : 2 ≤ capitals → Judged s at capitals false (i + 1)
+      judged-third l = record {
+        ahead = omega (arith, so-far .ahead);
+        inside = omega arith;
+        ends = further;
+        row = so-far .row;
+        decides = sym (and-false few) ∙ ap (λ (k : Bool). few && k) (sym (third-capital s i h capitals u l)) ∙ so-far .decides;
+      }
+
+    pub judged-other : isUpper (getD s i 0) ≡ false → isNameByte (getD s i 0) ≡ true → Judged s at 0 few (i + 1)
+    judged-other u e = record {
+      ahead = omega (arith, so-far .ahead);
+      inside = omega arith;
+      ends = sym (goes-on isNameByte s i h e) ∙ so-far .ends;
+      row = omega arith;
+      decides = ap (λ (k : Bool). few && k) (sym (no-capital s i h capitals u e)) ∙ so-far .decides;
+    }
+
+  -- where no name byte is left in front, the run ends
+  module _ (end : i + lengthIn isNameByte (drop i s) ≡ i) (none : run (drop i s) ≡ []) where
+    stretch : Stretch isNameByte s at i
+    stretch = (sym end ∙ so-far .ends, so-far .ahead, so-far .inside)
+
+    long : length (run (drop at s)) ≡ i - at
+    long = ap length (front-at isNameByte s at i stretch) ∙ length-take-le (i - at) (drop at s) (omega (arith, length-drop at s, so-far .inside))
+
+    over : fewCapitals capitals (run (drop i s)) ≡ true
+    unfolding fewCapitals
+    over = rw none
+
+    decided : few ≡ fewCapitals 0 (run (drop at s))
+    decided = sym (and-true few) ∙ ap (λ (k : Bool). few && k) (sym over) ∙ so-far .decides
+
+    measured : (r : Run) → (r .end ≡ i) × (r .keeps ≡ (few && leb (i - at) nameLimit)) → Measures s at r
+    measured r e = record {
+      ends = rw (e .0) stretch;
+      judged = e .1 ∙ ap (λ (k : Bool). k && leb (i - at) nameLimit) decided ∙ ap (λ (k : ℕ). fewCapitals 0 (run (drop at s)) && leb k nameLimit) (sym long);
+    }
+
+  pub measured-here : i < length s → isNameByte (getD s i 0) ≡ false → (r : Run) → (r .end ≡ i) × (r .keeps ≡ (few && leb (i - at) nameLimit)) → Measures s at r
+  measured-here h e = measured (stops isNameByte s i h e) (run-over s i h e)
+
+  pub measured-cut : length s ≤ i → (r : Run) → (r .end ≡ i) × (r .keeps ≡ (few && leb (i - at) nameLimit)) → Measures s at r
+  unfolding lengthIn
+  measured-cut h = measured (cut-off isNameByte s i h) (ap run (drop-of-length-le s h))
 
 -- ---- the whole rule, for names that start in a class
 
-abbrev pub ruled : (ℕ → Bool) → List ℕ → Bool
-ruled class w = nameRule class w && leb (length w) nameLimit
+-- a run that is not empty is a name by its first byte and what was judged
+pub ruled : (class : ℕ → Bool) {s : List ℕ} {at : ℕ} {r : Run} → Measures s at r → (r .end ≡ at → ⊥)
+    → (class (getD s at 0) && r .keeps) ≡ isName class nameLimit (run (drop at s))
+unfolding isName nameRule startsIn
+ruled class {s} {at} {r} m some =
+    split (class (getD s at 0)) (λ t. rw (t, starts ∙ t) (m .judged)) (λ f. rw (f, starts ∙ f))
+  where
+    inside : at < length s
+    inside = omega (arith, m .ends .1, m .ends .2)
 
-pub empty-name : (class : ℕ → Bool) (w : List ℕ) → length w ≡ 0 → false ≡ ruled class w
-unfolding nameRule startsIn
-empty-name class [] h = refl
-empty-name class (b ∷ l) h = absurd (omega arith)
+    starts : startsIn class (run (drop at s)) ≡ class (getD s at 0)
+    starts =
+        split (isNameByte (getD s at 0)) (λ e. rw (run-on s at inside e)) (λ e. absurd (some (m .ends .0 ∙ stops isNameByte s at inside e)))
 
-pub good-start : (class : ℕ → Bool) (w : List ℕ) → (length w ≡ 0 → ⊥) → class (getD w 0 0) ≡ true → kept w ≡ ruled class w
-unfolding nameRule startsIn
-good-start class [] h e = absurd (h refl)
-good-start class (b ∷ l) h e = rw e
+-- what is no run has a byte that no name has
+not-run : (w : List ℕ) (n : ℕ) → lengthIn isNameByte w < length w → fewCapitals n w ≡ false
+unfolding fewCapitals lengthIn
+not-run [] n h = absurd (omega arith)
+not-run (b ∷ l) n h =
+    split (isUpper b)
+    (λ u. split (ltb n 2)
+    (λ t. rw (u, fewCapitals, t) (not-run l (n + 1) (less (upper-name b u))))
+    (λ f. rw (u, fewCapitals, f)))
+    (λ u. split (isNameByte b) (λ e. rw (u, fewCapitals, e) (not-run l 0 (less e))) (λ e. rw (u, fewCapitals, e)))
+  where
+    less : isNameByte b ≡ true → lengthIn isNameByte l < length l
+    less e = let k : lengthIn isNameByte (b ∷ l) ≡ suc (lengthIn isNameByte l) = rw (lengthIn, e) in omega arith
 
-pub bad-start : (class : ℕ → Bool) (w : List ℕ) → (length w ≡ 0 → ⊥) → class (getD w 0 0) ≡ false → false ≡ ruled class w
-unfolding nameRule startsIn
-bad-start class [] h e = absurd (h refl)
-bad-start class (b ∷ l) h e = rw e
+module _ (class : ℕ → Bool) (w : List ℕ) where
+  pub empty-name : length w ≡ 0 → false ≡ isName class nameLimit w
+  unfolding isName nameRule startsIn
+  empty-name h = go w h
+    where
+      go : (v : List ℕ) → length v ≡ 0 → false ≡ isName class nameLimit v
+      go [] e = refl
+      go (b ∷ l) e = absurd (omega arith)
+
+  module _ {r : Run} (m : Measures w 0 r) where
+    pub no-run : r .end < length w → false ≡ isName class nameLimit w
+    unfolding isName nameRule
+    no-run h = rw (not-run w 0 (omega (arith, m .ends .0)), and-false (startsIn class w))
+
+    module _ (some : length w ≡ 0 → ⊥) (all : length w ≤ r .end) where
+      whole : (class (getD w 0 0) && r .keeps) ≡ isName class nameLimit w
+      whole = ruled class m (omega arith) ∙ ap (isName class nameLimit) (take-all (lengthIn isNameByte w) w (omega (arith, m .ends .0)))
+
+      pub good-start : class (getD w 0 0) ≡ true → r .keeps ≡ isName class nameLimit w
+      good-start e = ap (λ (k : Bool). k && r .keeps) (sym e) ∙ whole
+
+      pub bad-start : class (getD w 0 0) ≡ false → false ≡ isName class nameLimit w
+      bad-start e = ap (λ (k : Bool). k && r .keeps) (sym e) ∙ whole

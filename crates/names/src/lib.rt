@@ -3,10 +3,11 @@
 use text::classes;
 ghost use mathlib.Core.Path.{_≡_};
 ghost use mathlib.Core.Bool.{_&&_};
-ghost use lib.ListN.{length};
+ghost use Prim.Native.Nat.{_-_, _≤_};
+ghost use lib.ListN.{length, drop};
 ghost use lib.Dec.{leb};
-ghost use Rattle.paper.specs.Bytes.{within};
-ghost use Rattle.paper.specs.Names.{nameLimit, fewCapitals, isName, isConceptName, isTraitName};
+ghost use Rattle.paper.specs.Names.{nameLimit, isConceptName};
+ghost use Rattle.names.specs.Runs.{Measures};
 
 // Names are at most so many bytes.
 pub const LIMIT: usize = 32;
@@ -14,53 +15,57 @@ pub const LIMIT: usize = 32;
 // So many upper case letters may stand in a row.
 const CAPITALS: usize = 2;
 
+// A run of letters and digits: where it ends, and whether it keeps the rule of names but for how it starts.
+pub struct Run {
+    pub end: usize,
+    pub keeps: bool,
+}
+
 // Whether the name keeps to the rule of a Concept's name.
 pub fn is_concept_name(name: &[u8]) -> bool
     ensures { λ r. ⌜ r ≡ isConceptName (now (name .entry)) ⌝ }
 {
-    is_name(name, b'A', b'Z')
-}
-
-// Whether the name keeps to the rule of a trait's name.
-pub fn is_trait_name(name: &[u8]) -> bool
-    ensures { λ r. ⌜ r ≡ isTraitName (now (name .entry)) ⌝ }
-{
-    is_name(name, b'a', b'z')
-}
-
-// Whether the name keeps to the rule and starts with a byte from `low` to `high`.
-fn is_name(name: &[u8], low: u8, high: u8) -> bool
-    ensures { λ r. ⌜ r ≡ isName (within low high) nameLimit (now (name .entry)) ⌝ }
-{
-    if name.len() == 0 {
+    let run = run_at(name, 0);
+    if name.len() == 0 || run.end < name.len() {
         return false;
     }
-    classes::is_within(low, high, name[0]) && keeps_rule(name)
+    classes::is_upper(name[0]) && run.keeps
 }
 
-// The rule but for how a name starts: letters and digits, few capitals in a row, within the limit.
-fn keeps_rule(name: &[u8]) -> bool
-    ensures { λ r. ⌜ r ≡ (fewCapitals 0 (now (name .entry)) && leb (length (now (name .entry))) nameLimit) ⌝ }
+// The run of letters and digits that stands at `at`, measured and judged in one pass.
+pub fn run_at(s: &[u8], at: usize) -> Run
+    requires { ⌜ at ≤ length (now s) ⌝ }
+    ensures { λ r. ⌜ Measures (now (s .entry)) at r ⌝ }
 {
-    if LIMIT < name.len() {
-        return false;
-    }
     let mut capitals = 0;
-    let mut i = 0;
-    while i < name.len() {
-        let b = name[i];
+    let mut few = true;
+    let mut i = at;
+    while i < s.len() {
+        let b = s[i];
         if classes::is_upper(b) {
             if capitals == CAPITALS {
-                return false;
+                few = false;
+            } else {
+                capitals += 1;
             }
-            capitals += 1;
         } else {
             if !classes::is_name_byte(b) {
-                return false;
+                return judged(at, i, few);
             }
             capitals = 0;
         }
         i += 1;
     }
-    true
+    judged(at, i, few)
+}
+
+// The run from `at` to `end`, in which few capitals stand in a row or not, by its length.
+fn judged(at: usize, end: usize, few: bool) -> Run
+    requires { ⌜ at ≤ end ⌝ }
+    ensures { λ r. ⌜ (r .end ≡ end) × (r .keeps ≡ (few && leb (end - at) nameLimit)) ⌝ }
+{
+    Run {
+        end,
+        keeps: few && end - at <= LIMIT,
+    }
 }

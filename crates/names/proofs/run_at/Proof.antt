@@ -1,0 +1,85 @@
+-- The invariant: the run from `i` on, with the capitals directly before it, decides as the run from `at` on.
+-- The measure is what is left of the slice.
+use Prim.Native.Nat.{_-_}
+use mathlib.Core.Path.{sym, _∙_}
+use mathlib.Core.Logic.{⊎-elim}
+use native.Mathlib.Omega.{arith}
+use lib.ListN.{length}
+use borrow.Author.Needs.{needs}
+use borrow.Author.Tests.{not-true, not-false}
+use Rattle.names.proofs.Rule.{Judged, judged-begin, judged-capital, judged-third, judged-other, measured-here, measured-cut}
+use Rattle.names.proofs.run_at.Statement.{statement}
+use Rattle.names.proofs.run_at.Tie as tie
+
+abbrev Inv-loop : tie.InvT-loop
+Inv-loop s at capitals₀ few₀ i₀ capitals few i = Judged s at capitals few i
+
+abbrev μ-loop : tie.MeasureT-loop
+μ-loop s at capitals₀ few₀ i₀ capitals few i = length s - i
+
+loop-holds : tie.Need-loop-holds Inv-loop μ-loop
+loop-holds c = judged-begin _ _ (omega arith)
+
+shared-slice-read-b : tie.Need-shared-slice-read-b Inv-loop μ-loop
+shared-slice-read-b c = search needs
+
+is-upper-requires : tie.Need-is-upper-requires Inv-loop μ-loop
+is-upper-requires c κs = search needs
+
+add-capitals : tie.Need-add-capitals Inv-loop μ-loop
+add-capitals c = omega (arith, c .before .before .before .before .before .loop .inv .row)
+
+is-name-byte-requires : tie.Need-is-name-byte-requires Inv-loop μ-loop
+is-name-byte-requires c κs = search needs
+
+judged-requires : tie.Need-judged-requires Inv-loop μ-loop
+judged-requires c κs = c .before .before .before .before .before .before .loop .inv .ahead
+
+returns : tie.Need-returns Inv-loop μ-loop
+returns c =
+    let turn = c .before .before .before .before .before .before in
+    let no-byte = sym (c .before .before .is-name-byte .ensures) ∙ not-true _ (c .before .if3 .taken) in
+    measured-here (turn .before .loop .inv) (turn .loop-test .taken) no-byte _ (c .judged .ensures)
+
+add-i : tie.Need-add-i Inv-loop μ-loop
+add-i c = omega arith
+
+loop-less : tie.Need-loop-less Inv-loop μ-loop
+loop-less c = omega arith
+
+loop-again : tie.Need-loop-again Inv-loop μ-loop
+loop-again c =
+    let turn = c .before .before .before in
+    let so-far = turn .before .loop .inv in
+    let upper = c .before .is-upper .ensures in
+    ⊎-elim
+    (λ w. rw (w .2, w .3) (judged-third so-far (turn .loop-test .taken) (sym upper ∙ w .0 .taken) (omega (arith, w .1 .taken))))
+    (⊎-elim
+    (λ w. rw (w .2, w .3) (judged-capital so-far (turn .loop-test .taken) (sym upper ∙ w .0 .taken) (omega (arith, w .1 .left, so-far .row))))
+    (λ w. rw (w .3, w .4) (judged-other so-far (turn .loop-test .taken) (sym upper ∙ w .0 .left) (sym (w .1 .ensures) ∙ not-false _ (w .2 .left)))))
+    (c .if1 .came)
+
+judged-requires-2 : tie.Need-judged-requires-2 Inv-loop μ-loop
+judged-requires-2 c κs = c .before .loop .inv .ahead
+
+returns-2 : tie.Need-returns-2 Inv-loop μ-loop
+returns-2 c = measured-cut (c .before .before .loop .inv) (c .before .loop-test .left) _ (c .judged2 .ensures)
+
+pub run-at-spec : {M : Type 1} → statement M
+run-at-spec =
+    tie.close
+    (tie.spec
+    Inv-loop
+    μ-loop
+    loop-holds
+    shared-slice-read-b
+    is-upper-requires
+    add-capitals
+    is-name-byte-requires
+    judged-requires
+    returns
+    add-i
+    loop-less
+    loop-again
+    judged-requires-2
+    returns-2)

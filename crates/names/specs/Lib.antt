@@ -1,0 +1,2 @@
+-- What the functions of this crate answer, over the definitions of the paper.
+pub mod Runs
