@@ -5,7 +5,7 @@ use mathlib.Core.Path.{_≡_, refl, sym, ap, _∙_}
 use mathlib.Core.List.{List, [], _∷_}
 use mathlib.Core.Bool.{Bool, true, false, _&&_, and-true, and-false}
 use native.Mathlib.Omega.{arith}
-use lib.ListN.{length, getD, take, drop, length-drop, drop-of-length-le}
+use lib.ListN.{length, getD, drop, length-drop, drop-of-length-le}
 use lib.Seq.{length-take-le, take-all}
 use lib.Dec.{leb, ltb}
 use borrow.Author.Tests.{lt-ltb, le-ltb}
@@ -15,7 +15,7 @@ use Rattle.paper.proofs.Tests.{split}
 use Rattle.text.proofs.Places.{here}
 use Rattle.text.proofs.Stretch.{Stretch, front-at, goes-on, stops, cut-off}
 use Rattle.names.specs.declared.Run.{Run}
-use Rattle.names.specs.Runs.{kept, Measures}
+use Rattle.names.specs.Runs.{Measures}
 
 -- ---- a run, byte by byte
 

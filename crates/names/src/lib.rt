@@ -4,7 +4,7 @@ use text::classes;
 ghost use mathlib.Core.Path.{_≡_};
 ghost use mathlib.Core.Bool.{_&&_};
 ghost use Prim.Native.Nat.{_-_, _≤_};
-ghost use lib.ListN.{length, drop};
+ghost use lib.ListN.{length};
 ghost use lib.Dec.{leb};
 ghost use Rattle.paper.specs.Names.{nameLimit, isConceptName};
 ghost use Rattle.names.specs.Runs.{Measures};

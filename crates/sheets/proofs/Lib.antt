@@ -10,6 +10,7 @@ pub mod AnnotatedLaws
 pub mod BlockLaws
 pub mod Bodies
 pub mod PieceLaws
+pub mod LineStarts
 pub mod SheetLaws
 pub mod Views
 pub mod OneAnswer

@@ -6,17 +6,18 @@ use mathlib.Core.Bool.{true, false}
 use mathlib.Core.List.{List, [], _∷_, _++_}
 use lib.ListN.{length, drop}
 use lib.Dec.{eqb}
-use Rattle.paper.specs.Found.{Found, found}
+use Rattle.paper.specs.Found.{Found, found, andThen}
+use Rattle.paper.specs.Bytes.{lengthIn, behind}
 use Rattle.paper.specs.Modes.{Modes}
 use Rattle.paper.specs.Limits.{sheetLimit}
-use Rattle.paper.specs.Tree.{Marker, Concept, selfClosed, children, content, done, Annotated, BodyPiece, before}
+use Rattle.paper.specs.Tree.{Marker, Concept, selfClosed, children, content, Body, done, Annotated, BodyPiece, before}
 use Rattle.paper.specs.Grammar.{blankOnto, annotationsOnto}
 use Rattle.paper.specs.Entries.{Entry, annotationEntries, conceptSize, conceptEntry, insideEntries, bodySize, bodyCount, bodyEntries}
-use Rattle.paper.specs.Reading.{contentOf, conceptOf, blockOf, bodyOf, annotatedOf, pieceOf, bounds}
+use Rattle.paper.specs.Reading.{isTab, lineRest, contentOf, conceptOf, blockOf, bodyOf, annotatedOf, pieceOf, bounds}
 use Rattle.modes.specs.Table.{Valid, modesOf}
 use Rattle.entries.specs.Laid.{lay, Fits}
 use Rattle.entries.specs.declared.Slot.{Slot}
-use Rattle.lines.specs.Parts.{Makes, In, part, contentEntries}
+use Rattle.lines.specs.Parts.{Seen, seen, seenOf, Makes, In, part, contentEntries}
 use Rattle.lines.specs.declared.part.Part.{Part}
 
 -- a place of a sheet that is read under a valid table, and a slot of the cells
@@ -116,10 +117,26 @@ ReadsAnnotated table s at deeper cells slot r after =
 
 -- ---- a body, piece by piece
 
+-- the tabs that stand at a place end at a mark
+abbrev pub TabsTo : List ℕ → ℕ → ℕ → Type 0
+TabsTo s at mark = (mark ≡ at + lengthIn isTab (drop at s)) × (at ≤ mark) × (mark ≤ length s)
+
+-- what was read ends in the sheet; and with the rest of its line
+abbrev pub EndsIn : List ℕ → Part → Type 0
+EndsIn s r = (end made own : ℕ) → r ≡ Part.Read end made own → end ≤ length s
+
+abbrev pub lineEnded : List ℕ → Part → Seen
+lineEnded s (Part.Read end made own) = seenOf (λ rest. made) (λ rest. own) s (lineRest (drop end s))
+lineEnded s (Part.Refused why place) = seen (Part.Refused why place)
+
+-- a body up to the mark behind the tabs of its closing line
+abbrev pub upToMark : Found Body → Found Body
+upToMark x = andThen x (λ b line. found b (behind isTab line))
+
 abbrev pub ReadsChildren : List ℕ → List ℕ → ℕ → ℕ → List ℕ → Slot → Part → List ℕ → Type 0
 ReadsChildren table s at deeper cells slot r after =
     Makes bodySize bodyCount (bodyEntries (slot .parent) (slot .next) at) s cells (slot .next)
-    (bodyOf (modesOf table) bounds deeper (slot .room - slot .next) (drop at s)) r after
+    (upToMark (bodyOf (modesOf table) bounds deeper (slot .room - slot .next) (drop at s))) r after
 
 -- a piece counts as a body of its own
 abbrev pub pieceSize : BodyPiece → ℕ

@@ -9,6 +9,7 @@ use lines::annotations;
 use lines::blank::is_blank_line;
 use lines::blank::tabs_only;
 use lines::content::read_content;
+use lines::marks::CLOSING;
 use lines::marks::read_closing;
 use lines::part::Part;
 use lines::part::line_rest;
@@ -22,9 +23,9 @@ use text::runs;
 use text::runs::Class;
 ghost use mathlib.Core.Path.{_≡_};
 ghost use Prim.Native.Nat.{_≤_};
-ghost use lib.ListN.{length, drop};
-ghost use Rattle.paper.specs.Reading.{isClosing};
-ghost use Rattle.sheets.specs.Concepts.{Ready, Ends, endedBy, cellsEnded};
+ghost use lib.ListN.{length};
+ghost use Rattle.lines.specs.Parts.{seen};
+ghost use Rattle.sheets.specs.Concepts.{Ready, Ends, endedBy, cellsEnded, TabsTo, EndsIn, lineEnded};
 ghost use Rattle.sheets.specs.Concepts.{ReadsConcept, ReadsInside, ReadsBlock, ReadsChildren, ReadsPiece, ReadsAnnotated};
 
 // Reads the Concept whose "<" is due at `at`, on a line of so many tabs, and enters it with what it holds.
@@ -148,21 +149,21 @@ fn read_block(
     };
     let body = read_children(table, s, start, nesting, cells, slot);
     let Part::Read {
-        end: line,
+        end: mark,
         made,
         own,
     } = body
     else {
         return body;
     };
-    let closing = read_closing(s, runs::end(s, line, Class::Tab), from, to);
+    let closing = read_closing(s, mark, from, to);
     let Part::Read { end, .. } = closing else {
         return closing;
     };
     Part::Read { end, made, own }
 }
 
-// Reads the lines of a children body that stand at `at`, up to the line of the closing marker.
+// Reads the lines of a children body that stand at `at`, up to the closing marker behind the tabs of its line.
 fn read_children(
     table: &[u8],
     s: &[u8],
@@ -178,8 +179,16 @@ fn read_children(
     let mut i = at;
     let mut made = 0;
     let mut own = 0;
-    while !is_closing(s, i) {
-        let piece = read_piece(table, s, i, nesting, cells, slot.after(made));
+    loop {
+        let mark = runs::end(s, i, Class::Tab);
+        if starts_with(s, mark, &CLOSING) {
+            return Part::Read {
+                end: mark,
+                made,
+                own,
+            };
+        }
+        let piece = read_piece(table, s, i, mark, nesting, cells, slot.after(made));
         let Part::Read {
             end,
             made: more,
@@ -192,30 +201,30 @@ fn read_children(
         made += more;
         own += mine;
     }
-    Part::Read { end: i, made, own }
 }
 
-// Whether the line at `at` is that of a closing marker.
-fn is_closing(s: &[u8], at: usize) -> bool
-    requires { ⌜ at ≤ length (now s) ⌝ }
-    ensures { λ r. ⌜ r ≡ isClosing (drop at (now (s .entry))) ⌝ }
-{
-    starts_with(s, runs::end(s, at, Class::Tab), b"</")
-}
-
-// Reads a blank line, or a Concept with its annotations and the rest of its line.
+// Reads a blank line, or a Concept with its annotations and the rest of its line. The tabs that stand at `at` end at `mark`:
+// what stands there is looked at first, since most lines have a Concept behind their tabs, or nothing.
 fn read_piece(
     table: &[u8],
     s: &[u8],
     at: usize,
+    mark: usize,
     nesting: Nesting,
     cells: &mut [u32],
     slot: Slot,
 ) -> Part
-    requires { ⌜ Ready (now table) (now s) at (now cells) slot ⌝ }
+    requires { ⌜ Ready (now table) (now s) at (now cells) slot × TabsTo (now s) at mark ⌝ }
     ensures { λ r.
         ⌜ ReadsPiece (now (table .entry)) (now (s .entry)) at (nesting .left) (now (cells .entry)) slot r (now (cells .exit)) ⌝ }
 {
+    if starts_with(s, mark, b"<") {
+        let concept = read_concept(table, s, mark, mark - at, nesting, cells, slot);
+        return end_line(s, concept);
+    }
+    if starts_with(s, mark, b"\n") {
+        return past(mark + 1);
+    }
     if is_blank_line(s, at) {
         return line_rest(s, at);
     }
@@ -224,8 +233,16 @@ fn read_piece(
         return tabs;
     };
     let concept = read_annotated(table, s, at, nesting, cells, slot);
-    let Part::Read { end, made, own } = concept else {
-        return concept;
+    end_line(s, concept)
+}
+
+// What was read, with the blank rest of its line.
+fn end_line(s: &[u8], part: Part) -> Part
+    requires { ⌜ EndsIn (now s) part ⌝ }
+    ensures { λ r. ⌜ seen r ≡ lineEnded (now (s .entry)) part ⌝ }
+{
+    let Part::Read { end, made, own } = part else {
+        return part;
     };
     let rest = line_rest(s, end);
     let Part::Read { end: next, .. } = rest else {

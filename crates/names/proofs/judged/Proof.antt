@@ -1,7 +1,6 @@
 -- The length is judged last.
 use borrow.Author.Needs.{needs}
 use mathlib.Core.Path.{refl}
-use borrow.Author.Tests.{le-leb}
 use Rattle.names.proofs.judged.Statement.{statement}
 use Rattle.names.proofs.judged.Tie as tie
 

@@ -1,17 +1,21 @@
 -- A law for each way out. The measure is the bytes that remain of the input; a call that takes none of them goes to a function of lower rank.
 use Prim.Native.Nat.{ℕ, _+_, _-_, _*_, _≤_, _<_}
-use mathlib.Core.Path.{ap, _∙_}
+use mathlib.Core.Path.{_≡_, refl, sym, ap, _∙_}
 use native.Mathlib.Omega.{arith}
-use lib.ListN.{length}
+use lib.ListN.{length, drop}
 use borrow.Author.Needs.{needs}
+use Rattle.paper.specs.Bytes.{byte, lf}
+use Rattle.paper.specs.Reading.{annotatedOf, pieceOf, bounds}
 use Rattle.modes.specs.Table.{modesOf}
 use Rattle.entries.specs.declared.Slot.{Slot}
 use Rattle.entries.proofs.Slots.{fits-after}
 use Rattle.lines.proofs.Ends.{RestAt, rest-at}
+use Rattle.sheets.specs.Concepts.{ReadsAnnotated}
 use Rattle.sheets.proofs.ConceptLaws.{inside-closed, inside-block, inside-content, marker-refused, MarkerAt, marker-ahead, lent-stands, may-end, concept-ended}
 use Rattle.sheets.proofs.Slots.{stands-on}
-use Rattle.sheets.proofs.PieceLaws.{blank-made, tabs-refused, concept-refused, ConceptAt, concept-at, rest-refused, piece-made, Pieces, pieces-begin, pieces-over}
-use Rattle.sheets.proofs.PieceLaws.{pieces-refused, piece-ahead, pieces-on}
+use Rattle.sheets.proofs.PieceLaws.{annotatedLine, blank-made, tabs-refused, tabs-passed, ends-in, line-made, Pieces, pieces-begin, pieces-over, pieces-refused, piece-ahead}
+use Rattle.sheets.proofs.PieceLaws.{pieces-on}
+use Rattle.sheets.proofs.LineStarts.{Behind, lf-blank, lf-rest, mark-piece, unannotated}
 use Rattle.sheets.proofs.AnnotatedLaws as annotated
 use Rattle.sheets.proofs.BlockLaws as block
 use borrow.Fn.Kinds.{In}
@@ -45,8 +49,9 @@ use Rattle.lines.proofs.part.line_rest.Reads as line-rest-reads
 use Rattle.lines.proofs.part.past.Reads as past-reads
 use Rattle.lines.proofs.part.refused.Reads as refused-reads
 use Rattle.sheets.proofs.concepts.end_concept.Reads as end-concept-reads
-use Rattle.sheets.proofs.concepts.is_closing.Reads as is-closing-reads
+use Rattle.sheets.proofs.concepts.end_line.Reads as end-line-reads
 use Rattle.sheets.proofs.opening.read_opening.Reads as read-opening-reads
+use Rattle.text.proofs.parts.starts_with.Reads as starts-with-reads
 use Rattle.text.proofs.runs.end.Reads as end-reads
 use Rattle.sheets.proofs.concepts.+read_annotated+read_block+read_children+read_concept+read_inside+read_piece.{statement}
 use Rattle.sheets.proofs.concepts.+read_annotated+read_block+read_children+read_concept+read_inside+read_piece.Tie.{close}
@@ -145,14 +150,21 @@ read-block-calls t = (
   line-rest-reads.Learnt,
   read-children-below t,
   read-children.Post,
-  end-reads.Asked,
-  end-reads.Learnt,
   read-closing-reads.Asked,
   read-closing-reads.Learnt,
 )
 
 abbrev read-children-calls : ℕ → read-children-lts.Claims
-read-children-calls t = (is-closing-reads.Asked, is-closing-reads.Learnt, after-reads.Asked, after-reads.Learnt, read-piece-below t, read-piece.Post)
+read-children-calls t = (
+  end-reads.Asked,
+  end-reads.Learnt,
+  starts-with-reads.Asked,
+  starts-with-reads.Learnt,
+  after-reads.Asked,
+  after-reads.Learnt,
+  read-piece-below t,
+  read-piece.Post,
+)
 
 abbrev read-concept-calls : ℕ → read-concept-lts.Claims
 read-concept-calls t = (
@@ -175,6 +187,14 @@ read-inside-calls t = (past-reads.Asked, past-reads.Learnt, read-block-below t, 
 
 abbrev read-piece-calls : ℕ → read-piece-lts.Claims
 read-piece-calls t = (
+  starts-with-reads.Asked,
+  starts-with-reads.Learnt,
+  read-concept-below t,
+  read-concept.Post,
+  end-line-reads.Asked,
+  end-line-reads.Learnt,
+  past-reads.Asked,
+  past-reads.Learnt,
   is-blank-line-reads.Asked,
   is-blank-line-reads.Learnt,
   line-rest-reads.Asked,
@@ -327,13 +347,10 @@ read-block-returns-2 t c =
     (block-rest t (c .before .before .before .before .before .before .before)) (c .before .before .before .before .read-children .ensures) k tabs
     (c .enum-told2 .given .1)
 
-read-block-end-requires : (t : ℕ) → read-block-lts.Need-end-requires (read-block-calls t) (read-block-at t) read-block.Post
-read-block-end-requires t c κs = block-body t (c .before) .inside
-
 read-block-read-closing-requires : (t : ℕ) → read-block-lts.Need-read-closing-requires (read-block-calls t) (read-block-at t) read-block.Post
 read-block-read-closing-requires t c κs =
-    let top = c .before .before .before .before .before .before .before .before .before .before .before .before .before .before .before in
-    (c .end .ensures .2, top .pre .1 .1, top .pre .1 .2)
+    let top = c .before .before .before .before .before .before .before .before .before .before .before .before .before .before in
+    (block-body t (c .before) .inside, top .pre .1 .1, top .pre .1 .2)
 
 read-block-enum-known-closing : (t : ℕ) → read-block-lts.Need-enum-known-closing (read-block-calls t) (read-block-at t) read-block.Post
 read-block-enum-known-closing t c = search needs
@@ -346,7 +363,7 @@ read-block-same-length-2 t c = search needs
 
 read-block-returns-3 : (t : ℕ) → read-block-lts.Need-returns-3 (read-block-calls t) (read-block-at t) read-block.Post
 read-block-returns-3 t c =
-    λ k tabs named. block.closing-refused (block-body t (c .before .before .before .before .before)) (c .before .before .before .end .ensures) k named tabs _
+    λ k tabs named. block.closing-refused (block-body t (c .before .before .before .before)) k named tabs _
     (c .before .before .read-closing .ensures) (c .enum-told3 .given .1)
 
 read-block-same-length-3 : (t : ℕ) → read-block-lts.Need-same-length-3 (read-block-calls t) (read-block-at t) read-block.Post
@@ -354,49 +371,68 @@ read-block-same-length-3 t c = search needs
 
 read-block-returns-4 : (t : ℕ) → read-block-lts.Need-returns-4 (read-block-calls t) (read-block-at t) read-block.Post
 read-block-returns-4 t c =
-    λ k tabs named. block.block-read (block-body t (c .before .before .before .before .before .before)) (c .before .before .before .before .end .ensures) k named tabs _
+    λ k tabs named. block.block-read (block-body t (c .before .before .before .before .before)) k named tabs _
     (c .before .before .before .read-closing .ensures) (c .before .closing .given .1)
 
 -- ---- read_children: what the pieces from `i` on make, those from `at` on make; what is left of the slice falls
 
 abbrev read-children-Inv-loop : read-children-lts.InvT-loop
-read-children-Inv-loop table s at nesting cells₀ slot i₀ made₀ own₀ cells i made own = Pieces table s at (nesting .left) cells₀ slot cells i made own
+read-children-Inv-loop table s at nesting cells₀ slot i₀ made₀ own₀ fixed cells i made own = Pieces table s at (nesting .left) cells₀ slot cells i made own
 
 abbrev read-children-μ-loop : read-children-lts.MeasureT-loop
-read-children-μ-loop table s at nesting cells₀ slot i₀ made₀ own₀ cells i made own = length s - i
+read-children-μ-loop table s at nesting cells₀ slot i₀ made₀ own₀ fixed cells i made own = length s - i
 
 -- a piece that is read ends further on, and leaves room
 children-ahead : (t : ℕ) (c : read-children-lts.After-piece (read-children-calls t) (read-children-at t) read-children.Post read-children-Inv-loop read-children-μ-loop)
-    → let turn = c .before .before .before .before .before .before .before .before .before in
+    → let turn = c .before .before .before .before .before .before .before .before .before .before .before in
     let top = turn .before .before .before .before in
     (turn .loop .i < c .piece .given .0 .0) × (c .piece .given .0 .0 ≤ length (top .args .s .now))
     × (top .args .slot .next + turn .loop .made + c .piece .given .0 .1 .0 ≤ top .args .slot .room) × (c .piece .given .0 .1 .1 .0 ≤ c .piece .given .0 .1 .0)
 children-ahead t c =
     let at-read-piece = c .before .before .before .before in
     let at-if = at-read-piece .before .before .before in
-    piece-ahead (at-if .before .before .loop .inv) (at-if .before .is-closing .ensures) (at-if .if1 .taken) (at-read-piece .before .after .ensures)
-    (at-read-piece .read-piece .ensures) (c .piece .given .1)
+    piece-ahead (at-if .before .before .before .before .loop .inv) (at-if .before .before .before .end .ensures) (at-if .before .starts-with .ensures) (at-if .if1 .left)
+    (at-read-piece .before .after .ensures) (at-read-piece .read-piece .ensures) (c .piece .given .1)
 
 read-children-loop-holds : (t : ℕ)
     → read-children-lts.Need-loop-holds (read-children-calls t) (read-children-at t) read-children.Post read-children-Inv-loop read-children-μ-loop
 read-children-loop-holds t c = pieces-begin _ _ _ _ _ _ (c .before .before .before .pre .1 .in-sheet .inside) (c .before .before .before .pre .1 .fits .inside)
 
-read-children-is-closing-requires : (t : ℕ)
-    → read-children-lts.Need-is-closing-requires (read-children-calls t) (read-children-at t) read-children.Post read-children-Inv-loop read-children-μ-loop
-read-children-is-closing-requires t c κs = c .loop .inv .inside
+read-children-end-requires : (t : ℕ)
+    → read-children-lts.Need-end-requires (read-children-calls t) (read-children-at t) read-children.Post read-children-Inv-loop read-children-μ-loop
+read-children-end-requires t c κs = c .loop .inv .inside
+
+read-children-slice-aggregate-starts-with : (t : ℕ)
+    → read-children-lts.Need-slice-aggregate-starts-with (read-children-calls t) (read-children-at t) read-children.Post read-children-Inv-loop read-children-μ-loop
+read-children-slice-aggregate-starts-with t c = search needs
+
+read-children-starts-with-requires : (t : ℕ)
+    → read-children-lts.Need-starts-with-requires (read-children-calls t) (read-children-at t) read-children.Post read-children-Inv-loop read-children-μ-loop
+read-children-starts-with-requires t c κs = search needs
+
+read-children-same-length : (t : ℕ)
+    → read-children-lts.Need-same-length (read-children-calls t) (read-children-at t) read-children.Post read-children-Inv-loop read-children-μ-loop
+read-children-same-length t c = c .before .before .before .before .loop .inv .held
+
+read-children-returns : (t : ℕ)
+    → read-children-lts.Need-returns (read-children-calls t) (read-children-at t) read-children.Post read-children-Inv-loop read-children-μ-loop
+read-children-returns t c = pieces-over (c .before .before .before .before .loop .inv) (c .before .before .before .end .ensures) (c .before .starts-with .ensures) (c .if1 .taken)
 
 read-children-after-requires : (t : ℕ)
     → read-children-lts.Need-after-requires (read-children-calls t) (read-children-at t) read-children.Post read-children-Inv-loop read-children-μ-loop
 read-children-after-requires t c κs =
-    omega (arith, c .before .before .before .loop .inv .few, c .before .before .before .before .before .before .before .pre .1 .fits .few)
+    omega (arith, c .before .before .before .before .before .loop .inv .few, c .before .before .before .before .before .before .before .before .before .pre .1 .fits .few)
 
 read-children-read-piece-requires : (t : ℕ)
     → read-children-lts.Need-read-piece-requires (read-children-calls t) (read-children-at t) read-children.Post read-children-Inv-loop read-children-μ-loop
 read-children-read-piece-requires t c κs =
-    let at-loop = c .before .before .before .before in
+    let at-loop = c .before .before .before .before .before .before in
     let top = at-loop .before .before .before .before in (
       omega (arith, top .pre .0, at-loop .loop .inv .ahead),
-      stands-on (top .pre .1) (at-loop .loop .inv .inside) (fits-after _ (top .pre .1 .fits) (at-loop .loop .inv .held) (at-loop .loop .inv .few) (c .after .ensures)),
+      (
+        stands-on (top .pre .1) (at-loop .loop .inv .inside) (fits-after _ (top .pre .1 .fits) (at-loop .loop .inv .held) (at-loop .loop .inv .few) (c .after .ensures)),
+        c .before .before .before .before .before .end .ensures,
+      ),
     )
 
 read-children-enum-known-piece : (t : ℕ)
@@ -407,37 +443,32 @@ read-children-enum-told : (t : ℕ)
     → read-children-lts.Need-enum-told (read-children-calls t) (read-children-at t) read-children.Post read-children-Inv-loop read-children-μ-loop
 read-children-enum-told t c = search needs
 
-read-children-same-length : (t : ℕ)
-    → read-children-lts.Need-same-length (read-children-calls t) (read-children-at t) read-children.Post read-children-Inv-loop read-children-μ-loop
-read-children-same-length t c =
-    c .before .before .before .before .read-piece .kept .1 .1 .1 .1 .0 ∙ c .before .before .before .before .before .before .before .before .before .loop .inv .held
+read-children-same-length-2 : (t : ℕ)
+    → read-children-lts.Need-same-length-2 (read-children-calls t) (read-children-at t) read-children.Post read-children-Inv-loop read-children-μ-loop
+read-children-same-length-2 t c =
+    c .before .before .before .before .read-piece .kept .1 .1 .1 .1 .1 .0
+    ∙ c .before .before .before .before .before .before .before .before .before .before .before .loop .inv .held
 
-read-children-returns : (t : ℕ)
-    → read-children-lts.Need-returns (read-children-calls t) (read-children-at t) read-children.Post read-children-Inv-loop read-children-μ-loop
-read-children-returns t c =
+read-children-returns-2 : (t : ℕ)
+    → read-children-lts.Need-returns-2 (read-children-calls t) (read-children-at t) read-children.Post read-children-Inv-loop read-children-μ-loop
+read-children-returns-2 t c =
     let at-read-piece = c .before .before .before .before in
     let at-if = at-read-piece .before .before .before in
-    pieces-refused (at-if .before .before .loop .inv) (at-if .before .is-closing .ensures) (at-if .if1 .taken) (at-read-piece .before .after .ensures)
-    (at-read-piece .read-piece .ensures) (c .enum-told .given .1)
+    pieces-refused (at-if .before .before .before .before .loop .inv) (at-if .before .before .before .end .ensures) (at-if .before .starts-with .ensures) (at-if .if1 .left)
+    (at-read-piece .before .after .ensures) (at-read-piece .read-piece .ensures) (c .enum-told .given .1)
 
 read-children-add-made : (t : ℕ)
     → read-children-lts.Need-add-made (read-children-calls t) (read-children-at t) read-children.Post read-children-Inv-loop read-children-μ-loop
 read-children-add-made t c =
-    let on =
-    children-ahead t (c .before) in omega (
-      arith,
-      c .before .before .before .before .before .before .before .before .before .before .before .before .before .before .pre .1 .fits .few,
-    )
+    let on = children-ahead t (c .before) in
+    omega (arith, c .before .before .before .before .before .before .before .before .before .before .before .before .before .before .before .before .pre .1 .fits .few)
 
 read-children-add-own : (t : ℕ)
     → read-children-lts.Need-add-own (read-children-calls t) (read-children-at t) read-children.Post read-children-Inv-loop read-children-μ-loop
 read-children-add-own t c =
-    let on =
-    children-ahead t (c .before) in omega (
-      arith,
-      c .before .before .before .before .before .before .before .before .before .before .loop .inv .fewer,
-      c .before .before .before .before .before .before .before .before .before .before .before .before .before .before .pre .1 .fits .few,
-    )
+    let on = children-ahead t (c .before) in
+    let turn = c .before .before .before .before .before .before .before .before .before .before .before .before in
+    omega (arith, turn .loop .inv .fewer, turn .before .before .before .before .pre .1 .fits .few)
 
 read-children-loop-less : (t : ℕ)
     → read-children-lts.Need-loop-less (read-children-calls t) (read-children-at t) read-children.Post read-children-Inv-loop read-children-μ-loop
@@ -448,16 +479,8 @@ read-children-loop-again : (t : ℕ)
 read-children-loop-again t c =
     let at-read-piece = c .before .before .before .before .before in
     let at-if = at-read-piece .before .before .before in
-    pieces-on (at-if .before .before .loop .inv) (at-if .before .is-closing .ensures) (at-if .if1 .taken) (at-read-piece .before .after .ensures)
-    (at-read-piece .read-piece .ensures) (c .before .piece .given .1) (at-read-piece .read-piece .kept .1 .1 .1 .1 .0)
-
-read-children-same-length-2 : (t : ℕ)
-    → read-children-lts.Need-same-length-2 (read-children-calls t) (read-children-at t) read-children.Post read-children-Inv-loop read-children-μ-loop
-read-children-same-length-2 t c = c .before .before .loop .inv .held
-
-read-children-returns-2 : (t : ℕ)
-    → read-children-lts.Need-returns-2 (read-children-calls t) (read-children-at t) read-children.Post read-children-Inv-loop read-children-μ-loop
-read-children-returns-2 t c = pieces-over (c .before .before .loop .inv) (c .before .is-closing .ensures) (c .if1 .left)
+    pieces-on (at-if .before .before .before .before .loop .inv) (at-if .before .before .before .end .ensures) (at-if .before .starts-with .ensures) (at-if .if1 .left)
+    (at-read-piece .before .after .ensures) (at-read-piece .read-piece .ensures) (c .before .piece .given .1) (at-read-piece .read-piece .kept .1 .1 .1 .1 .1 .0)
 
 -- ---- read_concept: the opening marker, what follows it, the entry before them
 
@@ -577,20 +600,78 @@ read-inside-returns-3 t c =
     λ k named. inside-content (c .before .before .before .before .before .before .before .before .pre .1 .0) _ _ _ k
     (c .before .before .before .before .match .rest .0 .1) (c .before .before .before .before .match .rest .1) (c .before .before .read-content .ensures k named)
 
--- ---- read_piece: a blank line, or tabs, a Concept and the rest of its line
+-- ---- read_piece: by what stands behind the tabs; a blank line, or a Concept and the rest of its line
 
--- the Concept is read
-piece-concept : (t : ℕ) (c : read-piece-lts.After-concept (read-piece-calls t) (read-piece-at t) read-piece.Post)
-    → let start = c .before .before .before .before .before .before .before .before .before .before .before .before .before .before .args in
-    let read = c .concept .given .0 in
-    ConceptAt (start .table .now) (start .s .now) (start .at) (start .nesting .left) (start .cells .now) (start .slot)
-    (c .before .before .before .before .read-annotated .last .1 .1 .1 .1 .0) (read .0) (read .1 .0) (read .1 .1 .0)
-piece-concept t c =
-    let at-read-annotated = c .before .before .before .before in
-    let at-tabs-only = at-read-annotated .before .before .before .before in
-    concept-at (at-tabs-only .before .before .before .before .before .before .pre .1) _ (at-tabs-only .before .before .is-blank-line .ensures)
-    (at-tabs-only .before .if1 .left) _ (at-tabs-only .tabs-only .ensures) (at-read-annotated .before .before .enum-told .given .1)
-    (at-read-annotated .read-annotated .ensures) (c .concept .given .1)
+-- "<" stands behind the tabs: the Concept that is read there has no annotations
+piece-marked : (t : ℕ) (c : read-piece-lts.After-read-concept (read-piece-calls t) (read-piece-at t) read-piece.Post)
+    → let start = c .before .before .before .before .before .before .before .before .args in
+    Behind (byte "<") (start .s .now) (start .at) (start .mark)
+    × ReadsAnnotated (start .table .now) (start .s .now) (start .at) (start .nesting .left) (start .cells .now) (start .slot) (c .read-concept .result)
+    (c .read-concept .last .1 .1 .1 .1 .1 .0)
+piece-marked t c =
+    let top = c .before .before .before .before .before .before .before .before in
+    let line : Behind (byte "<") (top .args .s .now) (top .args .at) (top .args .mark) =
+    record { run = top .pre .1 .1; starts = sym (c .before .before .before .starts-with .ensures) ∙ c .before .before .if1 .taken } in
+    (line, unannotated line (top .pre .1 .0) _ (c .read-concept .ensures))
+
+-- or else the line is not blank, and has only tabs before an annotation or a Concept
+piece-tabs : (t : ℕ) (c : read-piece-lts.After-read-annotated (read-piece-calls t) (read-piece-at t) read-piece.Post)
+    → let start = c .before .before .before .before .before .before .before .before .before .before .before .before .before .before .before .before .args in
+    let room = start .slot .room - start .slot .next in
+    let line = drop (start .at) (start .s .now) in
+    pieceOf (modesOf (start .table .now)) bounds (start .nesting .left) room line
+    ≡ annotatedLine (annotatedOf (modesOf (start .table .now)) bounds (start .nesting .left) room line)
+piece-tabs t c =
+    let at-tabs-only = c .before .before .before .before in
+    tabs-passed (at-tabs-only .before .before .before .before .before .before .before .before .before .before .before .before .pre .1 .0) _
+    (at-tabs-only .before .before .is-blank-line .ensures) (at-tabs-only .before .if3 .left) _ (at-tabs-only .tabs-only .ensures)
+    (c .before .before .enum-told .given .1)
+
+read-piece-slice-aggregate-starts-with : (t : ℕ) → read-piece-lts.Need-slice-aggregate-starts-with (read-piece-calls t) (read-piece-at t) read-piece.Post
+read-piece-slice-aggregate-starts-with t c = search needs
+
+read-piece-starts-with-requires : (t : ℕ) → read-piece-lts.Need-starts-with-requires (read-piece-calls t) (read-piece-at t) read-piece.Post
+read-piece-starts-with-requires t c κs = search needs
+
+read-piece-sub-read-concept : (t : ℕ) → read-piece-lts.Need-sub-read-concept (read-piece-calls t) (read-piece-at t) read-piece.Post
+read-piece-sub-read-concept t c = search needs
+
+read-piece-read-concept-requires : (t : ℕ) → read-piece-lts.Need-read-concept-requires (read-piece-calls t) (read-piece-at t) read-piece.Post
+read-piece-read-concept-requires t c κs =
+    let top = c .before .before .before .before .before .before .before in
+    (omega (arith, top .pre .0, top .pre .1 .1), stands-on (top .pre .1 .0) (top .pre .1 .1 .2) (top .pre .1 .0 .fits))
+
+read-piece-end-line-requires : (t : ℕ) → read-piece-lts.Need-end-line-requires (read-piece-calls t) (read-piece-at t) read-piece.Post
+read-piece-end-line-requires t c κs =
+    let marked = piece-marked t (c .before .before) in
+    ends-in (c .before .before .before .before .before .before .before .before .before .before .pre .1 .0) _ (mark-piece (marked .0) _ _ _) (marked .1)
+
+read-piece-same-length : (t : ℕ) → read-piece-lts.Need-same-length (read-piece-calls t) (read-piece-at t) read-piece.Post
+read-piece-same-length t c = c .before .before .before .read-concept .kept .1 .1 .1 .1 .1 .0
+
+read-piece-returns : (t : ℕ) → read-piece-lts.Need-returns (read-piece-calls t) (read-piece-at t) read-piece.Post
+read-piece-returns t c =
+    let marked = piece-marked t (c .before .before .before) in
+    line-made (c .before .before .before .before .before .before .before .before .before .before .before .pre .1 .0) _ (mark-piece (marked .0) _ _ _) (marked .1) _ (c .end-line .ensures)
+
+read-piece-slice-aggregate-starts-with-2 : (t : ℕ) → read-piece-lts.Need-slice-aggregate-starts-with-2 (read-piece-calls t) (read-piece-at t) read-piece.Post
+read-piece-slice-aggregate-starts-with-2 t c = search needs
+
+read-piece-starts-with-requires-2 : (t : ℕ) → read-piece-lts.Need-starts-with-requires-2 (read-piece-calls t) (read-piece-at t) read-piece.Post
+read-piece-starts-with-requires-2 t c κs = search needs
+
+read-piece-add-past : (t : ℕ) → read-piece-lts.Need-add-past (read-piece-calls t) (read-piece-at t) read-piece.Post
+read-piece-add-past t c = search needs
+
+read-piece-past-requires : (t : ℕ) → read-piece-lts.Need-past-requires (read-piece-calls t) (read-piece-at t) read-piece.Post
+read-piece-past-requires t c κs = search needs
+
+read-piece-returns-2 : (t : ℕ) → read-piece-lts.Need-returns-2 (read-piece-calls t) (read-piece-at t) read-piece.Post
+read-piece-returns-2 t c =
+    let top = c .before .before .before .before .before .before .before .before .before .before in
+    let line : Behind lf (top .args .s .now) (top .args .at) (top .args .mark) =
+    record { run = top .pre .1 .1; starts = sym (c .before .before .starts-with2 .ensures) ∙ c .before .if2 .taken } in
+    blank-made (top .pre .1 .0) _ (lf-blank line) refl _ (lf-rest line _ (c .past .ensures))
 
 read-piece-is-blank-line-requires : (t : ℕ) → read-piece-lts.Need-is-blank-line-requires (read-piece-calls t) (read-piece-at t) read-piece.Post
 read-piece-is-blank-line-requires t c κs = search needs
@@ -598,9 +679,10 @@ read-piece-is-blank-line-requires t c κs = search needs
 read-piece-line-rest-requires : (t : ℕ) → read-piece-lts.Need-line-rest-requires (read-piece-calls t) (read-piece-at t) read-piece.Post
 read-piece-line-rest-requires t c κs = search needs
 
-read-piece-returns : (t : ℕ) → read-piece-lts.Need-returns (read-piece-calls t) (read-piece-at t) read-piece.Post
-read-piece-returns t c =
-    blank-made (c .before .before .before .before .before .before .pre .1) _ (c .before .before .is-blank-line .ensures) (c .before .if1 .taken) _ (c .line-rest .ensures)
+read-piece-returns-3 : (t : ℕ) → read-piece-lts.Need-returns-3 (read-piece-calls t) (read-piece-at t) read-piece.Post
+read-piece-returns-3 t c =
+    blank-made (c .before .before .before .before .before .before .before .before .before .before .before .before .pre .1 .0) _
+    (c .before .before .is-blank-line .ensures) (c .before .if3 .taken) _ (c .line-rest .ensures)
 
 read-piece-tabs-only-requires : (t : ℕ) → read-piece-lts.Need-tabs-only-requires (read-piece-calls t) (read-piece-at t) read-piece.Post
 read-piece-tabs-only-requires t c κs = search needs
@@ -611,57 +693,29 @@ read-piece-enum-told t c = search needs
 read-piece-enum-told-2 : (t : ℕ) → read-piece-lts.Need-enum-told-2 (read-piece-calls t) (read-piece-at t) read-piece.Post
 read-piece-enum-told-2 t c = search needs
 
-read-piece-returns-2 : (t : ℕ) → read-piece-lts.Need-returns-2 (read-piece-calls t) (read-piece-at t) read-piece.Post
-read-piece-returns-2 t c =
-    tabs-refused (c .before .before .before .before .before .before .before .before .pre .1) _ (c .before .before .before .before .is-blank-line .ensures)
-    (c .before .before .before .if1 .left) _ (c .before .before .tabs-only .ensures) (c .enum-told2 .given .1)
+read-piece-returns-4 : (t : ℕ) → read-piece-lts.Need-returns-4 (read-piece-calls t) (read-piece-at t) read-piece.Post
+read-piece-returns-4 t c =
+    tabs-refused (c .before .before .before .before .before .before .before .before .before .before .before .before .before .before .pre .1 .0) _
+    (c .before .before .before .before .is-blank-line .ensures) (c .before .before .before .if3 .left) _ (c .before .before .tabs-only .ensures)
+    (c .enum-told2 .given .1)
 
 read-piece-read-annotated-requires : (t : ℕ) → read-piece-lts.Need-read-annotated-requires (read-piece-calls t) (read-piece-at t) read-piece.Post
-read-piece-read-annotated-requires t c κs = (
-  omega (arith, c .before .before .before .before .before .before .before .before .before .pre .0),
-  c .before .before .before .before .before .before .before .before .before .pre .1,
-)
+read-piece-read-annotated-requires t c κs =
+    let top = c .before .before .before .before .before .before .before .before .before .before .before .before .before .before .before in
+    (omega (arith, top .pre .0), top .pre .1 .0)
 
-read-piece-enum-known-concept : (t : ℕ) → read-piece-lts.Need-enum-known-concept (read-piece-calls t) (read-piece-at t) read-piece.Post
-read-piece-enum-known-concept t c = search needs
-
-read-piece-enum-told-3 : (t : ℕ) → read-piece-lts.Need-enum-told-3 (read-piece-calls t) (read-piece-at t) read-piece.Post
-read-piece-enum-told-3 t c = search needs
-
-read-piece-same-length : (t : ℕ) → read-piece-lts.Need-same-length (read-piece-calls t) (read-piece-at t) read-piece.Post
-read-piece-same-length t c = c .before .before .before .before .read-annotated .kept .1 .1 .1 .1 .0
-
-read-piece-returns-3 : (t : ℕ) → read-piece-lts.Need-returns-3 (read-piece-calls t) (read-piece-at t) read-piece.Post
-read-piece-returns-3 t c =
-    let at-read-annotated = c .before .before .before .before in
-    let at-tabs-only = at-read-annotated .before .before .before .before in
-    concept-refused (at-tabs-only .before .before .before .before .before .before .pre .1) _ (at-tabs-only .before .before .is-blank-line .ensures)
-    (at-tabs-only .before .if1 .left) _ (at-tabs-only .tabs-only .ensures) (at-read-annotated .before .before .enum-told .given .1)
-    (at-read-annotated .read-annotated .ensures) (c .enum-told3 .given .1)
-
-read-piece-line-rest-requires-2 : (t : ℕ) → read-piece-lts.Need-line-rest-requires-2 (read-piece-calls t) (read-piece-at t) read-piece.Post
-read-piece-line-rest-requires-2 t c κs = piece-concept t (c .before) .inside
-
-read-piece-enum-known-rest : (t : ℕ) → read-piece-lts.Need-enum-known-rest (read-piece-calls t) (read-piece-at t) read-piece.Post
-read-piece-enum-known-rest t c = search needs
-
-read-piece-enum-told-4 : (t : ℕ) → read-piece-lts.Need-enum-told-4 (read-piece-calls t) (read-piece-at t) read-piece.Post
-read-piece-enum-told-4 t c = search needs
+read-piece-end-line-requires-2 : (t : ℕ) → read-piece-lts.Need-end-line-requires-2 (read-piece-calls t) (read-piece-at t) read-piece.Post
+read-piece-end-line-requires-2 t c κs =
+    let read = c .before .before in
+    ends-in (read .before .before .before .before .before .before .before .before .before .before .before .before .before .before .before .before .pre .1 .0) _ (piece-tabs t read) (read .read-annotated .ensures)
 
 read-piece-same-length-2 : (t : ℕ) → read-piece-lts.Need-same-length-2 (read-piece-calls t) (read-piece-at t) read-piece.Post
-read-piece-same-length-2 t c = c .before .before .before .before .before .before .before .before .read-annotated .kept .1 .1 .1 .1 .0
-
-read-piece-returns-4 : (t : ℕ) → read-piece-lts.Need-returns-4 (read-piece-calls t) (read-piece-at t) read-piece.Post
-read-piece-returns-4 t c = rest-refused (piece-concept t (c .before .before .before .before)) _ (c .before .before .line-rest2 .ensures) (c .enum-told4 .given .1)
-
-read-piece-same-length-3 : (t : ℕ) → read-piece-lts.Need-same-length-3 (read-piece-calls t) (read-piece-at t) read-piece.Post
-read-piece-same-length-3 t c = c .before .before .before .before .before .before .before .before .before .read-annotated .kept .1 .1 .1 .1 .0
+read-piece-same-length-2 t c = c .before .before .before .read-annotated .kept .1 .1 .1 .1 .0
 
 read-piece-returns-5 : (t : ℕ) → read-piece-lts.Need-returns-5 (read-piece-calls t) (read-piece-at t) read-piece.Post
 read-piece-returns-5 t c =
-    piece-made (piece-concept t (c .before .before .before .before .before))
-    (rest-at _ _ _ _ _ _ (piece-concept t (c .before .before .before .before .before) .inside) (c .before .before .before .line-rest2 .ensures)
-    (c .before .rest .given .1))
+    let read = c .before .before .before in
+    line-made (read .before .before .before .before .before .before .before .before .before .before .before .before .before .before .before .before .pre .1 .0) _ (piece-tabs t read) (read .read-annotated .ensures) _ (c .end-line2 .ensures)
 
 pub +read-annotated+read-block+read-children+read-concept+read-inside+read-piece-spec :
     {M : Type 1} → statement M
@@ -705,7 +759,6 @@ pub +read-annotated+read-block+read-children+read-concept+read-inside+read-piece
     (read-block-enum-told-2 t)
     (read-block-same-length t)
     (read-block-returns-2 t)
-    (read-block-end-requires t)
     (read-block-read-closing-requires t)
     (read-block-enum-known-closing t)
     (read-block-enum-told-3 t)
@@ -719,19 +772,21 @@ pub +read-annotated+read-block+read-children+read-concept+read-inside+read-piece
     read-children-Inv-loop
     read-children-μ-loop
     (read-children-loop-holds t)
-    (read-children-is-closing-requires t)
+    (read-children-end-requires t)
+    (read-children-slice-aggregate-starts-with t)
+    (read-children-starts-with-requires t)
+    (read-children-same-length t)
+    (read-children-returns t)
     (read-children-after-requires t)
     (read-children-read-piece-requires t)
     (read-children-enum-known-piece t)
     (read-children-enum-told t)
-    (read-children-same-length t)
-    (read-children-returns t)
+    (read-children-same-length-2 t)
+    (read-children-returns-2 t)
     (read-children-add-made t)
     (read-children-add-own t)
     (read-children-loop-less t)
-    (read-children-loop-again t)
-    (read-children-same-length-2 t)
-    (read-children-returns-2 t))
+    (read-children-loop-again t))
     (λ t. read-concept-lts.spec (read-concept-calls t)
     (read-concept-at t)
     read-concept.Post
@@ -762,22 +817,26 @@ pub +read-annotated+read-block+read-children+read-concept+read-inside+read-piece
     λ t. read-piece-lts.spec (read-piece-calls t)
     (read-piece-at t)
     read-piece.Post
+    (read-piece-slice-aggregate-starts-with t)
+    (read-piece-starts-with-requires t)
+    (read-piece-sub-read-concept t)
+    (read-piece-read-concept-requires t)
+    (read-piece-end-line-requires t)
+    (read-piece-same-length t)
+    (read-piece-returns t)
+    (read-piece-slice-aggregate-starts-with-2 t)
+    (read-piece-starts-with-requires-2 t)
+    (read-piece-add-past t)
+    (read-piece-past-requires t)
+    (read-piece-returns-2 t)
     (read-piece-is-blank-line-requires t)
     (read-piece-line-rest-requires t)
-    (read-piece-returns t)
+    (read-piece-returns-3 t)
     (read-piece-tabs-only-requires t)
     (read-piece-enum-told t)
     (read-piece-enum-told-2 t)
-    (read-piece-returns-2 t)
-    (read-piece-read-annotated-requires t)
-    (read-piece-enum-known-concept t)
-    (read-piece-enum-told-3 t)
-    (read-piece-same-length t)
-    (read-piece-returns-3 t)
-    (read-piece-line-rest-requires-2 t)
-    (read-piece-enum-known-rest t)
-    (read-piece-enum-told-4 t)
-    (read-piece-same-length-2 t)
     (read-piece-returns-4 t)
-    (read-piece-same-length-3 t)
+    (read-piece-read-annotated-requires t)
+    (read-piece-end-line-requires-2 t)
+    (read-piece-same-length-2 t)
     (read-piece-returns-5 t)
