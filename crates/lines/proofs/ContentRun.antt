@@ -2,13 +2,13 @@
 -- and for each of its ways out. Over plain lists. Assumes nothing.
 use Prim.Native.Nat.{ℕ, _+_, _-_, _≤_, _<_}
 use mathlib.Core.Path.{_≡_, refl, sym, ap, _∙_}
-use mathlib.Core.Bool.{Bool, true, false, not}
+use mathlib.Core.Bool.{Bool, true, false}
 use mathlib.Core.List.{List, [], _∷_}
 use native.Mathlib.Omega.{arith}
 use lib.ListN.{length, drop, length-append, length-drop}
 use lib.Seq.{drop-drop}
 use lib.Dec.{leb}
-use borrow.Author.Tests.{leb-true, leb-false, not-true, not-false}
+use borrow.Author.Tests.{leb-true, leb-false}
 use Rattle.paper.specs.declared.Refusal.{Refusal}
 use Rattle.paper.specs.declared.Refusal.the-variants.{NoEntryLeft}
 use Rattle.paper.specs.Found.{Found, found, fault, andThen, Turn, more, over, stop, turnOf, manyOf}
@@ -67,12 +67,12 @@ abbrev AllLines : List ℕ → List ℕ → ℕ → ℕ → ℕ → Type 0
 AllLines s w tabs start i = FoundAt (λ ls. 0) (λ ls. 0) (λ lines left. ReadLines tabs w (drop start s) lines left) s start (linesOf tabs w (drop start s)) i 0 0
 
 module _ (s w : List ℕ) (tabs start i : ℕ) (so-far : LinesTo s w tabs start i) (o : Bool) (asked : o ≡ closesLine tabs w (drop i s)) where
-  module _ (n : not o ≡ true) (r : Part) (said : PassesLine s i tabs r) where
+  module _ (n : o ≡ false) (r : Part) (said : PassesLine s i tabs r) where
     this : Unclosed tabs w (drop i s)
-    this = unclosed tabs w (drop i s) (sym asked ∙ not-true o n)
+    this = unclosed tabs w (drop i s) (sym asked ∙ n)
 
     seen-line : seen r ≡ passed s (this .line)
-    seen-line = said w (sym asked ∙ not-true o n) ∙ ap (turned s) (this .is-turn) ∙ turned-found s (this .line)
+    seen-line = said w (sym asked ∙ n) ∙ ap (turned s) (this .is-turn) ∙ turned-found s (this .line)
 
     pub lines-refused : (why : Refusal) (place : ℕ) → r ≡ Refused why place → seen r ≡ passed s (linesOf tabs w (drop start s))
     lines-refused why place q =
@@ -96,24 +96,24 @@ module _ (s w : List ℕ) (tabs start i : ℕ) (so-far : LinesTo s w tabs start 
         )
 
   -- the closing line ends inside
-  pub closing-inside : not o ≡ false → i + tabs + 3 + length w ≤ length s
+  pub closing-inside : o ≡ true → i + tabs + 3 + length w ≤ length s
   closing-inside n =
       let rest = drop (length (closingMark tabs w)) (drop i s) in
       omega (
         arith,
-        ap length (closes-is tabs w (drop i s) (sym asked ∙ not-false o n)),
+        ap length (closes-is tabs w (drop i s) (sym asked ∙ n)),
         tabs-long tabs (closingOnto w rest),
         length-append w (byte ">" ∷ rest),
         length-drop i s,
         so-far .inside,
       )
 
-  all-lines : not o ≡ false → AllLines s w tabs start i
+  all-lines : o ≡ true → AllLines s w tabs start i
   unfolding lineTurn
   all-lines n =
       let e =
       says-read (λ ls. 0) (λ ls. 0) s (linesOf tabs w (drop i s)) (Read i 0 0) [] i 0 0 refl (so-far .inside)
-      (turn-over (λ l. 0) (lineTurn tabs w) (line-shorter tabs w) 0 (drop i s) (drop i s) (rw (sym asked ∙ not-false o n, lineTurn))) refl refl in
+      (turn-over (λ l. 0) (lineTurn tabs w) (line-shorter tabs w) 0 (drop i s) (drop i s) (rw (sym asked ∙ n, lineTurn))) refl refl in
       found-at (λ ls. 0) (λ ls. 0) s (Read i 0 0) (λ lines left. ReadLines tabs w (drop start s) lines left) start (linesOf tabs w (drop start s)) i 0 0
       (e ∙ so-far .same) (lines-reads tabs w (drop start s)) (omega (arith, so-far .ahead, so-far .inside)) refl
 
@@ -155,7 +155,7 @@ module _ (s cells w : List ℕ) (at tabs next limit parent : ℕ) (k : Marker) (
           makes-passed _ _ _ _ _ _ _ r after (λ ls. 0) (λ ls. 0) (λ y. andThen y (made tabs k (rest .it))) (λ n left. refl) (linesOf tabs w (drop start s)) why
           place e q by-lines
 
-      module _ (i : ℕ) (so-far : LinesTo s w tabs start i) (o : Bool) (asked : o ≡ closesLine tabs w (drop i s)) (n : not o ≡ false) where
+      module _ (i : ℕ) (so-far : LinesTo s w tabs start i) (o : Bool) (asked : o ≡ closesLine tabs w (drop i s)) (n : o ≡ true) where
         all : AllLines s w tabs start i
         all = all-lines s w tabs start i so-far o asked n
 

@@ -7,13 +7,13 @@ use mathlib.Core.List.{List, [], _∷_}
 use lib.ListN.{length, take, drop}
 use Rattle.paper.specs.Answer.{numberOf}
 use Rattle.paper.specs.Found.{Found, found, fault, andThen, Turn, more, over, stop, placeIn}
-use Rattle.paper.specs.Bytes.{isUpper, isLower, isBlank, front, behind}
+use Rattle.paper.specs.Bytes.{isUpper, isLower, isBlank, lengthIn, front, behind}
 use Rattle.paper.specs.Names.{isConceptName, isTraitName}
 use Rattle.paper.specs.Limits.{sheetLimit}
 use Rattle.paper.specs.Tree.{Annotation, Marker, Concept, selfClosed, children, content}
 use Rattle.paper.specs.Grammar.{blankOnto, linesOnto}
 use Rattle.paper.specs.Entries.{Entry, unnamed, annotationEntries}
-use Rattle.paper.specs.Reading.{due, annotation, annotations, closesLine, lineTurn, contentOf, lastBlanks}
+use Rattle.paper.specs.Reading.{isTab, due, annotation, annotations, closesLine, lineTurn, contentOf, lastBlanks}
 use Rattle.entries.specs.Laid.{lay}
 use Rattle.entries.specs.declared.Slot.{Slot}
 use Rattle.lines.specs.declared.part.Part.{Part}
@@ -76,6 +76,10 @@ ruleBy Closings first keeps = true
 -- the part of a list between two places
 abbrev pub part : List ℕ → ℕ → ℕ → List ℕ
 part s from to = take (to - from) (drop from s)
+
+-- the tabs that stand at a place end at another
+abbrev pub Tabbed : List ℕ → ℕ → ℕ → Type 0
+Tabbed s at end = (end ≡ at + lengthIn isTab (drop at s)) × (at ≤ end) × (end ≤ length s)
 
 -- the entry of an annotation whose text starts at `at`
 abbrev pub noteEntries : ℕ → ℕ → Annotation → List Entry

@@ -1,10 +1,8 @@
 // Content: lines of text one tab deeper than their marker, up to the closing line.
 // Document 01, "The grammar", Content; refusals 7, 9 and 11.
-use crate::blank::is_blank_line;
 use crate::marks::CLOSING;
 use crate::marks::END;
 use crate::part::Part;
-use crate::part::cut;
 use crate::part::line_end;
 use crate::part::line_rest;
 use crate::part::refused;
@@ -24,15 +22,14 @@ ghost use lib.ListN.{length, drop};
 ghost use Rattle.paper.specs.Bytes.{isBlank, behind};
 ghost use Rattle.paper.specs.Reading.{atLineEnd, closesLine};
 ghost use Rattle.entries.specs.Laid.{Fits};
-ghost use Rattle.lines.specs.Parts.{In, part, PassesLine, MakesContent};
+ghost use Rattle.lines.specs.Parts.{In, part, Tabbed, PassesLine, MakesContent};
 
-// Whether the line at `at` closes Content: exactly so many tabs, the closing marker of the name that stands from `from`
-// to `to`, and blanks.
-fn closes(s: &[u8], at: usize, tabs: usize, from: usize, to: usize) -> bool
-    requires { ⌜ (at ≤ length (now s)) × (from ≤ to) × (to ≤ length (now s)) ⌝ }
+// Whether the line at `at`, whose tabs end at `mark`, closes Content: exactly so many tabs, the closing marker of the name
+// that stands from `from` to `to`, and blanks.
+fn closes(s: &[u8], at: usize, mark: usize, tabs: usize, from: usize, to: usize) -> bool
+    requires { ⌜ Tabbed (now s) at mark × (from ≤ to) × (to ≤ length (now s)) ⌝ }
     ensures { λ r. ⌜ r ≡ closesLine tabs (part (now (s .entry)) from to) (drop at (now (s .entry))) ⌝ }
 {
-    let mark = runs::end(s, at, Class::Tab);
     if mark - at != tabs {
         return false;
     }
@@ -62,23 +59,16 @@ fn is_over(s: &[u8], at: usize) -> bool
     is_line_end(s[end])
 }
 
-// Past a line that does not close Content: a blank one, or text behind one tab more than the marker has.
-fn read_line(s: &[u8], at: usize, tabs: usize) -> Part
-    requires { ⌜ at ≤ length (now s) ⌝ }
+// Past the line at `at`, whose tabs end at `mark` and which does not close Content: one of more tabs than the marker has
+// goes to its end, whatever stands there, and any other must be blank.
+fn read_line(s: &[u8], at: usize, mark: usize, tabs: usize) -> Part
+    requires { ⌜ Tabbed (now s) at mark ⌝ }
     ensures { λ r. ⌜ PassesLine (now (s .entry)) at tabs r ⌝ }
 {
-    if is_blank_line(s, at) {
+    if mark - at <= tabs {
         return line_rest(s, at);
     }
-    let mark = runs::end(s, at, Class::Blank);
-    if mark == s.len() {
-        return cut(s);
-    }
-    let deep = runs::end(s, at, Class::Tab);
-    if deep - at <= tabs {
-        return refused(Refusal::Due, mark);
-    }
-    line_end(s, runs::end(s, at + tabs + 1, Class::Text))
+    line_end(s, runs::end(s, mark, Class::Text))
 }
 
 // Reads the Content of a block from behind its marker's ">" on, with its closing line up to its ">", and enters it.
@@ -103,8 +93,12 @@ pub fn read_content(
         return refused(Refusal::NoEntryLeft, start);
     }
     let mut i = start;
-    while !closes(s, i, tabs, from, to) {
-        let line = read_line(s, i, tabs);
+    loop {
+        let mark = runs::end(s, i, Class::Tab);
+        if closes(s, i, mark, tabs, from, to) {
+            break;
+        }
+        let line = read_line(s, i, mark, tabs);
         let Part::Read { end, .. } = line else {
             return line;
         };

@@ -6,20 +6,19 @@ use mathlib.Core.List.{List, [], _∷_, _++_, map, append-assoc, append-nil}
 use native.Mathlib.Omega.{arith}
 use lib.ListN.{length, take, drop, replicate, length-append, length-replicate, length-drop, drop-of-length-le}
 use lib.Seq.{drop-append-seam, take-length, take-all}
-use lib.Dec.{eqb}
-use borrow.Author.Tests.{not-true, eqb-true}
-use Rattle.paper.specs.Bytes.{isBlank, isLineEnd, all, startsIn, startsWith, lengthIn, front, behind, lf, cr, tab, space}
+use borrow.Author.Tests.{not-true}
+use Rattle.paper.specs.Bytes.{isBlank, isLineEnd, all, startsIn, startsWith, lengthIn, front, behind, lf, cr, tab}
 use Rattle.paper.specs.Tree.{LineEnd, LF, CRLF, Line, blank, text}
 use Rattle.paper.specs.Grammar.{lineEndOnto, tabsOnto, closingOnto, lineOnto, linesOnto, lineRule}
 use Rattle.paper.specs.Entries.{Entry, unnamed}
 use Rattle.paper.specs.Reading.{isTab}
 use Rattle.paper.specs.Canonical.{lineSense, printLine, printLines}
-use Rattle.paper.proofs.Tests.{split, true-false, either}
+use Rattle.paper.proofs.Tests.{split, true-false}
 use Rattle.paper.proofs.Lists.{both, all-head, all-weaken, all-append, all-nil, front-all, front-of, front-length, behind-of}
 use Rattle.paper.proofs.Lines.{all-tabs, tabs-length}
 use Rattle.paper.proofs.Fronts.{lines-front, past-front, front-append}
 use Rattle.text.proofs.Places.{front-behind}
-use Rattle.text.proofs.Stretch.{Stretch, front-at, behind-at}
+use Rattle.text.proofs.Stretch.{Stretch, front-at, behind-at, skips-end, skips-some, blank-text, tab-text}
 use Rattle.entries.specs.Laid.{entryAt}
 use Rattle.quoting.specs.Page.{page, Puts}
 use Rattle.printing.specs.Texts.{inked, PastEnd}
@@ -104,12 +103,9 @@ after-lf s at f CRLF next e = true-false (rw e at f)
 abbrev pub isText : ℕ → Bool
 isText b = not (isLineEnd b)
 
-blank-text : (b : ℕ) → isBlank b ≡ true → isText b ≡ true
-unfolding isBlank isLineEnd
-blank-text b e =
-    either (eqb b space) (eqb b tab) e
-    (λ f. rw (eqb-true b space f))
-    (λ f. rw (eqb-true b tab f))
+-- a line goes on behind its tabs
+pub line-end : (w : List ℕ) (i mark end : ℕ) → Stretch isTab w i mark → Stretch isText w mark end → Stretch isText w i end
+line-end w i mark end tabbed run = skips-end isText w i mark end (skips-some isTab isText tab-text w i mark tabbed) run
 
 end-stops : (e : LineEnd) (next : List ℕ) → startsIn isText (lineEndOnto e next) ≡ false
 unfolding startsIn isLineEnd

@@ -59,7 +59,8 @@ fn put_lines(out: &mut [u8], at: usize, lines: &[u8], cut: usize, tabs: usize) -
     let mut to = at;
     let mut i = 0;
     while i < lines.len() {
-        let end = runs::end(lines, i, Class::Text);
+        let mark = runs::end(lines, i, Class::Tab);
+        let end = runs::end(lines, mark, Class::Text);
         to = put_line(out, to, &lines[i..end], cut, tabs);
         i = line_after(lines, end);
     }

@@ -1,16 +1,17 @@
 -- The bytes of a class that stand at a place: a turn of a loop that walks them, its two ends, and what is left behind them.
 -- Over plain lists and any class. Assumes nothing.
-use Prim.Native.Nat.{ℕ, _+_, _-_, _≤_, _<_}
+use Prim.Native.Nat.{ℕ, zero, suc, _+_, _-_, _≤_, _<_}
 use mathlib.Core.Path.{_≡_, refl, sym, ap, _∙_}
 use mathlib.Core.List.{List, [], _∷_}
 use mathlib.Core.Bool.{Bool, true, false}
 use native.Mathlib.Omega.{arith}
-use native.Mathlib.Nat.{add-zero}
+use native.Mathlib.Nat.{add-zero, zero-add}
 use lib.ListN.{length, getD, take, drop, drop-of-length-le}
 use lib.Seq.{drop-drop}
-use borrow.Author.Tests.{ne-eqb}
-use Rattle.paper.proofs.Tests.{true-false}
-use Rattle.paper.specs.Bytes.{lf, cr, isLineEnd, lengthIn, front, behind}
+use lib.Dec.{eqb}
+use borrow.Author.Tests.{ne-eqb, eqb-true}
+use Rattle.paper.proofs.Tests.{split, true-false, either}
+use Rattle.paper.specs.Bytes.{lf, cr, tab, space, isBlank, isLineEnd, lengthIn, front, behind}
 use Rattle.text.specs.declared.runs.Class.{Class}
 use Rattle.text.specs.Runs.{inClass, Skips}
 use Rattle.text.proofs.Places.{here}
@@ -66,6 +67,36 @@ module _ (class : ℕ → Bool) (s : List ℕ) (at : ℕ) where
   -- the run ends where it ends from there on
   pub skips-end : (i end : ℕ) → Skips class s at i → Stretch class s i end → Stretch class s at end
   skips-end i end f g = (g .0 ∙ f .2, omega (arith, f .0, g .1), g .2)
+
+-- ---- bytes of one class that are all of another
+
+module _ (some class : ℕ → Bool) (are : (b : ℕ) → some b ≡ true → class b ≡ true) where
+  -- the run goes on behind them
+  pub length-on : (l : List ℕ) → lengthIn class l ≡ lengthIn some l + lengthIn class (behind some l)
+  unfolding lengthIn
+  length-on [] = refl
+  length-on (b ∷ l) = split (some b) (λ e. rw (e, lengthIn, are b e) (omega (arith, length-on l))) (λ e. rw (e, lengthIn, zero-add))
+
+  -- and ends in the same place from any of them on
+  pub behind-on : (n : ℕ) (l : List ℕ) → n ≤ lengthIn some l → behind class (drop n l) ≡ behind class l
+  unfolding lengthIn
+  behind-on zero l h = refl
+  behind-on (suc n) [] h = refl
+  behind-on (suc n) (b ∷ l) h =
+      split (some b) (λ e. rw (are b e, lengthIn) (behind-on n l (omega (arith, rw (e, lengthIn) at h)))) (λ e. absurd (omega (arith, rw (e, lengthIn) at h)))
+
+  pub skips-some : (s : List ℕ) (at end : ℕ) → Stretch some s at end → Skips class s at end
+  skips-some s at end run =
+      (run .1, run .2, omega (arith, run .0, length-on (drop at s), ap (lengthIn class) (behind-at some s at end run)))
+
+-- blanks are text, tabs among them
+pub blank-text : (b : ℕ) → isBlank b ≡ true → inClass Class.Text b ≡ true
+unfolding isBlank isLineEnd
+blank-text b e = either (eqb b space) (eqb b tab) e (λ f. rw (eqb-true b space f)) (λ f. rw (eqb-true b tab f))
+
+pub tab-text : (b : ℕ) → inClass Class.Tab b ≡ true → inClass Class.Text b ≡ true
+unfolding isLineEnd
+tab-text b e = rw (eqb-true b tab e)
 
 -- so many bytes from a place on, looked at one by one: where no other was seen, all so far are of the class
 pub record Looked (class : ℕ → Bool) (s : List ℕ) (at many : ℕ) (all : Bool) (i : ℕ) : Type 0 where

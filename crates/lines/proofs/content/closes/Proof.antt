@@ -19,7 +19,7 @@ size c = part-length (c .args .s .now) (c .args .from) (c .args .to) (c .pre .1)
 
 -- the places behind the tests that passed, and what they say
 abbrev start : tie.Else1 → tie.Start
-start c = c .before .before .before
+start c = c .before .before
 
 abbrev tabbed : tie.Else2 → tie.Else1
 tabbed c = c .before .before .before
@@ -27,24 +27,21 @@ tabbed c = c .before .before .before
 abbrev opened : tie.Else3 → tie.Else2
 opened c = c .before .before .before
 
-marked : (c : tie.Else2) → startsWith (bytes "</") (drop (tabbed c .before .end .result) (start (tabbed c) .args .s .now)) ≡ true
+marked : (c : tie.Else2) → startsWith (bytes "</") (drop (start (tabbed c) .args .mark) (start (tabbed c) .args .s .now)) ≡ true
 marked c = sym (c .before .starts-with .ensures) ∙ not-false _ (c .if2 .left)
 
 abbrev name : tie.Start → List ℕ
 name c = part (c .args .s .now) (c .args .from) (c .args .to)
 
 named : (c : tie.Else3)
-    → startsWith (name (start (tabbed (opened c)))) (drop (tabbed (opened c) .before .end .result + 2) (start (tabbed (opened c)) .args .s .now)) ≡ true
+    → startsWith (name (start (tabbed (opened c)))) (drop (start (tabbed (opened c)) .args .mark + 2) (start (tabbed (opened c)) .args .s .now)) ≡ true
 named c = sym (c .before .starts-with2 .ensures) ∙ not-false _ (c .if3 .left)
-
-end-requires : tie.Need-end-requires
-end-requires c κs = search needs
 
 sub-if1 : tie.Need-sub-if1
 sub-if1 c = search needs
 
 returns : tie.Need-returns
-returns c = other-tabs _ _ _ _ _ _ (c .before .end .ensures) (size (c .before .before .before)) (λ e. omega arith)
+returns c = other-tabs _ _ _ _ _ _ (c .before .before .pre .0) (size (c .before .before)) (λ e. omega arith)
 
 slice-aggregate-starts-with : tie.Need-slice-aggregate-starts-with
 slice-aggregate-starts-with c = search needs
@@ -55,7 +52,7 @@ starts-with-requires c κs = search needs
 returns-2 : tie.Need-returns-2
 returns-2 c =
     let tabs = c .before .before .before in
-    no-mark _ _ _ _ _ _ (tabs .before .end .ensures) (size (start tabs)) (tabs .if1 .left) (sym (c .before .starts-with .ensures) ∙ not-true _ (c .if2 .taken))
+    no-mark _ _ _ _ _ _ (start tabs .pre .0) (size (start tabs)) (tabs .if1 .left) (sym (c .before .starts-with .ensures) ∙ not-true _ (c .if2 .taken))
 
 add-start : tie.Need-add-start
 add-start c = search needs
@@ -77,7 +74,7 @@ returns-3 c =
     let mark = c .before .before .before in
     let tabs = tabbed mark in
     let other = sym (c .before .starts-with2 .ensures) ∙ not-true _ (c .if3 .taken) in
-    other-name _ _ _ _ _ _ (tabs .before .end .ensures) (size (start tabs)) (tabs .if1 .left) (marked mark) other
+    other-name _ _ _ _ _ _ (start tabs .pre .0) (size (start tabs)) (tabs .if1 .left) (marked mark) other
 
 sub-end : tie.Need-sub-end
 sub-end c = search needs
@@ -85,7 +82,7 @@ sub-end c = search needs
 add-end : tie.Need-add-end
 add-end c =
     let tabs = tabbed (opened c) in
-    let inside = name-inside _ _ _ _ _ _ (tabs .before .end .ensures) (size (start tabs)) (tabs .if1 .left) (marked (opened c)) (named c) in
+    let inside = name-inside _ _ _ _ _ _ (start tabs .pre .0) (size (start tabs)) (tabs .if1 .left) (marked (opened c)) (named c) in
     omega arith
 
 slice-aggregate-starts-with-2 : tie.Need-slice-aggregate-starts-with-2
@@ -99,13 +96,13 @@ returns-4 c =
     let name = c .before .before .before in
     let tabs = tabbed (opened name) in
     let unended = sym (c .before .starts-with3 .ensures) ∙ not-true _ (c .if4 .taken) in
-    no-end _ _ _ _ _ _ (tabs .before .end .ensures) (size (start tabs)) (tabs .if1 .left) (marked (opened name)) (named name) unended
+    no-end _ _ _ _ _ _ (start tabs .pre .0) (size (start tabs)) (tabs .if1 .left) (marked (opened name)) (named name) unended
 
 add-is-over : tie.Need-add-is-over
 add-is-over c =
     let name = c .before .before .before in
     let tabs = tabbed (opened name) in
-    let inside = name-inside _ _ _ _ _ _ (tabs .before .end .ensures) (size (start tabs)) (tabs .if1 .left) (marked (opened name)) (named name) in
+    let inside = name-inside _ _ _ _ _ _ (start tabs .pre .0) (size (start tabs)) (tabs .if1 .left) (marked (opened name)) (named name) in
     omega arith
 
 is-over-requires : tie.Need-is-over-requires
@@ -113,7 +110,7 @@ is-over-requires c κs =
     let name = c .before .before .before in
     let tabs = tabbed (opened name) in
     let ended = sym (c .before .starts-with3 .ensures) ∙ not-false _ (c .if4 .left) in
-    end-inside _ _ _ _ _ _ (tabs .before .end .ensures) (size (start tabs)) (tabs .if1 .left) (marked (opened name)) (named name) ended
+    end-inside _ _ _ _ _ _ (start tabs .pre .0) (size (start tabs)) (tabs .if1 .left) (marked (opened name)) (named name) ended
 
 returns-5 : tie.Need-returns-5
 returns-5 c =
@@ -121,13 +118,12 @@ returns-5 c =
     let tabs = tabbed (opened name) in
     let ended = sym (c .before .before .starts-with3 .ensures) ∙ not-false _ (c .before .if4 .left) in
     c .is-over .ensures
-    ∙ by-rest _ _ _ _ _ _ (tabs .before .end .ensures) (size (start tabs)) (tabs .if1 .left) (marked (opened name)) (named name) ended
+    ∙ by-rest _ _ _ _ _ _ (start tabs .pre .0) (size (start tabs)) (tabs .if1 .left) (marked (opened name)) (named name) ended
 
 pub closes-spec : {M : Type 1} → statement M
 closes-spec =
     tie.close
     (tie.spec
-    end-requires
     sub-if1
     returns
     slice-aggregate-starts-with

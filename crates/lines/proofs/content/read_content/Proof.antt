@@ -4,6 +4,7 @@ use mathlib.Core.Path.{_≡_, refl}
 use native.Mathlib.Omega.{arith}
 use lib.ListN.{length}
 use borrow.Author.Needs.{needs}
+use Rattle.paper.specs.Limits.{sheetLimit}
 use Rattle.lines.specs.Parts.{part}
 use Rattle.lines.proofs.Crossing.{room-left}
 use Rattle.lines.proofs.Ends.{RestAt, rest-at}
@@ -34,26 +35,29 @@ rest c = rest-at _ _ _ _ _ _ (top-told c .pre .0 .inside) (c .before .before .be
 
 -- the line of this turn ends further on, and the lines go on behind it
 abbrev turned : tie.After-known-told2 Inv-loop μ-loop → tie.At-loop Inv-loop μ-loop
-turned c = c .before .before .before .before .before .before
+turned c = c .before .before .before .before .before .before .before
 
 abbrev Lines : tie.At-loop Inv-loop μ-loop → ℕ → Type 0
 Lines c end = LinesTo (top c .args .s .now) (part (top c .args .s .now) (top c .args .from) (top c .args .to)) (top c .args .tabs) (start c) end
 
 turn : (c : tie.After-known-told2 Inv-loop μ-loop) → (turned c .loop .i < c .before .line .given .0 .0) × Lines (turned c) (c .before .line .given .0 .0)
 turn c =
-    lines-on _ _ _ _ _ (turned c .loop .inv) _ (c .before .before .before .before .before .closes .ensures) (c .before .before .before .before .if2 .taken) _
+    lines-on _ _ _ _ _ (turned c .loop .inv) _ (c .before .before .before .before .before .closes .ensures) (c .before .before .before .before .if2 .left) _
     (c .before .before .before .read-line .ensures) _ _ _ (c .before .line .given .1)
 
--- the closing line ends inside
+-- how long the name is
 size : (c : tie.Start Inv-loop μ-loop) → length (part (c .args .s .now) (c .args .from) (c .args .to)) ≡ c .args .to - c .args .from
 size c = part-length (c .args .s .now) (c .args .from) (c .args .to) (c .pre .2) (c .pre .3)
 
-closing : (c : tie.Else2 Inv-loop μ-loop)
-    → c .before .before .loop .i + top (c .before .before) .args .tabs + 3 + (top (c .before .before) .args .to - top (c .before .before) .args .from) ≤
-    length (top (c .before .before) .args .s .now)
+-- the closing line ends within the limit
+abbrev closed : tie.Then2 Inv-loop μ-loop → tie.At-loop Inv-loop μ-loop
+closed c = c .before .before .before
+
+closing : (c : tie.Then2 Inv-loop μ-loop)
+    → closed c .loop .i + top (closed c) .args .tabs + 3 + (top (closed c) .args .to - top (closed c) .args .from) ≤ sheetLimit
 closing c =
-    let inside = closing-inside _ _ _ _ _ (c .before .before .loop .inv) _ (c .before .closes .ensures) (c .if2 .left) in
-    omega (arith, size (top (c .before .before)))
+    let inside = closing-inside _ _ _ _ _ (closed c .loop .inv) _ (c .before .closes .ensures) (c .if2 .taken) in
+    omega (arith, size (top (closed c)), top (closed c) .pre .0 .within)
 
 line-rest-requires : tie.Need-line-rest-requires Inv-loop μ-loop
 line-rest-requires c κs = search needs
@@ -85,6 +89,9 @@ returns-2 c =
 loop-holds : tie.Need-loop-holds Inv-loop μ-loop
 loop-holds c = lines-begin _ _ _ _ (rest (c .before .before) .inside)
 
+end-requires : tie.Need-end-requires Inv-loop μ-loop
+end-requires c κs = search needs
+
 closes-requires : tie.Need-closes-requires Inv-loop μ-loop
 closes-requires c κs = search needs
 
@@ -101,11 +108,11 @@ returns-3 : tie.Need-returns-3 Inv-loop μ-loop
 returns-3 c =
     λ k named.
     let refused =
-    lines-refused _ _ _ _ _ (c .before .before .before .before .before .loop .inv) _ (c .before .before .before .before .closes .ensures)
-    (c .before .before .before .if2 .taken) _ (c .before .before .read-line .ensures) _ _ (c .enum-told2 .given .1) in
-    line-refused _ _ _ (c .before .before .before .before .before .before .before .before .before .before .before .before .before .before .args .at) _ _ _ _ k
-    named _ _ _ (rest (c .before .before .before .before .before .before .before .before)) _
-    (c .before .before .before .before .before .before .before .is-full .ensures) (c .before .before .before .before .before .before .if1 .left) _ _ refused
+    lines-refused _ _ _ _ _ (c .before .before .before .before .before .before .loop .inv) _ (c .before .before .before .before .closes .ensures)
+    (c .before .before .before .if2 .left) _ (c .before .before .read-line .ensures) _ _ (c .enum-told2 .given .1) in
+    line-refused _ _ _ (c .before .before .before .before .before .before .before .before .before .before .before .before .before .before .before .args .at) _ _ _ _ k
+    named _ _ _ (rest (c .before .before .before .before .before .before .before .before .before)) _
+    (c .before .before .before .before .before .before .before .before .is-full .ensures) (c .before .before .before .before .before .before .before .if1 .left) _ _ refused
     (c .enum-told2 .given .1)
 
 loop-less : tie.Need-loop-less Inv-loop μ-loop
@@ -125,23 +132,23 @@ nameless-requires c κs = search needs
 
 put-requires : tie.Need-put-requires Inv-loop μ-loop
 put-requires c κs =
-    room-left _ _ _ (c .before .before .before .before .before .before .before .before .before .before .before .before .before .pre .1)
-    (c .before .before .before .before .before .before .is-full .ensures) (c .before .before .before .before .before .if1 .left)
-
-add-t24 : tie.Need-add-t24 Inv-loop μ-loop
-add-t24 c = omega (arith, closing (c .before .before .before .before .before))
+    room-left _ _ _ (c .before .before .before .before .before .before .before .before .before .before .before .before .before .before .pre .1)
+    (c .before .before .before .before .before .before .before .is-full .ensures) (c .before .before .before .before .before .before .if1 .left)
 
 add-t25 : tie.Need-add-t25 Inv-loop μ-loop
 add-t25 c = omega (arith, closing (c .before .before .before .before .before))
 
-sub-t26 : tie.Need-sub-t26 Inv-loop μ-loop
-sub-t26 c = search needs
+add-t26 : tie.Need-add-t26 Inv-loop μ-loop
+add-t26 c = omega (arith, closing (c .before .before .before .before .before))
 
-add-t27 : tie.Need-add-t27 Inv-loop μ-loop
-add-t27 c = omega (arith, closing (c .before .before .before .before .before))
+sub-t27 : tie.Need-sub-t27 Inv-loop μ-loop
+sub-t27 c = search needs
 
 add-t28 : tie.Need-add-t28 Inv-loop μ-loop
 add-t28 c = omega (arith, closing (c .before .before .before .before .before))
+
+add-t29 : tie.Need-add-t29 Inv-loop μ-loop
+add-t29 c = omega (arith, closing (c .before .before .before .before .before))
 
 same-length : tie.Need-same-length Inv-loop μ-loop
 same-length c = search needs
@@ -149,12 +156,12 @@ same-length c = search needs
 returns-4 : tie.Need-returns-4 Inv-loop μ-loop
 returns-4 c =
     λ k named.
-    entered _ _ _ (c .before .before .before .before .before .before .before .before .before .before .before .before .before .before .before .before .args .at)
-    _ _ _ _ k named _ _ _ (rest (c .before .before .before .before .before .before .before .before .before .before)) _
-    (c .before .before .before .before .before .before .before .before .before .is-full .ensures)
-    (c .before .before .before .before .before .before .before .before .if1 .left) _ (c .before .before .before .before .before .before .before .loop .inv) _
-    (c .before .before .before .before .before .before .closes .ensures) (c .before .before .before .before .before .if2 .left)
-    _ (omega (arith, size (c .before .before .before .before .before .before .before .before .before .before .before .before .before .before .before .before)))
+    entered _ _ _ (c .before .before .before .before .before .before .before .before .before .before .before .before .before .before .before .before .before .args .at)
+    _ _ _ _ k named _ _ _ (rest (c .before .before .before .before .before .before .before .before .before .before .before)) _
+    (c .before .before .before .before .before .before .before .before .before .before .is-full .ensures)
+    (c .before .before .before .before .before .before .before .before .before .if1 .left) _ (c .before .before .before .before .before .before .before .before .loop .inv) _
+    (c .before .before .before .before .before .before .closes .ensures) (c .before .before .before .before .before .if2 .taken)
+    _ (omega (arith, size (c .before .before .before .before .before .before .before .before .before .before .before .before .before .before .before .before .before)))
     refl _ (c .before .before .before .nameless .ensures) (c .before .before .put .ensures)
 
 pub read-content-spec : {M : Type 1} → statement M
@@ -171,6 +178,7 @@ read-content-spec =
     refused-requires
     returns-2
     loop-holds
+    end-requires
     closes-requires
     read-line-requires
     enum-known-line
@@ -182,10 +190,10 @@ read-content-spec =
     cast-nameless-2
     nameless-requires
     put-requires
-    add-t24
     add-t25
-    sub-t26
-    add-t27
+    add-t26
+    sub-t27
     add-t28
+    add-t29
     same-length
     returns-4)

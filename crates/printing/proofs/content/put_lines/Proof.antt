@@ -10,7 +10,7 @@ use Rattle.paper.specs.Bytes.{all}
 use Rattle.paper.specs.Tree.{Line}
 use Rattle.paper.specs.Grammar.{linesOnto, lineRule}
 use Rattle.quoting.proofs.Sequences.{Left}
-use Rattle.printing.proofs.LineTexts.{lineRun, lines-all, lines-on, lines-over}
+use Rattle.printing.proofs.LineTexts.{lineRun, lines-all, line-end, lines-on, lines-over}
 use Rattle.printing.proofs.content.put_lines.Statement.{statement}
 use Rattle.printing.proofs.content.put_lines.Tie as tie
 
@@ -27,6 +27,9 @@ loop-holds c = (refl, λ t ls e f r. lines-all t _ _ ls e r)
 
 end-requires : tie.Need-end-requires Inv-loop μ-loop
 end-requires c κs = search needs
+
+end-requires-2 : tie.Need-end-requires-2 Inv-loop μ-loop
+end-requires-2 c κs = search needs
 
 sub-put-line : tie.Need-sub-put-line Inv-loop μ-loop
 sub-put-line c = search needs
@@ -50,12 +53,14 @@ loop-again : tie.Need-loop-again Inv-loop μ-loop
 loop-again c =
     let at-put-line = c .before .before .before in
     let at-end = at-put-line .before .before .before in
-    let at-loop-test = at-end .before in
+    let at-mark = at-end .before in
+    let at-loop-test = at-mark .before in
     let at-loop = at-loop-test .before in
     let top = at-loop .before .before .before in (
       omega arith,
       λ t ls e f r. lines-on t (top .args .tabs) (top .args .lines .now) ls (at-loop .loop .i) (at-loop .loop .inv .1 t ls e f r)
-          (at-loop-test .loop-test .taken) (top .args .cut) (at-end .end .result) (c .line-after .result) f (at-end .end .ensures)
+          (at-loop-test .loop-test .taken) (top .args .cut) (at-end .end2 .result) (c .line-after .result) f
+          (line-end (top .args .lines .now) (at-loop .loop .i) _ _ (at-mark .end .ensures) (at-end .end2 .ensures))
           (c .line-after .ensures) (at-put-line .put-line .ensures),
     )
 
@@ -73,6 +78,7 @@ put-lines-spec =
     μ-loop
     loop-holds
     end-requires
+    end-requires-2
     sub-put-line
     part-put-line-start
     part-put-line-end
