@@ -9,15 +9,12 @@ use lib.ListN.{length, getD, take, drop, length-drop, drop-of-length-le}
 use lib.Seq.{drop-drop, take-add, length-take-le}
 use lib.Dec.{eqb}
 use borrow.Author.Tests.{eq-eqb, ne-eqb}
-use Rattle.paper.specs.Bytes.{byte, bytes, isUpper, isLineEnd, startsIn, startsWith, lf, lengthIn, front, behind}
+use Rattle.paper.specs.Bytes.{byte, bytes, isUpper, startsIn, startsWith, lf}
 use Rattle.paper.specs.Roll.{isBoundary, endsLine, Parts, parts, inFront, partsFrom, partsOf}
 use Rattle.paper.proofs.Tests.{split, true-false, upTo}
-use Rattle.text.specs.declared.runs.Class.{Class}
-use Rattle.text.specs.Runs.{inClass}
 use Rattle.text.proofs.Places.{here}
-use Rattle.text.proofs.Stretch.{Stretch, front-at, behind-at}
 use Rattle.lines.specs.Parts.{part}
-use Rattle.rolls.specs.Boundaries.{sheetsIn, led, Passes, LineTo, Begins, BoundaryFrom, sheetsFrom, SheetTo}
+use Rattle.rolls.specs.Boundaries.{sheetsIn, led, mayBegin, Passes, LineTo, Begins, BoundaryFrom, sheetsFrom, SheetTo}
 
 -- ---- bytes in front of the parts
 
@@ -63,34 +60,9 @@ passes-end {fresh} {next} other {r} {at} {to} f h =
 
 -- ---- to the next line
 
--- a byte in front, and bytes of which it is the first
-led-front : (b : ℕ) (w : List ℕ) (p : Parts) → inFront false b (led w p) ≡ led (b ∷ w) p
-led-front b w (parts lead sheets) = refl
-
+-- one byte in front of the parts
 led-one : (b : ℕ) (p : Parts) → inFront false b p ≡ led (b ∷ []) p
 led-one b (parts lead sheets) = refl
-
-text-goes : (b : ℕ) → inClass Class.Text b ≡ true → endsLine b ≡ false
-unfolding isLineEnd
-text-goes b e = ne-eqb b lf (λ q. let z : false ≡ true = rw q at e in true-false (sym z))
-
-text-parts : (s : List ℕ) → partsFrom false s ≡ led (front (inClass Class.Text) s) (partsFrom false (behind (inClass Class.Text) s))
-unfolding partsFrom lengthIn
-text-parts [] = refl
-text-parts (b ∷ l) =
-    split (inClass Class.Text b)
-    (λ e. rw (e, lengthIn, text-goes b e, text-parts l)
-    (led-front b (front (inClass Class.Text) l) (partsFrom false (behind (inClass Class.Text) l))))
-    (λ e. rw (e, lengthIn) (sym (led-none (partsFrom false (b ∷ l)))))
-
--- bytes of text end no line
-pub text-passes : (r : List ℕ) (at end : ℕ) → Stretch (inClass Class.Text) r at end → Passes false false r at end
-text-passes r at end run =
-    record {
-      ahead = run .1;
-      inside = run .2;
-      same = text-parts (drop at r) ∙ rw (front-at (inClass Class.Text) r at end run, behind-at (inClass Class.Text) r at end run);
-    }
 
 byte-passes : (r : List ℕ) (at : ℕ) → at < length r → Passes false (endsLine (getD r at 0)) r at (at + 1)
 unfolding partsFrom
@@ -141,8 +113,6 @@ module _ (r : List ℕ) (at : ℕ) where
   boundary-inside e =
       upTo (length r) at (λ h. true-false (sym e ∙ ap isBoundary (drop-of-length-le r h) ∙ too-short [] (omega arith))) (λ h. h)
 
--- ---- sheets from a boundary on
-
 -- where no sheet begins it does not matter whether a line starts
 no-start : (s : List ℕ) → isBoundary s ≡ false → partsFrom true s ≡ partsFrom false s
 unfolding partsFrom
@@ -151,6 +121,30 @@ no-start (b ∷ l) e = rw e
 
 pub no-boundary : {next : Bool} {r : List ℕ} {at to : ℕ} → isBoundary (drop at r) ≡ false → Passes false next r at to → Passes true next r at to
 no-boundary {r = r} {at = at} e f = record { ahead = f .ahead; inside = f .inside; same = no-start (drop at r) e ∙ f .same }
+
+-- ---- blocks of bytes in which no sheet begins
+
+other-first : (c : ℕ) (l : List ℕ) → eqb c (byte "<") ≡ false → isBoundary (c ∷ l) ≡ false
+unfolding isBoundary startsWith
+other-first c l e = rw (e, startsWith)
+
+-- an LF that no "<" follows, or another byte
+no-begin-passes : (r : List ℕ) (at : ℕ) → at + 1 < length r → mayBegin (getD r at 0) (getD r (at + 1) 0) ≡ false → Passes false false r at (at + 1)
+no-begin-passes r at h e =
+    split (endsLine (getD r at 0))
+    (λ t. let other : eqb (getD r (at + 1) 0) (byte "<") ≡ false = rw t at e in
+    let none : isBoundary (drop (at + 1) r) ≡ false = rw (here r (at + 1) h) (other-first (getD r (at + 1) 0) (drop (at + 1 + 1) r) other) in
+    passes-then (rw t at (byte-passes r at (omega arith))) (no-boundary none (passes-none false r (at + 1) (omega arith))))
+    (λ t. rw t at (byte-passes r at (omega arith)))
+
+-- one byte of a block further; so many places at which a sheet may begin were counted
+pub block-on : (r : List ℕ) (at i count one : ℕ) → at + i + 1 < length r → (count ≡ 0 → Passes false false r at (at + i))
+    → (one ≡ 0 → mayBegin (getD r (at + i) 0) (getD r (at + i + 1) 0) ≡ false) → count + one ≡ 0 → Passes false false r at (at + (i + 1))
+block-on r at i count one h so-far none e =
+    let next : at + (i + 1) ≡ at + i + 1 = omega arith in
+    rw next (passes-then (so-far (omega arith)) (no-begin-passes r (at + i) h (none (omega arith))))
+
+-- ---- sheets from a boundary on
 
 -- what stands before the first boundary becomes the first sheet
 abbrev opened : Parts → Parts

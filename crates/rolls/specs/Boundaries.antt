@@ -2,10 +2,12 @@
 -- Document 01, "Rolls".
 use Prim.Native.Nat.{ℕ, _≤_, _<_}
 use mathlib.Core.Path.{_≡_}
-use mathlib.Core.Bool.{Bool, true, false}
+use mathlib.Core.Bool.{Bool, true, false, _&&_}
 use mathlib.Core.List.{List, _∷_, _++_}
 use lib.ListN.{length, drop}
-use Rattle.paper.specs.Roll.{isBoundary, Parts, parts, partsFrom, partsOf}
+use lib.Dec.{eqb}
+use Rattle.paper.specs.Bytes.{byte}
+use Rattle.paper.specs.Roll.{isBoundary, endsLine, Parts, parts, partsFrom, partsOf}
 use Rattle.lines.specs.Parts.{part}
 
 abbrev pub sheetsIn : Parts → List (List ℕ)
@@ -15,13 +17,17 @@ sheetsIn (parts lead sheets) = sheets
 abbrev pub led : List ℕ → Parts → Parts
 led w (parts lead sheets) = parts (w ++ lead) sheets
 
+-- a sheet may begin between two bytes, at a "<" behind an LF
+abbrev pub mayBegin : ℕ → ℕ → Bool
+mayBegin b c = endsLine b && eqb c (byte "<")
+
 -- no sheet begins on the way from a place to another; the tests are whether a line starts at each
 pub record Passes (fresh next : Bool) (r : List ℕ) (at to : ℕ) : Type 0 where
   pub ahead : at ≤ to
   pub inside : to ≤ length r
   pub same : partsFrom fresh (drop at r) ≡ led (part r at to) (partsFrom next (drop to r))
 
--- the next line from a place on starts further on
+-- a line starts further on, and no sheet begins on the way
 pub record LineTo (r : List ℕ) (at to : ℕ) : Type 0 where
   pub passes : Passes false true r at to
   pub further : at < length r → at < to
