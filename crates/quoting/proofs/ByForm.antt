@@ -17,7 +17,7 @@ use Rattle.paper.proofs.Pieces.{pieces-append}
 use Rattle.paper.proofs.WordKinds.{Kind, formOf, kinds, byKind, word-form}
 use Rattle.paper.proofs.Leaves.{word-rule}
 use Rattle.quoting.specs.Page.{page, Puts}
-use Rattle.quoting.specs.Quoting.{isPlain}
+use Rattle.values.specs.Plain.{isPlain}
 use Rattle.quoting.proofs.Plainly.{plain-pieces}
 
 -- ---- between two quotes

@@ -1,20 +1,28 @@
--- Spellings between quotes in which every byte stands for itself, read and written. Document 01, "Canonical form". Assumes nothing.
-use Prim.Native.Nat.{ℕ, _+_, _≤_, _<_}
+-- Spellings between quotes in which bytes stand for themselves, read and written: all of them, or a run. Document 01, "Canonical form". Assumes nothing.
+use Prim.Native.Nat.{ℕ, zero, suc, _+_, _-_, _≤_}
 use mathlib.Core.Path.{_≡_, refl, sym, ap, _∙_}
-use mathlib.Core.Bool.{Bool, true, false, not, _&&_, _||_}
+use mathlib.Core.Bool.{Bool, true, false, not, _||_}
 use mathlib.Core.List.{List, [], _∷_, _++_}
 use native.Mathlib.Omega.{arith}
-use lib.ListN.{length, drop, getD, drop-of-length-le}
+use lib.ListN.{length, take, drop}
+use lib.Seq.{drop-drop}
 use lib.Dec.{eqb, ltb}
 use borrow.Author.Tests.{ne-eqb, ltb-false}
-use Rattle.paper.specs.Bytes.{byte, all, lf, cr, tab}
-use Rattle.paper.specs.Values.{Piece, direct, escaped, four, braces, pieceOnto, piecesOnto, pieceMeans, piecesMean}
+use Rattle.paper.specs.Bytes.{byte, all, lengthIn, lf, cr, tab}
+use Rattle.paper.specs.Values.{Piece, direct, escaped, four, braces, pieceOnto, piecesOnto, pieceRule, pieceMeans, piecesMean}
 use Rattle.paper.specs.Canonical.{byteOnto, bytesOnto}
 use Rattle.paper.proofs.Tests.{true-false, split}
 use Rattle.paper.proofs.Lists.{all-head}
-use Rattle.text.proofs.Places.{here}
-use Rattle.quoting.specs.Quoting.{isPlain}
-use Rattle.quoting.proofs.Spelling.{byte-direct}
+use Rattle.text.proofs.Stretch.{Stretch}
+use Rattle.values.specs.Plain.{isPlain}
+use Rattle.values.proofs.Runs.{all-run}
+use Rattle.quoting.specs.Page.{page, Puts}
+use Rattle.quoting.proofs.Sequences.{Left}
+use Rattle.quoting.proofs.Spelling.{byte-direct, pieceRun}
+
+-- all bytes are plain where the run of them is as long as they are
+pub plain-all : (quote : ℕ) (w : List ℕ) (end : ℕ) → end ≡ 0 + lengthIn (isPlain quote) w → eqb end (length w) ≡ all (isPlain quote) w
+plain-all quote w end e = let q : end ≡ lengthIn (isPlain quote) w = omega arith in rw q (all-run (isPlain quote) w)
 
 neither : (a b : Bool) → a || b ≡ false → (a ≡ false) × (b ≡ false)
 neither true b e = true-false e
@@ -32,10 +40,11 @@ plain-byte quote b e x =
     (ne-eqb b tab (λ z. absurd (omega arith))) (n .1)
 
 -- a backslash does not stand for itself
+not-plain : {X : Type 0} (quote : ℕ) → isPlain quote (byte "\\") ≡ true → X
+not-plain quote e = split (eqb (byte "\\") quote) (λ q. true-false (sym (rw q at e))) (λ q. true-false (sym (rw q at e)))
+
 no-backslash : {X : Type 0} (quote : ℕ) (l : List ℕ) → all (isPlain quote) (byte "\\" ∷ l) ≡ true → X
-no-backslash quote l e =
-    let h = all-head (isPlain quote) (byte "\\") l e .0 in
-    split (eqb (byte "\\") quote) (λ q. true-false (sym (rw q at h))) (λ q. true-false (sym (rw q at h)))
+no-backslash quote l e = not-plain quote (all-head (isPlain quote) (byte "\\") l e .0)
 
 -- such pieces are written as they are read
 pub plain-pieces : (quote : ℕ) (ps : List Piece) → all (isPlain quote) (piecesOnto ps []) ≡ true → (x : List ℕ)
@@ -49,41 +58,55 @@ plain-pieces quote (escaped b ∷ ps) e x = no-backslash quote (b ∷ piecesOnto
 plain-pieces quote (four digits ∷ ps) e x = no-backslash quote (byte "u" ∷ (digits ++ piecesOnto ps [])) e
 plain-pieces quote (braces digits ∷ ps) e x = no-backslash quote (byte "u" ∷ byte "{" ∷ (digits ++ (byte "}" ∷ piecesOnto ps []))) e
 
--- ---- byte by byte
+-- ---- a run of them
 
--- what a test that was turned round says
-pub turned-off : (r t : Bool) → r ≡ t → not r ≡ true → t ≡ false
-turned-off r t e n = sym e ∙ un-not r n
+-- the pieces behind so many bytes that stand for themselves
+record Behind (quote n : ℕ) (l : List ℕ) (ps : List Piece) : Type 0 where
+  pub more : List Piece
+  pub stands : drop n l ≡ piecesOnto more []
+  pub kept : all (pieceRule quote) more ≡ true
+  pub same : (next : List ℕ) → bytesOnto quote (piecesMean ps) next ≡ take n l ++ bytesOnto quote (piecesMean more) next
 
-pub turned-on : (r t : Bool) → r ≡ t → not r ≡ false → t ≡ true
-turned-on true t e n = sym e
-turned-on false t e n = true-false n
+-- a byte in front of a run
+front-plain : (quote n b : ℕ) (l : List ℕ) → suc n ≤ lengthIn (isPlain quote) (b ∷ l) → (isPlain quote b ≡ true) × (n ≤ lengthIn (isPlain quote) l)
+unfolding lengthIn
+front-plain quote n b l h =
+    split (isPlain quote b) (λ e. (e, omega (arith, rw (e, lengthIn) at h))) (λ e. absurd (omega (arith, rw (e, lengthIn) at h)))
 
-pub plain-marked : (quote b : ℕ) → (eqb b quote || eqb b (byte "\\")) ≡ true → false ≡ isPlain quote b
-plain-marked quote b e = rw e
+no-mark : {X : Type 0} (quote n : ℕ) (l : List ℕ) → suc n ≤ lengthIn (isPlain quote) (byte "\\" ∷ l) → X
+no-mark quote n l h = not-plain quote (front-plain quote n (byte "\\") l h .0)
 
-pub plain-control : (quote b : ℕ) → (eqb b quote || eqb b (byte "\\")) ≡ false → (r : Bool) → r ≡ (ltb b 32 || eqb b 127) → not r ≡ isPlain quote b
-plain-control quote b e r q = rw (e, q)
+behind : (quote n : ℕ) (ps : List Piece) → n ≤ lengthIn (isPlain quote) (piecesOnto ps []) → all (pieceRule quote) ps ≡ true → Behind quote n (piecesOnto ps []) ps
+unfolding piecesOnto pieceOnto piecesMean pieceMeans bytesOnto lengthIn
+behind quote zero ps h r = record { more = ps; stands = refl; kept = r; same = λ next. refl }
+behind quote (suc n) [] h r = absurd (omega arith)
+behind quote (suc n) (direct b ∷ ps) h r =
+    let p = front-plain quote n b (piecesOnto ps []) h in
+    let rest = behind quote n ps (p .1) (all-head (pieceRule quote) (direct b) ps r .1) in
+    record {
+      more = rest .more;
+      stands = rest .stands;
+      kept = rest .kept;
+      same = λ next. plain-byte quote b (p .0) (bytesOnto quote (piecesMean ps) next) ∙ ap (λ (l : List ℕ). b ∷ l) (rest .same next);
+    }
+behind quote (suc n) (escaped b ∷ ps) h r = no-mark quote n (b ∷ piecesOnto ps []) h
+behind quote (suc n) (four digits ∷ ps) h r = no-mark quote n (byte "u" ∷ (digits ++ piecesOnto ps [])) h
+behind quote (suc n) (braces digits ∷ ps) h r = no-mark quote n (byte "u" ∷ byte "{" ∷ (digits ++ (byte "}" ∷ piecesOnto ps []))) h
 
-and-off : (so : Bool) → so && false ≡ false
-and-off true = refl
-and-off false = refl
-
-and-on : (so : Bool) → so && true ≡ so
-and-on true = refl
-and-on false = refl
-
-module _ (quote : ℕ) (w : List ℕ) (i : ℕ) (so : Bool) where
-  turn : i < length w → (t : Bool) → isPlain quote (getD w i 0) ≡ t → so && all (isPlain quote) (drop i w) ≡ so && (t && all (isPlain quote) (drop (i + 1) w))
-  unfolding all
-  turn h t e = ap (λ (l : List ℕ). so && all (isPlain quote) l) (here w i h) ∙ ap (λ (p : Bool). so && (p && all (isPlain quote) (drop (i + 1) w))) e
-
-  pub plain-off : i < length w → isPlain quote (getD w i 0) ≡ false → false ≡ so && all (isPlain quote) (drop i w)
-  plain-off h e = sym (turn h false e ∙ and-off so)
-
-  pub plain-on : i < length w → isPlain quote (getD w i 0) ≡ true → so && all (isPlain quote) (drop (i + 1) w) ≡ so && all (isPlain quote) (drop i w)
-  plain-on h e = sym (turn h true e)
-
-  pub plain-over : length w ≤ i → so ≡ so && all (isPlain quote) (drop i w)
-  unfolding all
-  plain-over h = sym (ap (λ (l : List ℕ). so && all (isPlain quote) l) (drop-of-length-le w h) ∙ and-on so)
+-- the run that stands at a place was copied, and the spelling goes on behind it
+pub rest-plain : (quote : ℕ) (w out₀ : List ℕ) (at : ℕ) (ps : List Piece) (i : ℕ) (out : List ℕ) (to : ℕ) → Left (pieceRun quote) w out₀ at ps i out to
+    → (stop : ℕ) → Stretch (isPlain quote) w i stop → (after : List ℕ) (end : ℕ) → Puts out to (λ next. take (stop - i) (drop i w) ++ next) after end
+    → Left (pieceRun quote) w out₀ at ps stop after end
+unfolding pieceRun
+rest-plain quote w out₀ at ps i out to l stop run after end p =
+    let n : stop - i ≤ lengthIn (isPlain quote) (drop i w) = omega (arith, run .0) in
+    let far : i + (stop - i) ≡ stop = omega (arith, run .1) in
+    let b = behind quote (stop - i) (l .more) (rw (l .stands) at n) (l .kept) in
+    let front : drop i w ≡ piecesOnto (l .more) [] = l .stands in
+    record {
+      more = b .more;
+      stands = ap (λ (k : ℕ). drop k w) (sym far) ∙ sym (drop-drop (stop - i) i w) ∙ ap (drop (stop - i)) front ∙ b .stands;
+      kept = b .kept;
+      same = λ next. l .same next ∙ ap (page out to) (b .same next ∙ ap (λ (x : List ℕ). take (stop - i) x ++ bytesOnto quote (piecesMean (b .more)) next) (sym front))
+          ∙ p .same (bytesOnto quote (piecesMean (b .more)) next);
+    }

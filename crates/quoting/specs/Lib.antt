@@ -1,5 +1,4 @@
 -- What the functions of this crate leave, over the definitions of the paper.
 pub mod Page
-pub mod Quoting
 pub mod Ticks
 pub mod Leaves

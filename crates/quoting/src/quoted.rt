@@ -6,17 +6,19 @@ use text::parts::starts_with;
 use text::runs;
 use text::runs::Class;
 use values::escapes::hex_value;
+use values::plain::is_control;
+use values::plain::is_marked;
+use values::plain::plain_end;
 ghost use mathlib.Core.Path.{_≡_};
-ghost use mathlib.Core.Bool.{true, _||_};
+ghost use mathlib.Core.Bool.{true};
 ghost use mathlib.Core.List.{List, [], _∷_, _++_};
 ghost use Prim.Native.Nat.{ℕ, _+_, _≤_, _<_, min};
 ghost use lib.ListN.{length, drop};
-ghost use lib.Dec.{eqb, ltb};
 ghost use Rattle.paper.specs.Bytes.{byte, isHex, all, lengthIn, encode};
 ghost use Rattle.paper.specs.Values.{Piece, pieceOnto, piecesOnto, pieceRule, pieceMeans, piecesMean, letterMeans, hexValue, spellsScalar};
 ghost use Rattle.paper.specs.Canonical.{hexLetter, hexOnto, byteOnto, bytesOnto};
 ghost use Rattle.quoting.specs.Page.{Puts};
-ghost use Rattle.quoting.specs.Quoting.{isPlain};
+ghost use Rattle.values.specs.Plain.{isPlain};
 
 // Where the page goes on, and where the spelling does.
 pub struct Put {
@@ -47,42 +49,11 @@ fn put_control(out: &mut [u8], at: usize, b: u8) -> usize
     put_byte(out, end, b'}')
 }
 
-// Whether a byte takes a backslash before it, between two of this quote.
-fn is_marked(quote: u8, b: u8) -> bool
-    ensures { λ r. ⌜ r ≡ (eqb b quote || eqb b (byte "\\")) ⌝ }
-{
-    b == quote || b == b'\\'
-}
-
-fn is_control(b: u8) -> bool
-    ensures { λ r. ⌜ r ≡ (ltb b 32 || eqb b 127) ⌝ }
-{
-    b < 32 || b == 127
-}
-
-// Whether a byte between two of this quote stands for itself, read and written.
-fn is_plain(quote: u8, b: u8) -> bool
-    ensures { λ r. ⌜ r ≡ isPlain quote b ⌝ }
-{
-    if is_marked(quote, b) {
-        return false;
-    }
-    !is_control(b)
-}
-
-// Whether all these bytes do. With no way out of the loop the compiler compares many at once.
+// Whether all these bytes stand for themselves between two of this quote, read and written.
 pub fn are_plain(quote: u8, w: &[u8]) -> bool
     ensures { λ r. ⌜ r ≡ all (isPlain quote) (now (w .entry)) ⌝ }
 {
-    let mut plain = true;
-    let mut i = 0;
-    while i < w.len() {
-        if !is_plain(quote, w[i]) {
-            plain = false;
-        }
-        i += 1;
-    }
-    plain
+    plain_end(w, 0, quote) == w.len()
 }
 
 // Puts a byte that stands between two of this quote.
@@ -206,7 +177,7 @@ fn put_piece(out: &mut [u8], to: usize, quote: u8, w: &[u8], at: usize) -> Put
     }
 }
 
-// Puts what a spelling between two of this quote stands for.
+// Puts what a spelling between two of this quote stands for. Runs of plain bytes are copied, the rest goes piece by piece.
 pub fn put_pieces(out: &mut [u8], at: usize, quote: u8, w: &[u8]) -> usize
     requires { ⌜ quote < byte "\\" ⌝ }
     ensures { λ r. ⌜ ((ps : List Piece) → now (w .entry) ≡ piecesOnto ps [] → all (pieceRule quote) ps ≡ true
@@ -215,9 +186,15 @@ pub fn put_pieces(out: &mut [u8], at: usize, quote: u8, w: &[u8]) -> usize
     let mut to = at;
     let mut i = 0;
     while i < w.len() {
-        let piece = put_piece(out, to, quote, w, i);
-        to = piece.at;
-        i = piece.next;
+        let stop = plain_end(w, i, quote);
+        if i < stop {
+            to = put(out, to, &w[i..stop]);
+            i = stop;
+        } else {
+            let piece = put_piece(out, to, quote, w, i);
+            to = piece.at;
+            i = piece.next;
+        }
     }
     to
 }

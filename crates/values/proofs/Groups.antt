@@ -12,7 +12,7 @@ use borrow.Author.Tests.{eqb-true, eqb-false, eq-eqb, ne-eqb}
 use Rattle.paper.specs.Bytes.{byte, bytes, isDigit, isHex, all, startsWith, lengthIn, behind}
 use Rattle.paper.specs.Values.{upTo, past, is, hexGroups, isUuid}
 use Rattle.paper.proofs.Tests.{split, apart}
-use Rattle.paper.proofs.Lists.{both, front-all, length-in, starts-is}
+use Rattle.paper.proofs.Lists.{both, front-all, length-in}
 use Rattle.values.specs.Kinds.{isGroup}
 use Rattle.values.proofs.Runs.{all-run, endsAt, mark-ends, no-mark-ends, up-to-run, up-to-more}
 
@@ -66,13 +66,6 @@ module _ (n k : ℕ) (ns : List ℕ) (w : List ℕ) where
       (λ q. rw q))
       (λ f. rw (groups-are n k ns w, up-to-more isHex (is (byte "-")) dash-apart w f, and-false (eqb (length (upTo (is (byte "-")) w)) n)))
 
--- a group ends inside
-group-inside : (n : ℕ) (w : List ℕ) → isGroup n w ≡ true → n + 1 ≤ length w
-group-inside n w e =
-    let h = dash-there n w e in
-    let q = starts-is (bytes "-") (behind isHex w) (h .1) in
-    omega (arith, ap length q, length-drop (lengthIn isHex w) w)
-
 -- ---- the last group
 
 last-group : (n : ℕ) (w : List ℕ) → hexGroups (n ∷ []) w ≡ (eqb (length w) n && eqb (lengthIn isHex w) n)
@@ -103,23 +96,27 @@ module _ (w : List ℕ) where
     pub group-on : isGroup n (drop at w) ≡ true → isUuid w ≡ hexGroups (k ∷ ns) (drop (at + (n + 1)) w)
     group-on e = rest ∙ group-there n k ns (drop at w) e ∙ rw drop-drop
 
-  -- where the next group is due
-  pub group-before : (at n : ℕ) → isGroup n (drop at w) ≡ true → at + (n + 1) ≤ length w
-  group-before at n e = omega (arith, group-inside n (drop at w) e, length-drop at w)
-
   -- the last group
-  module _ (rest : isUuid w ≡ hexGroups (12 ∷ []) (drop 24 w)) (end : ℕ) (run : end ≡ 24 + lengthIn isHex (drop 24 w)) where
-    size : eqb (length (drop 24 w)) 12 ≡ eqb (length w) 36
-    size = split (eqb (length w) 36)
-        (λ e. rw (e, eq-eqb (length (drop 24 w)) 12 (omega (arith, eqb-true (length w) 36 e, length-drop 24 w))))
-        (λ e. rw (e, ne-eqb (length (drop 24 w)) 12 (λ q. eqb-false (length w) 36 e (omega (arith, length-drop 24 w)))))
+  module _ (rest : isUuid w ≡ hexGroups (12 ∷ []) (drop 24 w)) where
+    by-size : isUuid w ≡ (eqb (length (drop 24 w)) 12 && eqb (lengthIn isHex (drop 24 w)) 12)
+    by-size = rest ∙ last-group 12 (drop 24 w)
 
-    by-size : isUuid w ≡ (eqb (length w) 36 && eqb (lengthIn isHex (drop 24 w)) 12)
-    by-size = rest ∙ last-group 12 (drop 24 w) ∙ rw size
+    no-last : (length w ≡ 36 → ⊥) → false ≡ isUuid w
+    no-last n = sym (by-size ∙ rw (ne-eqb (length (drop 24 w)) 12 (λ q. n (omega (arith, length-drop 24 w)))))
 
-    pub last-digits : end ≡ 36 → eqb (length w) 36 ≡ isUuid w
-    last-digits e = sym (by-size ∙ rw (eq-eqb (lengthIn isHex (drop 24 w)) 12 (omega arith)) (and-true (eqb (length w) 36)))
+    pub last-digits : length w ≡ 36 → (end : ℕ) → end ≡ 24 + lengthIn isHex (drop 24 w) → eqb end 36 ≡ isUuid w
+    last-digits e end run =
+        sym (by-size ∙ rw (eq-eqb (length (drop 24 w)) 12 (omega (arith, length-drop 24 w))) (split (eqb (lengthIn isHex (drop 24 w)) 12)
+        (λ q. let n = eqb-true (lengthIn isHex (drop 24 w)) 12 q in rw (q, eq-eqb end 36 (omega arith)))
+        (λ q. rw (q, ne-eqb end 36 (λ n. eqb-false (lengthIn isHex (drop 24 w)) 12 q (omega arith))))))
 
-    pub no-last : (end ≡ 36 → ⊥) → eqb end 36 ≡ isUuid w
-    no-last e =
-        sym (by-size ∙ rw (ne-eqb (lengthIn isHex (drop 24 w)) 12 (λ q. e (omega arith)), ne-eqb end 36 e) (and-false (eqb (length w) 36)))
+  -- a word of any other size is none
+  next-group : (at n k : ℕ) (ns : List ℕ) → 1 ≤ k → isUuid w ≡ hexGroups (n ∷ k ∷ ns) (drop at w)
+      → (isUuid w ≡ hexGroups (k ∷ ns) (drop (at + (n + 1)) w) → false ≡ isUuid w) → false ≡ isUuid w
+  next-group at n k ns some rest then =
+      split (isGroup n (drop at w)) (λ e. then (group-on at n k ns rest e)) (λ e. group-off at n k ns rest some e)
+
+  pub other-size : (length w ≡ 36 → ⊥) → false ≡ isUuid w
+  other-size n =
+      next-group 0 8 4 _ (omega arith) refl (λ a. next-group 9 4 4 _ (omega arith) a (λ b. next-group 14 4 4 _ (omega arith) b
+      (λ c. next-group 19 4 12 _ (omega arith) c (λ d. no-last d n))))

@@ -1,21 +1,23 @@
 -- IRIs: the scalar values of a body, the body step by step, and the scheme in front. Over plain lists. Assumes nothing.
 -- Document 01, "The grammar", Values; 001 §14, with the ranges of RFC 3987's ucschar.
 use Prim.Native.Nat.{ℕ, zero, suc, _+_, _-_, _%_, _≤_, _<_}
-use mathlib.Core.Path.{_≡_, refl, sym, _∙_}
-use mathlib.Core.Bool.{Bool, true, false, _&&_, _||_, or-false, and-false}
+use mathlib.Core.Path.{_≡_, refl, sym, ap, _∙_}
+use mathlib.Core.Bool.{Bool, true, false, not, _&&_, _||_, or-false, and-false}
 use mathlib.Core.List.{List, [], _∷_}
+use mathlib.Core.Logic.{_⊎_, inl, inr, ⊎-elim}
 use native.Mathlib.Omega.{arith}
-use lib.ListN.{length, getD, drop, length-drop}
+use lib.ListN.{length, getD, drop, length-drop, drop-of-length-le}
 use lib.Seq.{drop-drop}
 use lib.Dec.{leb}
-use borrow.Author.Tests.{le-leb}
+use borrow.Author.Tests.{le-leb, leb-true, leb-false, ne-eqb}
 use Rattle.paper.specs.Found.{Found, found, fault}
 use Rattle.paper.specs.Bytes.{byte, bytes, within, isUpper, isLower, isDigit, isLetter, isNameByte}
 use Rattle.paper.specs.Bytes.{all, elem, startsIn, startsWith, lengthIn, front, behind, scalar}
 use Rattle.paper.specs.Values.{upTo, onward, is, isIriScalar, isIriBody, isScheme, isIri}
-use Rattle.paper.proofs.Tests.{split, apart, inside, below, above, byRange}
-use Rattle.paper.proofs.Lists.{elem-apart, front-all}
-use Rattle.paper.proofs.Scalars.{scalar-shorter}
+use Rattle.paper.proofs.Tests.{split, apart, or-right, inside, below, above, byRange}
+use Rattle.paper.proofs.Lists.{both, elem-apart, front-all}
+use Rattle.paper.proofs.Scalars.{row-one, scalar-one, scalar-shorter}
+use Rattle.text.specs.declared.utf8.Cursor.{Cursor}
 use Rattle.text.specs.declared.utf8.Step.{Step}
 use Rattle.text.specs.Steps.{stepAt}
 use Rattle.text.proofs.Places.{here}
@@ -28,19 +30,7 @@ use Rattle.values.proofs.Runs.{starts-one, endsAt, mark-ends, no-mark-e
 abbrev marks : List ℕ
 marks = bytes "-._~:/?#[]@!$&'()*+,;=%"
 
-pub iri-ascii : (b : ℕ) → b ≤ 0x7F → (isNameByte b || elem b marks) ≡ isIriScalar b
-unfolding isIriScalar
-iri-ascii b h =
-    rw (
-      below 0xA0 0xD7FF b (omega arith),
-      below 0xF900 0xFDCF b (omega arith),
-      below 0xFDF0 0xFFEF b (omega arith),
-      below 0x10000 0xDFFFF b (omega arith),
-      below 0xE1000 0xEFFFD b (omega arith),
-    )
-    (split (isNameByte b || elem b marks) (λ e. rw e) (λ e. rw e))
-
--- the others lie in ranges
+-- those beyond ASCII lie in ranges
 unfoldable inRanges : ℕ → Bool
 inRanges v =
     within 0xA0 0xD7FF v || within 0xF900 0xFDCF v || within 0xFDF0 0xFFEF v ||
@@ -101,6 +91,73 @@ module _ (v : ℕ) where
   iri-none h a b c d e =
       rw (outside 0xA0 0xD7FF a, outside 0xF900 0xFDCF b, outside 0xFDF0 0xFFEF c, outside 0x10000 0xDFFFF d, outside 0xE1000 0xEFFFD e) at (iri-high h)
 
+-- ---- bytes of ASCII
+
+-- a test of so many numbers, from one on
+every : (ℕ → Bool) → ℕ → ℕ → Bool
+every test low zero = true
+every test low (suc n) = test low && every test (low + 1) n
+
+every-in : (test : ℕ → Bool) (n low b : ℕ) → every test low n ≡ true → low ≤ b → b < low + n → test b ≡ true
+unfolding every
+every-in test zero low b e h k = absurd (omega arith)
+every-in test (suc n) low b e h k =
+    let t = both (test low) (every test (low + 1) n) e in
+    split (leb b low) (λ l. let q : b ≡ low = omega (arith, leb-true b low l) in ap test q ∙ t .0)
+    (λ l. every-in test n (low + 1) b (t .1) (omega (arith, leb-false b low l)) (omega arith))
+
+agree : Bool → Bool → Bool
+agree true q = q
+agree false q = not q
+
+agree-same : (p q : Bool) → agree p q ≡ true → p ≡ q
+unfolding agree
+agree-same true q e = sym e
+agree-same false true e = e
+agree-same false false e = refl
+
+-- small letters, two ranges, and the bytes outside of them
+abbrev inAscii : ℕ → Bool
+inAscii b = (within (byte "#") (byte ";") b || within (byte "?") (byte "[") b) || (isLower b || elem b (bytes "!=]_~"))
+
+abbrev Single : ℕ → Type 0
+Single b = (b ≡ byte "!") ⊎ ((b ≡ byte "=") ⊎ ((b ≡ byte "]") ⊎ ((b ≡ byte "_") ⊎ (b ≡ byte "~"))))
+
+module _ (b : ℕ) (h : b ≤ 0x7F) where
+  in-ascii : inAscii b ≡ isIriScalar b
+  unfolding every agree isIriScalar isNameByte isLetter isUpper isLower isDigit elem
+  in-ascii = agree-same (inAscii b) (isIriScalar b) (every-in (λ b. agree (inAscii b) (isIriScalar b)) 128 0 b refl (omega arith) (omega arith))
+
+  ascii-in : inAscii b ≡ true → true ≡ isIriScalar b
+  ascii-in e = sym e ∙ in-ascii
+
+  pub ascii-first : byte "#" ≤ b → b ≤ byte ";" → true ≡ isIriScalar b
+  ascii-first l k = ascii-in (rw (inside (byte "#") (byte ";") b l k))
+
+  pub ascii-second : byte "?" ≤ b → b ≤ byte "[" → true ≡ isIriScalar b
+  ascii-second l k = ascii-in (rw (outside b (byte "#") (byte ";") (λ p q. omega arith), inside (byte "?") (byte "[") b l k))
+
+  pub ascii-lower : isLower b ≡ true → true ≡ isIriScalar b
+  ascii-lower e = ascii-in (or-right (within (byte "#") (byte ";") b || within (byte "?") (byte "[") b) _ (rw e))
+
+  pub ascii-single : Single b → true ≡ isIriScalar b
+  unfolding isIriScalar isNameByte isLetter isUpper isLower isDigit elem
+  ascii-single = ⊎-elim (λ q. rw q) (⊎-elim (λ q. rw q) (⊎-elim (λ q. rw q) (⊎-elim (λ q. rw q) (λ q. rw q))))
+
+  pub ascii-none : isLower b ≡ false → (Single b → ⊥) → (byte "#" ≤ b → b ≤ byte ";" → ⊥) → (byte "?" ≤ b → b ≤ byte "[" → ⊥) → false ≡ isIriScalar b
+  unfolding elem
+  ascii-none e n f g =
+      rw (
+        outside b (byte "#") (byte ";") f,
+        outside b (byte "?") (byte "[") g,
+        e,
+        ne-eqb b (byte "!") (λ q. n (inl q)),
+        ne-eqb b (byte "=") (λ q. n (inr (inl q))),
+        ne-eqb b (byte "]") (λ q. n (inr (inr (inl q)))),
+        ne-eqb b (byte "_") (λ q. n (inr (inr (inr (inl q))))),
+        ne-eqb b (byte "~") (λ q. n (inr (inr (inr (inr q))))),
+      ) at in-ascii
+
 -- ---- a body, one scalar value at a time
 
 body-nil : (fuel : ℕ) → isIriBody fuel [] ≡ true
@@ -146,14 +203,25 @@ pub body-whole : (s : List ℕ) (o : Bool) → o ≡ bodyAt s 0 → (fuel : ℕ)
 body-whole s o e fuel h = e ∙ body-fuel (length s) fuel s (omega arith) h
 
 module _ (s : List ℕ) (at : ℕ) where
-  pub body-ends : Step.End ≡ stepAt s at → true ≡ bodyAt s at
-  body-ends e = rw (ended s at e) (sym (body-nil 0))
+  pub body-ends : length s ≤ at → true ≡ bodyAt s at
+  body-ends h = rw (drop-of-length-le s h) (sym (body-nil 0))
 
-  pub body-broken : Step.Broken ≡ stepAt s at → false ≡ bodyAt s at
+  body-broken : Step.Broken ≡ stepAt s at → false ≡ bodyAt s at
   body-broken e =
       let f = failed s at e in
       let r : scalar (getD s at 0 ∷ drop (at + 1) s) ≡ fault (f .number) (f .left) = rw (here s at (f .inside)) at (f .reads) in
       rw (here s at (f .inside)) (sym (body-fault (length (drop (at + 1) s)) _ _ (f .number) (f .left) r))
+
+  -- what begins no sequence
+  pub body-unread : at < length s → (x : Step) → x ≡ stepAt s at → ((v : ℕ) (next : Cursor) → x ≡ Step.Scalar v next → ⊥) → false ≡ bodyAt s at
+  body-unread h (Step.Scalar v next) e z = absurd (z v next refl)
+  body-unread h Step.Broken e z = body-broken e
+  body-unread h Step.End e z = absurd (omega (arith, length-drop at s, ap length (ended s at e)))
+
+  -- a byte of ASCII is a scalar value
+  pub ascii-stepped : at < length s → getD s at 0 ≤ 0x7F → Stepped s at (getD s at 0) (at + 1)
+  ascii-stepped h k =
+      record { ahead = omega arith; inside = omega arith; reads = rw (here s at h) (scalar-one (getD s at 0) (drop (at + 1) s) (row-one (getD s at 0) k)) }
 
   module _ (v next : ℕ) (f : Stepped s at v next) where
     inside-here : at < length s

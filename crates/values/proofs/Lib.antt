@@ -4,6 +4,7 @@ pub mod Showing
 pub mod HexDigits
 pub mod Escaping
 pub mod Quotes
+pub mod Plainly
 pub mod WordEnds
 pub mod Integers
 pub mod NumberForms

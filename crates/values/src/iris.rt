@@ -29,27 +29,30 @@ pub fn is_iri(w: &[u8]) -> bool
     is_body(&w[body..])
 }
 
-// Whether every scalar value may stand in an IRI.
+// Whether every scalar value may stand in an IRI. A byte of ASCII is one by itself, and needs no step.
 fn is_body(body: &[u8]) -> bool
     ensures { λ r. ⌜ ((fuel : ℕ) → length (now (body .entry)) ≤ fuel → r ≡ isIriBody fuel (now (body .entry))) ⌝ }
 {
-    let mut cursor = Cursor::new(0);
-    loop {
-        match cursor.step(body) {
-            Step::End => {
-                return true;
-            }
-            Step::Broken => {
+    let mut i = 0;
+    while i < body.len() {
+        let b = body[i];
+        if b <= 0x7F {
+            if !may_stand_ascii(b) {
                 return false;
             }
-            Step::Scalar(v, next) => {
-                if !may_stand(v) {
-                    return false;
-                }
-                cursor = next;
+            i += 1;
+        } else {
+            let cursor = Cursor::new(i);
+            let Step::Scalar(v, next) = cursor.step(body) else {
+                return false;
+            };
+            if !may_stand(v) {
+                return false;
             }
+            i = next.at;
         }
     }
+    true
 }
 
 // Whether the scalar value may stand in an IRI.
@@ -64,10 +67,16 @@ fn may_stand(v: u32) -> bool
     }
 }
 
-// Whether the byte of ASCII may stand in an IRI.
+// Whether the byte of ASCII may stand in an IRI. Small letters are asked for first, since most are.
 fn may_stand_ascii(b: u8) -> bool
     requires { ⌜ b ≤ 0x7F ⌝ }
     ensures { λ r. ⌜ r ≡ isIriScalar b ⌝ }
 {
-    classes::is_name_byte(b) || classes::is_one_of(b, b"-._~:/?#[]@!$&'()*+,;=%")
+    if classes::is_lower(b) {
+        return true;
+    }
+    match b {
+        b'!' | b'#'..=b';' | b'=' | b'?'..=b'[' | b']' | b'_' | b'~' => true,
+        _ => false,
+    }
 }

@@ -8,5 +8,6 @@ pub mod judged;
 mod leaves;
 pub mod lists;
 mod numbers;
+pub mod plain;
 mod quoted;
 mod words;

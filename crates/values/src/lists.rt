@@ -14,7 +14,8 @@ use text::nesting::Deeper;
 use text::nesting::Nesting;
 use text::runs;
 use text::runs::Class;
-ghost use Prim.Native.Nat.{_≤_};
+ghost use mathlib.Core.List.{List, []};
+ghost use Prim.Native.Nat.{ℕ, _≤_};
 ghost use lib.ListN.{length};
 ghost use Rattle.paper.specs.Limits.{listLimit};
 ghost use Rattle.paper.specs.Values.{valueForm, list};
@@ -22,12 +23,23 @@ ghost use Rattle.paper.specs.ReadingValues.{valueOf, itemAnd, wholeValue};
 ghost use Rattle.values.specs.Shown.{JudgesAt, listForm};
 ghost use Rattle.values.specs.Kinds.{endersOf};
 
-// Reads a trait's whole value. Where no kind fits, it is refused at its first byte.
+// Reads a trait's whole value. Where no kind fits, it is refused at its first byte. Most values are no lists, and are read at once.
 pub fn read_whole(s: &[u8], at: usize) -> Judged
     requires { ⌜ at ≤ length (now s) ⌝ }
     ensures { λ r. ⌜ JudgesAt valueForm (wholeValue listLimit) (now (s .entry)) at r ⌝ }
 {
+    if !opens(s, at) {
+        return at_first(read_leaf(s, at, Around::Nothing), at);
+    }
     let read = read_value(s, at, Nesting::new(Nesting::LISTS), Around::Nothing);
+    at_first(read, at)
+}
+
+// What was read of a trait's value that stands at `at`, refused there where no kind fits.
+fn at_first(read: Judged, at: usize) -> Judged
+    ensures { λ r. ⌜ ((lists : ℕ) (s : List ℕ) → at ≤ length s → JudgesAt valueForm (valueOf lists []) s at read
+        → JudgesAt valueForm (wholeValue lists) s at r) ⌝ }
+{
     let Judged::Refused { refusal, .. } = read else {
         return read;
     };

@@ -3,20 +3,24 @@
 use crate::escapes::escape_end;
 use crate::judged;
 use crate::judged::Judged;
+use crate::plain::plain_end;
 use paper::forms;
 use text::parts::starts_with;
 use text::utf8::Cursor;
 use text::utf8::Step;
 ghost use mathlib.Core.List.{List};
+ghost use Prim.Native.Nat.{_≤_};
+ghost use lib.ListN.{length};
 ghost use Rattle.paper.specs.Values.{Piece, leafForm};
 ghost use Rattle.paper.specs.ReadingValues.{closeCharacter, characterOf};
 ghost use Rattle.values.specs.Shown.{JudgesAt, stringOf, backtickOf};
 
 // Reads a string up to its closing quote.
 pub fn string_end(s: &[u8], at: usize) -> Judged
+    requires { ⌜ at ≤ length (now s) ⌝ }
     ensures { λ r. ⌜ JudgesAt leafForm stringOf (now (s .entry)) at r ⌝ }
 {
-    let mut i = at;
+    let mut i = plain_end(s, at, b'"');
     while i < s.len() {
         match s[i] {
             b'"' => {
@@ -30,13 +34,13 @@ pub fn string_end(s: &[u8], at: usize) -> Judged
                 let Judged::Found { end, .. } = escape else {
                     return escape;
                 };
-                i = end;
+                i = plain_end(s, end, b'"');
             }
             b'\n' | b'\r' => {
                 return judged::no_value(i);
             }
             _ => {
-                i += 1;
+                i = plain_end(s, i + 1, b'"');
             }
         }
     }

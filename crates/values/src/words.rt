@@ -101,10 +101,13 @@ fn is_token(w: &[u8], low: u8, high: u8) -> bool
     runs::end(w, 1, Class::Name) == w.len()
 }
 
-// Whether the word is a UUID: hex digits in groups of 8, 4, 4, 4 and 12, with "-" between.
+// Whether the word is a UUID: hex digits in groups of 8, 4, 4, 4 and 12, with "-" between, which are 36 bytes.
 fn is_uuid(w: &[u8]) -> bool
     ensures { λ r. ⌜ r ≡ isUuid (now (w .entry)) ⌝ }
 {
+    if w.len() != 36 {
+        return false;
+    }
     if !is_group(w, 0, 8) {
         return false;
     }
@@ -117,7 +120,7 @@ fn is_uuid(w: &[u8]) -> bool
     if !is_group(w, 19, 4) {
         return false;
     }
-    runs::end(w, 24, Class::Hex) == 36 && w.len() == 36
+    runs::end(w, 24, Class::Hex) == 36
 }
 
 // Whether so many hex digits stand at `at`, and "-" behind them.

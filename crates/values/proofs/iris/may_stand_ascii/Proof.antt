@@ -1,33 +1,56 @@
--- A letter, a digit, or one of the other bytes.
+-- A small letter, a byte of two ranges, one of the others, or none.
 use borrow.Author.Needs.{needs}
-use mathlib.Core.Path.{_∙_}
-use Rattle.text.proofs.Either.{either-first, either-second}
-use Rattle.values.proofs.IriParts.{iri-ascii}
+use mathlib.Core.Path.{sym, _∙_}
+use native.Mathlib.Omega.{arith}
+use Rattle.values.proofs.IriParts.{ascii-first, ascii-second, ascii-lower, ascii-single, ascii-none}
 use Rattle.values.proofs.iris.may_stand_ascii.Statement.{statement}
 use Rattle.values.proofs.iris.may_stand_ascii.Tie as tie
 
-is-name-byte-requires : tie.Need-is-name-byte-requires
-is-name-byte-requires c κs = search needs
-
-slice-aggregate-is-one-of : tie.Need-slice-aggregate-is-one-of
-slice-aggregate-is-one-of c = search needs
-
-is-one-of-requires : tie.Need-is-one-of-requires
-is-one-of-requires c κs = search needs
+is-lower-requires : tie.Need-is-lower-requires
+is-lower-requires c κs = search needs
 
 returns : tie.Need-returns
-returns c =
-    let start = c .before .before in
-    either-first _ (c .before .is-name-byte .ensures) (c .if1 .taken) ∙ iri-ascii _ (start .pre)
+returns c = ascii-lower _ (c .before .before .pre) (sym (c .before .is-lower .ensures) ∙ c .if1 .taken)
 
 returns-2 : tie.Need-returns-2
 returns-2 c =
-    let at-if1 = c .before .before in
-    let at-is-name-byte = at-if1 .before in
-    let start = at-is-name-byte .before in
-    either-second (at-is-name-byte .is-name-byte .ensures) (at-if1 .if1 .left) (c .is-one-of .ensures) ∙ iri-ascii _ (start .pre)
+    let at-match = c .before in
+    let at-if1 = at-match .before in
+    ascii-none _ (omega arith) (sym (at-if1 .before .is-lower .ensures) ∙ at-if1 .if1 .left) (at-match .match .rest .1)
+    (λ l h. omega arith) (λ l h. omega arith)
+
+returns-3 : tie.Need-returns-3
+returns-3 c =
+    let at-match = c .before .before .before in
+    let at-if1 = at-match .before in
+    ascii-none _ (omega arith) (sym (at-if1 .before .is-lower .ensures) ∙ at-if1 .if1 .left) (at-match .match .rest .1)
+    (λ l h. omega arith) (λ l h. omega arith)
+
+returns-4 : tie.Need-returns-4
+returns-4 c =
+    let at-match = c .before .before .before .before in
+    let at-if1 = at-match .before in
+    ascii-none _ (omega arith) (sym (at-if1 .before .is-lower .ensures) ∙ at-if1 .if1 .left) (at-match .match .rest .1)
+    (λ l h. omega arith) (λ l h. omega arith)
+
+returns-5 : tie.Need-returns-5
+returns-5 c = ascii-single _ (omega arith) (c .match .keys1)
+
+returns-6 : tie.Need-returns-6
+returns-6 c = ascii-first _ (omega arith) (omega arith) (omega arith)
+
+returns-7 : tie.Need-returns-7
+returns-7 c = ascii-second _ (omega arith) (omega arith) (omega arith)
 
 pub may-stand-ascii-spec : {M : Type 1} → statement M
 may-stand-ascii-spec =
     tie.close
-    (tie.spec is-name-byte-requires slice-aggregate-is-one-of is-one-of-requires returns returns-2)
+    (tie.spec
+    is-lower-requires
+    returns
+    returns-2
+    returns-3
+    returns-4
+    returns-5
+    returns-6
+    returns-7)

@@ -1,7 +1,7 @@
 -- By the two bytes that take a backslash. Assumes nothing.
 use borrow.Author.Tests.{eq-eqb, ne-eqb}
-use Rattle.quoting.proofs.quoted.is_marked.Statement.{statement}
-use Rattle.quoting.proofs.quoted.is_marked.Tie as tie
+use Rattle.values.proofs.plain.is_marked.Statement.{statement}
+use Rattle.values.proofs.plain.is_marked.Tie as tie
 
 returns : tie.Need-returns
 returns c = rw (eq-eqb (c .before .args .b) (c .before .args .quote) (c .if1 .taken))

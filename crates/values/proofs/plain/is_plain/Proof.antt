@@ -1,9 +1,9 @@
 -- A byte that neither takes a backslash nor is a control. Assumes nothing.
 use mathlib.Core.Path.{sym, _∙_}
 use borrow.Author.Needs.{needs}
-use Rattle.quoting.proofs.Plainly.{plain-marked, plain-control}
-use Rattle.quoting.proofs.quoted.is_plain.Statement.{statement}
-use Rattle.quoting.proofs.quoted.is_plain.Tie as tie
+use Rattle.values.proofs.Plainly.{plain-marked, plain-control}
+use Rattle.values.proofs.plain.is_plain.Statement.{statement}
+use Rattle.values.proofs.plain.is_plain.Tie as tie
 
 is-marked-requires : tie.Need-is-marked-requires
 is-marked-requires c κs = search needs

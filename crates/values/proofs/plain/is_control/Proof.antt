@@ -1,7 +1,7 @@
 -- By the range and the one byte behind it. Assumes nothing.
 use borrow.Author.Tests.{lt-ltb, le-ltb}
-use Rattle.quoting.proofs.quoted.is_control.Statement.{statement}
-use Rattle.quoting.proofs.quoted.is_control.Tie as tie
+use Rattle.values.proofs.plain.is_control.Statement.{statement}
+use Rattle.values.proofs.plain.is_control.Tie as tie
 
 returns : tie.Need-returns
 returns c = rw (lt-ltb (c .before .args .b) 32 (c .if1 .taken))
