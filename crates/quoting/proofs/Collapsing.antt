@@ -1,24 +1,27 @@
--- White space collapsed and letters in lower case, put byte by byte. Document 01, "Canonical form". Assumes nothing.
+-- White space collapsed, put byte by byte, and letters copied in lower case. Document 01, "Canonical form". Assumes nothing.
 use Prim.Native.Nat.{ℕ, _+_, _≤_, _<_}
 use mathlib.Core.Path.{_≡_, refl, sym, ap, _∙_}
 use mathlib.Core.Bool.{Bool, true, false}
 use mathlib.Core.List.{List, [], _∷_, _++_, map}
-use lib.ListN.{length, drop, getD, drop-of-length-le}
+use native.Mathlib.Omega.{arith}
+use lib.ListN.{length, drop, set, getD, length-map, drop-of-length-le, List·getD-map}
+use lib.Seq.{sets}
 use Rattle.paper.specs.Found.{pick}
-use Rattle.paper.specs.Bytes.{space, isWhite}
+use Rattle.paper.specs.Bytes.{isUpper, space, isWhite}
 use Rattle.paper.specs.Values.{collapse, collapseOn, collapseGap}
 use Rattle.paper.specs.Canonical.{lower}
 use Rattle.paper.proofs.Tests.{true-false}
 use Rattle.text.proofs.Places.{here}
 use Rattle.quoting.specs.Page.{page, Puts}
+use Rattle.quoting.proofs.Putting.{copies-more}
 
-module _ (w : List ℕ) (i : ℕ) (out after : List ℕ) (to end : ℕ) (next : List ℕ) where
-  pub lower-on : i < length w → Puts out to (λ next. lower (getD w i 0) ∷ next) after end
-      → page out to (map lower (drop i w) ++ next) ≡ page after end (map lower (drop (i + 1) w) ++ next)
-  lower-on h p = rw (here w i h) (p .same (map lower (drop (i + 1) w) ++ next))
-
-  pub lower-over : length w ≤ i → page out to (map lower (drop i w) ++ next) ≡ page out to next
-  lower-over h = rw (drop-of-length-le w h)
+-- a turn of the loop that copies in lower case
+pub lower-more : (w out : List ℕ) (at i b : ℕ) → i < length w → b ≡ lower (getD w i 0)
+    → sets (set out (at + i) b) (at + (i + 1)) (drop (i + 1) (map lower w)) ≡ sets out (at + i) (drop i (map lower w))
+unfolding lower isUpper
+lower-more w out at i b h e =
+    let q : b ≡ getD (map lower w) i 0 = e ∙ sym (List·getD-map lower w i 0) in
+    rw q (copies-more out (map lower w) at i (omega (arith, length-map w lower)))
 
 -- what is left to put: in front of the first word, behind a word, or in a gap behind one
 abbrev pub left : Bool → Bool → List ℕ → List ℕ

@@ -54,11 +54,16 @@ fn lower(b: u8) -> u8
 pub fn put_lower(out: &mut [u8], at: usize, w: &[u8]) -> usize
     ensures { λ r. ⌜ Puts (now (out .entry)) at (λ next. map lower (now (w .entry)) ++ next) (now (out .exit)) r ⌝ }
 {
-    let mut to = at;
+    if out.len() < at {
+        return at;
+    }
+    if out.len() - at < w.len() {
+        return out.len() + 1;
+    }
     let mut i = 0;
     while i < w.len() {
-        to = put_byte(out, to, lower(w[i]));
+        out[at + i] = lower(w[i]);
         i += 1;
     }
-    to
+    at + w.len()
 }
