@@ -68,7 +68,7 @@ fn read_line(s: &[u8], at: usize, mark: usize, tabs: usize) -> Part
     if mark - at <= tabs {
         return line_rest(s, at);
     }
-    line_end(s, runs::end(s, mark, Class::Text))
+    line_end(s, runs::text_end(s, mark))
 }
 
 // Reads the Content of a block from behind its marker's ">" on, with its closing line up to its ">", and enters it.
@@ -94,7 +94,7 @@ pub fn read_content(
     }
     let mut i = start;
     loop {
-        let mark = runs::end(s, i, Class::Tab);
+        let mark = runs::tab_end(s, i);
         if closes(s, i, mark, tabs, from, to) {
             break;
         }

@@ -49,7 +49,7 @@ fn tabs_at(s: &[u8], at: usize) -> usize
     if s.len() <= at {
         return 0;
     }
-    runs::end(s, at, Class::Tab) - at
+    runs::tab_end(s, at) - at
 }
 
 // Puts lines whose text stands behind `cut` tabs, with their text at so many tabs.
@@ -59,8 +59,8 @@ fn put_lines(out: &mut [u8], at: usize, lines: &[u8], cut: usize, tabs: usize) -
     let mut to = at;
     let mut i = 0;
     while i < lines.len() {
-        let mark = runs::end(lines, i, Class::Tab);
-        let end = runs::end(lines, mark, Class::Text);
+        let mark = runs::tab_end(lines, i);
+        let end = runs::text_end(lines, mark);
         to = put_line(out, to, &lines[i..end], cut, tabs);
         i = line_after(lines, end);
     }

@@ -68,6 +68,17 @@ module _ (class : ℕ → Bool) (s : List ℕ) (at : ℕ) where
   pub skips-end : (i end : ℕ) → Skips class s at i → Stretch class s i end → Stretch class s at end
   skips-end i end f g = (g .0 ∙ f .2, omega (arith, f .0, g .1), g .2)
 
+-- a turn of a loop that walks the run byte by byte, and its two ends
+module _ (class : ℕ → Bool) (s : List ℕ) (at i : ℕ) (so-far : Skips class s at i) where
+  pub run-on : i < length s → class (getD s i 0) ≡ true → Skips class s at (i + 1)
+  run-on h e = (omega (arith, so-far .0), omega arith, sym (goes-on class s i h e) ∙ so-far .2)
+
+  pub run-stops : i < length s → class (getD s i 0) ≡ false → Stretch class s at i
+  run-stops h e = (sym (stops class s i h e) ∙ so-far .2, so-far .0, so-far .1)
+
+  pub run-over : length s ≤ i → Stretch class s at i
+  run-over h = (sym (cut-off class s i h) ∙ so-far .2, so-far .0, so-far .1)
+
 -- ---- bytes of one class that are all of another
 
 module _ (some class : ℕ → Bool) (are : (b : ℕ) → some b ≡ true → class b ≡ true) where
@@ -121,7 +132,6 @@ pub text-above : (b : ℕ) → cr < b → inClass Class.Text b ≡ true
 unfolding isLineEnd
 text-above b h = rw (ne-eqb b lf (omega arith), ne-eqb b cr (omega arith))
 
--- the run of a class, from a place ahead on
-pub class-end : (class known : Class) (s : List ℕ) (at i end : ℕ) → class ≡ known → Skips (inClass known) s at i → Stretch (inClass known) s i end
-    → Stretch (inClass class) s at end
-class-end class known s at i end e f g = rw e (skips-end (inClass known) s at i end f g)
+-- the run of a class that is known
+pub class-end : (class known : Class) (s : List ℕ) (at end : ℕ) → class ≡ known → Stretch (inClass known) s at end → Stretch (inClass class) s at end
+class-end class known s at end e run = rw e run

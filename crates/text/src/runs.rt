@@ -43,8 +43,8 @@ pub fn end(s: &[u8], at: usize, class: Class) -> usize
     ensures { λ r. ⌜ (r ≡ at + lengthIn (inClass class) (drop at (now (s .entry)))) × (at ≤ r) × (r ≤ length (now (s .entry))) ⌝ }
 {
     match class {
-        Class::Tab => end_from(s, skip_tabs(s, at), Class::Tab),
-        Class::Text => end_from(s, skip_text(s, at), Class::Text),
+        Class::Tab => tab_end(s, at),
+        Class::Text => text_end(s, at),
         _ => end_from(s, at, class),
     }
 }
@@ -57,6 +57,36 @@ fn end_from(s: &[u8], at: usize, class: Class) -> usize
     let mut i = at;
     while i < s.len() {
         if !is_in(class, s[i]) {
+            return i;
+        }
+        i += 1;
+    }
+    i
+}
+
+// Where the tabs that stand at `at` end.
+pub fn tab_end(s: &[u8], at: usize) -> usize
+    requires { ⌜ at ≤ length (now s) ⌝ }
+    ensures { λ r. ⌜ (r ≡ at + lengthIn (inClass Class.Tab) (drop at (now (s .entry)))) × (at ≤ r) × (r ≤ length (now (s .entry))) ⌝ }
+{
+    let mut i = skip_tabs(s, at);
+    while i < s.len() {
+        if s[i] != b'\t' {
+            return i;
+        }
+        i += 1;
+    }
+    i
+}
+
+// Where the text that stands at `at` ends: at a line end, or with the input.
+pub fn text_end(s: &[u8], at: usize) -> usize
+    requires { ⌜ at ≤ length (now s) ⌝ }
+    ensures { λ r. ⌜ (r ≡ at + lengthIn (inClass Class.Text) (drop at (now (s .entry)))) × (at ≤ r) × (r ≤ length (now (s .entry))) ⌝ }
+{
+    let mut i = skip_text(s, at);
+    while i < s.len() {
+        if classes::is_line_end(s[i]) {
             return i;
         }
         i += 1;
@@ -95,29 +125,29 @@ fn are_tabs(s: &[u8], at: usize) -> bool
     all
 }
 
-// Past bytes at `at` that are no line ends, sixteen at a time.
+// Past bytes at `at` that are no line ends, eight at a time.
 fn skip_text(s: &[u8], at: usize) -> usize
     requires { ⌜ at ≤ length (now s) ⌝ }
     ensures { λ r. ⌜ Skips (inClass Class.Text) (now (s .entry)) at r ⌝ }
 {
     let mut i = at;
-    while 16 <= s.len() - i {
+    while 8 <= s.len() - i {
         if !are_text(s, i) {
             return i;
         }
-        i += 16;
+        i += 8;
     }
     i
 }
 
-// Whether the sixteen bytes at `at` are above every line end, and so are text.
+// Whether the eight bytes at `at` are above every line end, and so are text.
 fn are_text(s: &[u8], at: usize) -> bool
-    requires { ⌜ at + 16 ≤ length (now s) ⌝ }
-    ensures { λ r. ⌜ (r ≡ true → Skips (inClass Class.Text) (now (s .entry)) at (at + 16)) ⌝ }
+    requires { ⌜ at + 8 ≤ length (now s) ⌝ }
+    ensures { λ r. ⌜ (r ≡ true → Skips (inClass Class.Text) (now (s .entry)) at (at + 8)) ⌝ }
 {
     let mut all = true;
     let mut i = 0;
-    while i < 16 {
+    while i < 8 {
         if s[at + i] <= b'\r' {
             all = false;
         }

@@ -89,8 +89,8 @@ returns-2 c =
 loop-holds : tie.Need-loop-holds Inv-loop μ-loop
 loop-holds c = lines-begin _ _ _ _ (rest (c .before .before) .inside)
 
-end-requires : tie.Need-end-requires Inv-loop μ-loop
-end-requires c κs = search needs
+tab-end-requires : tie.Need-tab-end-requires Inv-loop μ-loop
+tab-end-requires c κs = search needs
 
 closes-requires : tie.Need-closes-requires Inv-loop μ-loop
 closes-requires c κs = search needs
@@ -135,20 +135,20 @@ put-requires c κs =
     room-left _ _ _ (c .before .before .before .before .before .before .before .before .before .before .before .before .before .before .pre .1)
     (c .before .before .before .before .before .before .before .is-full .ensures) (c .before .before .before .before .before .before .if1 .left)
 
+add-t24 : tie.Need-add-t24 Inv-loop μ-loop
+add-t24 c = omega (arith, closing (c .before .before .before .before .before))
+
 add-t25 : tie.Need-add-t25 Inv-loop μ-loop
 add-t25 c = omega (arith, closing (c .before .before .before .before .before))
 
-add-t26 : tie.Need-add-t26 Inv-loop μ-loop
-add-t26 c = omega (arith, closing (c .before .before .before .before .before))
+sub-t26 : tie.Need-sub-t26 Inv-loop μ-loop
+sub-t26 c = search needs
 
-sub-t27 : tie.Need-sub-t27 Inv-loop μ-loop
-sub-t27 c = search needs
+add-t27 : tie.Need-add-t27 Inv-loop μ-loop
+add-t27 c = omega (arith, closing (c .before .before .before .before .before))
 
 add-t28 : tie.Need-add-t28 Inv-loop μ-loop
 add-t28 c = omega (arith, closing (c .before .before .before .before .before))
-
-add-t29 : tie.Need-add-t29 Inv-loop μ-loop
-add-t29 c = omega (arith, closing (c .before .before .before .before .before))
 
 same-length : tie.Need-same-length Inv-loop μ-loop
 same-length c = search needs
@@ -178,7 +178,7 @@ read-content-spec =
     refused-requires
     returns-2
     loop-holds
-    end-requires
+    tab-end-requires
     closes-requires
     read-line-requires
     enum-known-line
@@ -190,10 +190,10 @@ read-content-spec =
     cast-nameless-2
     nameless-requires
     put-requires
+    add-t24
     add-t25
-    add-t26
-    sub-t27
+    sub-t26
+    add-t27
     add-t28
-    add-t29
     same-length
     returns-4)

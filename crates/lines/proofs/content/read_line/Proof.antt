@@ -16,8 +16,8 @@ returns c =
     λ w unclosed.
     c .line-rest .ensures ∙ line-shallow _ w _ _ _ (c .before .before .before .pre) unclosed (c .before .if1 .taken)
 
-end-requires : tie.Need-end-requires
-end-requires c κs = search needs
+text-end-requires : tie.Need-text-end-requires
+text-end-requires c κs = search needs
 
 line-end-requires : tie.Need-line-end-requires
 line-end-requires c κs = search needs
@@ -26,7 +26,7 @@ returns-2 : tie.Need-returns-2
 returns-2 c =
     λ w unclosed.
     c .line-end .ensures
-    ∙ line-deep _ w _ _ _ (c .before .before .before .before .pre) unclosed _ (c .before .before .if1 .left) (c .before .end .ensures)
+    ∙ line-deep _ w _ _ _ (c .before .before .before .before .pre) unclosed _ (c .before .before .if1 .left) (c .before .text-end .ensures)
 
 pub read-line-spec : {M : Type 1} → statement M
-read-line-spec = tie.close (tie.spec sub-if1 line-rest-requires returns end-requires line-end-requires returns-2)
+read-line-spec = tie.close (tie.spec sub-if1 line-rest-requires returns text-end-requires line-end-requires returns-2)

@@ -25,11 +25,11 @@ abbrev μ-loop : tie.MeasureT-loop
 loop-holds : tie.Need-loop-holds Inv-loop μ-loop
 loop-holds c = (refl, λ t ls e f r. lines-all t _ _ ls e r)
 
-end-requires : tie.Need-end-requires Inv-loop μ-loop
-end-requires c κs = search needs
+tab-end-requires : tie.Need-tab-end-requires Inv-loop μ-loop
+tab-end-requires c κs = search needs
 
-end-requires-2 : tie.Need-end-requires-2 Inv-loop μ-loop
-end-requires-2 c κs = search needs
+text-end-requires : tie.Need-text-end-requires Inv-loop μ-loop
+text-end-requires c κs = search needs
 
 sub-put-line : tie.Need-sub-put-line Inv-loop μ-loop
 sub-put-line c = search needs
@@ -59,8 +59,8 @@ loop-again c =
     let top = at-loop .before .before .before in (
       omega arith,
       λ t ls e f r. lines-on t (top .args .tabs) (top .args .lines .now) ls (at-loop .loop .i) (at-loop .loop .inv .1 t ls e f r)
-          (at-loop-test .loop-test .taken) (top .args .cut) (at-end .end2 .result) (c .line-after .result) f
-          (line-end (top .args .lines .now) (at-loop .loop .i) _ _ (at-mark .end .ensures) (at-end .end2 .ensures))
+          (at-loop-test .loop-test .taken) (top .args .cut) (at-end .text-end .result) (c .line-after .result) f
+          (line-end (top .args .lines .now) (at-loop .loop .i) _ _ (at-mark .tab-end .ensures) (at-end .text-end .ensures))
           (c .line-after .ensures) (at-put-line .put-line .ensures),
     )
 
@@ -77,8 +77,8 @@ put-lines-spec =
     Inv-loop
     μ-loop
     loop-holds
-    end-requires
-    end-requires-2
+    tab-end-requires
+    text-end-requires
     sub-put-line
     part-put-line-start
     part-put-line-end

@@ -1,4 +1,4 @@
--- The invariant: so many bytes were looked at. The measure is what is left of the 16. Assumes nothing.
+-- The invariant: so many bytes were looked at. The measure is what is left of the 8. Assumes nothing.
 use Prim.Native.Nat.{_-_}
 use mathlib.Core.Logic.{⊎-elim}
 use native.Mathlib.Omega.{arith}
@@ -10,10 +10,10 @@ use Rattle.text.proofs.runs.are_text.Statement.{statement}
 use Rattle.text.proofs.runs.are_text.Tie as tie
 
 abbrev Inv-loop : tie.InvT-loop
-Inv-loop s at all₀ i₀ all i = Looked (inClass Class.Text) s at 16 all i
+Inv-loop s at all₀ i₀ all i = Looked (inClass Class.Text) s at 8 all i
 
 abbrev μ-loop : tie.MeasureT-loop
-μ-loop s at all₀ i₀ all i = 16 - i
+μ-loop s at all₀ i₀ all i = 8 - i
 
 loop-holds : tie.Need-loop-holds Inv-loop μ-loop
 loop-holds c = looked-none _ _ _ _ (omega arith)

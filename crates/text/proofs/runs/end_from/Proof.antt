@@ -1,19 +1,18 @@
 -- The invariant: the run from `i` on ends where the run from `at` on ends.
 -- The measure is what is left of the slice.
-use Prim.Native.Nat.{_+_, _≤_, _-_}
-use mathlib.Core.Path.{_≡_, sym, _∙_}
+use Prim.Native.Nat.{_-_}
+use mathlib.Core.Path.{sym, _∙_}
 use native.Mathlib.Omega.{arith}
-use lib.ListN.{length, drop}
+use lib.ListN.{length}
 use borrow.Author.Needs.{needs}
 use borrow.Author.Tests.{not-true, not-false}
-use Rattle.paper.specs.Bytes.{lengthIn}
-use Rattle.text.specs.Runs.{inClass}
-use Rattle.text.proofs.Stretch.{goes-on, stops, cut-off}
+use Rattle.text.specs.Runs.{inClass, Skips}
+use Rattle.text.proofs.Stretch.{run-on, run-stops, run-over}
 use Rattle.text.proofs.runs.end_from.Statement.{statement}
 use Rattle.text.proofs.runs.end_from.Tie as tie
 
 abbrev Inv-loop : tie.InvT-loop
-Inv-loop s at class i₀ i = (at ≤ i) × (i ≤ length s) × (i + lengthIn (inClass class) (drop i s) ≡ at + lengthIn (inClass class) (drop at s))
+Inv-loop s at class i₀ i = Skips (inClass class) s at i
 
 abbrev μ-loop : tie.MeasureT-loop
 μ-loop s at class i₀ i = length s - i
@@ -31,7 +30,7 @@ returns : tie.Need-returns Inv-loop μ-loop
 returns c =
     let turn = c .before .before .before in
     let other = sym (c .before .is-in .ensures) ∙ not-true _ (c .if1 .taken) in
-    (sym (stops _ _ _ (turn .loop-test .taken) other) ∙ turn .before .loop .inv .2, omega arith, omega arith)
+    run-stops _ _ _ _ (turn .before .loop .inv) (turn .loop-test .taken) other
 
 add-i : tie.Need-add-i Inv-loop μ-loop
 add-i c = omega arith
@@ -43,10 +42,10 @@ loop-again : tie.Need-loop-again Inv-loop μ-loop
 loop-again c =
     let turn = c .before .before .before in
     let byte = sym (c .before .is-in .ensures) ∙ not-false _ (c .if1 .left) in
-    (omega arith, omega arith, sym (goes-on _ _ _ (turn .loop-test .taken) byte) ∙ turn .before .loop .inv .2)
+    run-on _ _ _ _ (turn .before .loop .inv) (turn .loop-test .taken) byte
 
 returns-2 : tie.Need-returns-2 Inv-loop μ-loop
-returns-2 c = (sym (cut-off _ _ _ (c .loop-test .left)) ∙ c .before .loop .inv .2, omega arith, omega arith)
+returns-2 c = run-over _ _ _ _ (c .before .loop .inv) (c .loop-test .left)
 
 pub end-from-spec : {M : Type 1} → statement M
 end-from-spec =
