@@ -1,13 +1,10 @@
+-- Safe and ending: the measure is how many cells are left. Assumes nothing.
 use borrow.Author.Needs.{needs}
 use Prim.Native.Nat.{_≤_, _-_}
 use native.Mathlib.Omega.{arith}
 use lib.ListN.{length}
 use Rattle.roll.proofs.print.record.Statement.{statement}
 use Rattle.roll.proofs.print.record.Tie as tie
-use Rattle.roll.proofs.print.record.Reads as reads
-use Rattle.roll.proofs.print.record.Lts as lts
-use Rattle.roll.proofs.print.cell.Reads as cell-reads
-use Rattle.roll.proofs.print.text.Reads as text-reads
 
 abbrev Inv-loop : tie.InvT-loop
 Inv-loop cells i₀ t3 t4 i = i ≤ length cells
@@ -15,59 +12,45 @@ Inv-loop cells i₀ t3 t4 i = i ≤ length cells
 abbrev μ-loop : tie.MeasureT-loop
 μ-loop cells i₀ t3 t4 i = length cells - i
 
--- src/print.rt:31:5
 loop-holds : tie.Need-loop-holds Inv-loop μ-loop
 loop-holds c = search needs
 
--- src/print.rt:32:27
 slice-aggregate-text : tie.Need-slice-aggregate-text Inv-loop μ-loop
 slice-aggregate-text c = search needs
 
--- src/print.rt:32:22
 text-requires : tie.Need-text-requires Inv-loop μ-loop
 text-requires c κs = search needs
 
--- src/print.rt:33:13
 returns : tie.Need-returns Inv-loop μ-loop
 returns c = search needs
 
--- src/print.rt:35:18
 mul-cell : tie.Need-mul-cell Inv-loop μ-loop
 mul-cell c = search needs
 
--- src/print.rt:35:18
 shared-slice-read-cell : tie.Need-shared-slice-read-cell Inv-loop μ-loop
 shared-slice-read-cell c = search needs
 
--- src/print.rt:35:13
 cell-requires : tie.Need-cell-requires Inv-loop μ-loop
 cell-requires c κs = search needs
 
--- src/print.rt:36:13
 returns-2 : tie.Need-returns-2 Inv-loop μ-loop
 returns-2 c = search needs
 
--- src/print.rt:38:9
 add-i : tie.Need-add-i Inv-loop μ-loop
 add-i c = omega arith
 
--- src/print.rt:31:5
 loop-less : tie.Need-loop-less Inv-loop μ-loop
 loop-less c = omega arith
 
--- src/print.rt:31:5
 loop-again : tie.Need-loop-again Inv-loop μ-loop
 loop-again c = omega arith
 
--- src/print.rt:40:10
 slice-aggregate-text-2 : tie.Need-slice-aggregate-text-2 Inv-loop μ-loop
 slice-aggregate-text-2 c = search needs
 
--- src/print.rt:40:5
 text-requires-2 : tie.Need-text-requires-2 Inv-loop μ-loop
 text-requires-2 c κs = search needs
 
--- src/print.rt:29:1
 returns-3 : tie.Need-returns-3 Inv-loop μ-loop
 returns-3 c = search needs
 

@@ -1,10 +1,8 @@
+-- Safe and ending: the measure is how many records are left. Assumes nothing.
 use Prim.Native.Nat.{_≤_, _-_}
 use native.Mathlib.Omega.{arith}
 use Rattle.roll.proofs.print.records.Statement.{statement}
 use Rattle.roll.proofs.print.records.Tie as tie
-use Rattle.roll.proofs.print.records.Reads as reads
-use Rattle.roll.proofs.print.records.Lts as lts
-use Rattle.roll.proofs.print.record.Reads as record-reads
 
 abbrev Inv-loop : tie.InvT-loop
 Inv-loop cells count i₀ i = i ≤ count
@@ -12,55 +10,42 @@ Inv-loop cells count i₀ i = i ≤ count
 abbrev μ-loop : tie.MeasureT-loop
 μ-loop cells count i₀ i = count - i
 
--- src/print.rt:17:5
 loop-holds : tie.Need-loop-holds Inv-loop μ-loop
 loop-holds c = omega arith
 
--- src/print.rt:18:21
 mul-start : tie.Need-mul-start Inv-loop μ-loop
 mul-start c = omega arith
 
--- src/print.rt:19:19
 add-end : tie.Need-add-end Inv-loop μ-loop
 add-end c = omega arith
 
--- src/print.rt:20:20
 mul-record : tie.Need-mul-record Inv-loop μ-loop
 mul-record c = omega arith
 
--- src/print.rt:20:20
 sub-record : tie.Need-sub-record Inv-loop μ-loop
 sub-record c = omega arith
 
--- src/print.rt:20:20
 part-record-start : tie.Need-part-record-start Inv-loop μ-loop
 part-record-start c = omega arith
 
--- src/print.rt:20:20
 part-record-end : tie.Need-part-record-end Inv-loop μ-loop
 part-record-end c = omega arith
 
--- src/print.rt:20:13
 record-requires : tie.Need-record-requires Inv-loop μ-loop
 record-requires c κs = omega arith
 
--- src/print.rt:21:13
 returns : tie.Need-returns Inv-loop μ-loop
 returns c = omega arith
 
--- src/print.rt:23:9
 add-i : tie.Need-add-i Inv-loop μ-loop
 add-i c = omega arith
 
--- src/print.rt:17:5
 loop-less : tie.Need-loop-less Inv-loop μ-loop
 loop-less c = omega arith
 
--- src/print.rt:17:5
 loop-again : tie.Need-loop-again Inv-loop μ-loop
 loop-again c = omega arith
 
--- src/print.rt:13:1
 returns-2 : tie.Need-returns-2 Inv-loop μ-loop
 returns-2 c = omega arith
 

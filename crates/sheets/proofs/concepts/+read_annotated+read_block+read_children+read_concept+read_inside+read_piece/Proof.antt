@@ -707,7 +707,8 @@ read-piece-read-annotated-requires t c κs =
 read-piece-end-line-requires-2 : (t : ℕ) → read-piece-lts.Need-end-line-requires-2 (read-piece-calls t) (read-piece-at t) read-piece.Post
 read-piece-end-line-requires-2 t c κs =
     let read = c .before .before in
-    ends-in (read .before .before .before .before .before .before .before .before .before .before .before .before .before .before .before .before .pre .1 .0) _ (piece-tabs t read) (read .read-annotated .ensures)
+    let top = read .before .before .before .before .before .before .before .before .before .before .before .before .before .before .before .before in
+    ends-in (top .pre .1 .0) _ (piece-tabs t read) (read .read-annotated .ensures)
 
 read-piece-same-length-2 : (t : ℕ) → read-piece-lts.Need-same-length-2 (read-piece-calls t) (read-piece-at t) read-piece.Post
 read-piece-same-length-2 t c = c .before .before .before .read-annotated .kept .1 .1 .1 .1 .0
@@ -715,7 +716,8 @@ read-piece-same-length-2 t c = c .before .before .before .read-annotated .kept .
 read-piece-returns-5 : (t : ℕ) → read-piece-lts.Need-returns-5 (read-piece-calls t) (read-piece-at t) read-piece.Post
 read-piece-returns-5 t c =
     let read = c .before .before .before in
-    line-made (read .before .before .before .before .before .before .before .before .before .before .before .before .before .before .before .before .pre .1 .0) _ (piece-tabs t read) (read .read-annotated .ensures) _ (c .end-line2 .ensures)
+    let top = read .before .before .before .before .before .before .before .before .before .before .before .before .before .before .before .before in
+    line-made (top .pre .1 .0) _ (piece-tabs t read) (read .read-annotated .ensures) _ (c .end-line2 .ensures)
 
 pub +read-annotated+read-block+read-children+read-concept+read-inside+read-piece-spec :
     {M : Type 1} → statement M

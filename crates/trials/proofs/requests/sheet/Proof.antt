@@ -1,75 +1,58 @@
+-- The bytes that were read lie in the rooms; all else is found. Assumes nothing.
 use mathlib.Core.Path.{sym}
 use lib.Seq.{length-take-le}
 use Rattle.trials.proofs.Told.{bytes-fit}
 use borrow.Author.Needs.{needs}
 use Rattle.trials.proofs.requests.sheet.Statement.{statement}
 use Rattle.trials.proofs.requests.sheet.Tie as tie
-use Rattle.trials.proofs.requests.sheet.Reads as reads
-use Rattle.trials.proofs.requests.sheet.Lts as lts
-use Rattle.trials.proofs.hex.read.Reads as read-reads
-use Rattle.trials.proofs.requests.of_sheet.Reads as of-sheet-reads
 
--- src/requests.rt:118:49
 slice-aggregate-read : tie.Need-slice-aggregate-read
 slice-aggregate-read c = search needs
 
--- src/requests.rt:118:32
 read-requires : tie.Need-read-requires
 read-requires c κs = search needs
 
--- src/requests.rt:118:27
 enum-known-t : tie.Need-enum-known-t
 enum-known-t c = search needs
 
--- src/requests.rt:119:9
 enum-told : tie.Need-enum-told
 enum-told c = search needs
 
--- src/requests.rt:119:9
 returns : tie.Need-returns
 returns c = search needs
 
--- src/requests.rt:121:49
 slice-aggregate-read-2 : tie.Need-slice-aggregate-read-2
 slice-aggregate-read-2 c = search needs
 
--- src/requests.rt:121:32
 read-requires-2 : tie.Need-read-requires-2
 read-requires-2 c κs = search needs
 
--- src/requests.rt:121:27
 enum-known-n : tie.Need-enum-known-n
 enum-known-n c = search needs
 
--- src/requests.rt:122:9
 enum-told-2 : tie.Need-enum-told-2
 enum-told-2 c = search needs
 
--- src/requests.rt:122:9
 returns-2 : tie.Need-returns-2
 returns-2 c = search needs
 
--- src/requests.rt:124:22
 array-share-prefix-table-room : tie.Need-array-share-prefix-table-room
-array-share-prefix-table-room c = bytes-fit _ _ _ _ (c .before .before .before .before .before .before .before .before .before .before .read .ensures) (c .before .before .before .before .before .before .before .t .given .1)
+array-share-prefix-table-room c =
+    let at-t = c .before .before .before .before .before .before .before in
+    bytes-fit _ _ _ _ (at-t .before .before .before .read .ensures) (at-t .t .given .1)
 
--- src/requests.rt:124:22
 slice-aggregate-of-sheet : tie.Need-slice-aggregate-of-sheet
 slice-aggregate-of-sheet c = sym (length-take-le _ _ (array-share-prefix-table-room (c .before)))
 
--- src/requests.rt:124:40
 array-share-prefix-sheet-room : tie.Need-array-share-prefix-sheet-room
 array-share-prefix-sheet-room c = bytes-fit _ _ _ _ (c .before .before .before .before .before .read2 .ensures) (c .before .before .n .given .1)
 
--- src/requests.rt:124:40
 slice-aggregate-of-sheet-2 : tie.Need-slice-aggregate-of-sheet-2
 slice-aggregate-of-sheet-2 c = sym (length-take-le _ _ (array-share-prefix-sheet-room (c .before)))
 
--- src/requests.rt:124:5
 of-sheet-requires : tie.Need-of-sheet-requires
 of-sheet-requires c κs = search needs
 
--- src/requests.rt:113:1
 returns-3 : tie.Need-returns-3
 returns-3 c = search needs
 
