@@ -2,10 +2,11 @@
 // Document 01, "The grammar", Names, and "Sizes".
 use text::classes;
 ghost use mathlib.Core.Path.{_≡_};
-ghost use mathlib.Core.Bool.{_&&_};
+ghost use mathlib.Core.Bool.{_&&_, not};
 ghost use Prim.Native.Nat.{_-_, _≤_};
 ghost use lib.ListN.{length};
 ghost use lib.Dec.{leb};
+ghost use Rattle.paper.specs.Bytes.{isUpper, isNameByte};
 ghost use Rattle.paper.specs.Names.{nameLimit, isConceptName};
 ghost use Rattle.names.specs.Runs.{Measures};
 
@@ -42,21 +43,28 @@ pub fn run_at(s: &[u8], at: usize) -> Run
     let mut i = at;
     while i < s.len() {
         let b = s[i];
-        if classes::is_upper(b) {
+        if is_small(b) {
+            capitals = 0;
+        } else {
+            if !classes::is_upper(b) {
+                return judged(at, i, few);
+            }
             if capitals == CAPITALS {
                 few = false;
             } else {
                 capitals += 1;
             }
-        } else {
-            if !classes::is_name_byte(b) {
-                return judged(at, i, few);
-            }
-            capitals = 0;
         }
         i += 1;
     }
     judged(at, i, few)
+}
+
+// Whether the byte is what names are made of, but for capitals: a lower case letter or a digit.
+fn is_small(b: u8) -> bool
+    ensures { λ r. ⌜ r ≡ (isNameByte b && not (isUpper b)) ⌝ }
+{
+    classes::is_lower(b) || classes::is_digit(b)
 }
 
 // The run from `at` to `end`, in which few capitals stand in a row or not, by its length.

@@ -12,13 +12,15 @@ use modes::mode_of;
 use paper::Mode;
 use paper::Refusal;
 use paper::forms;
+use text::classes::is_white;
 use text::nesting::Deeper;
 use text::nesting::Nesting;
 use text::runs;
 use text::runs::Class;
 ghost use mathlib.Core.Path.{_≡_};
-ghost use Prim.Native.Nat.{suc, _≤_, _<_};
+ghost use Prim.Native.Nat.{suc, _+_, _≤_, _<_};
 ghost use lib.ListN.{length, drop};
+ghost use Rattle.paper.specs.Bytes.{isWhite, lengthIn};
 ghost use Rattle.paper.specs.Reading.{head, bounds};
 ghost use Rattle.modes.specs.Table.{Valid};
 ghost use Rattle.entries.specs.Laid.{Fits};
@@ -118,7 +120,7 @@ fn read_marker(
     }
     match read_traits(s, to, cells, slot.under()) {
         Part::Refused { refusal, place } => unopened(refusal, place),
-        Part::Read { end, made, own } => match read_ending(s, runs::end(s, end, Class::White)) {
+        Part::Read { end, made, own } => match read_ending(s, white_end(s, end)) {
             Ending::Refused { refusal, place } => unopened(refusal, place),
             Ending::Closed(end) => Opening::Opened {
                 form: forms::SELF_CLOSED,
@@ -138,6 +140,19 @@ fn read_marker(
             },
         },
     }
+}
+
+// Where the white space that stands at `at` ends. Mostly there is none before the end of a marker, so one byte is looked at first.
+fn white_end(s: &[u8], at: usize) -> usize
+    requires { ⌜ at ≤ length (now s) ⌝ }
+    ensures { λ r. ⌜ (r ≡ at + lengthIn isWhite (drop at (now (s .entry)))) × (at ≤ r) × (r ≤ length (now (s .entry))) ⌝ }
+{
+    if at < s.len() {
+        if !is_white(s[at]) {
+            return at;
+        }
+    }
+    runs::end(s, at, Class::White)
 }
 
 fn unopened(refusal: Refusal, place: usize) -> Opening

@@ -7,7 +7,7 @@ use native.Mathlib.Omega.{arith}
 use lib.ListN.{length}
 use borrow.Author.Needs.{needs}
 use borrow.Author.Tests.{not-true, not-false}
-use Rattle.names.proofs.Rule.{Judged, judged-begin, judged-capital, judged-third, judged-other, measured-here, measured-cut}
+use Rattle.names.proofs.Rule.{Judged, judged-begin, judged-capital, judged-third, judged-other, measured-here, measured-cut, small-other, small-none}
 use Rattle.names.proofs.run_at.Statement.{statement}
 use Rattle.names.proofs.run_at.Tie as tie
 
@@ -23,14 +23,11 @@ loop-holds c = judged-begin _ _ (omega arith)
 shared-slice-read-b : tie.Need-shared-slice-read-b Inv-loop μ-loop
 shared-slice-read-b c = search needs
 
+is-small-requires : tie.Need-is-small-requires Inv-loop μ-loop
+is-small-requires c κs = search needs
+
 is-upper-requires : tie.Need-is-upper-requires Inv-loop μ-loop
 is-upper-requires c κs = search needs
-
-add-capitals : tie.Need-add-capitals Inv-loop μ-loop
-add-capitals c = omega (arith, c .before .before .before .before .before .loop .inv .row)
-
-is-name-byte-requires : tie.Need-is-name-byte-requires Inv-loop μ-loop
-is-name-byte-requires c κs = search needs
 
 judged-requires : tie.Need-judged-requires Inv-loop μ-loop
 judged-requires c κs = c .before .before .before .before .before .before .loop .inv .ahead
@@ -38,8 +35,12 @@ judged-requires c κs = c .before .before .before .before .before .before .loop 
 returns : tie.Need-returns Inv-loop μ-loop
 returns c =
     let turn = c .before .before .before .before .before .before in
-    let no-byte = sym (c .before .before .is-name-byte .ensures) ∙ not-true _ (c .before .if3 .taken) in
+    let other = sym (c .before .before .is-upper .ensures) ∙ not-true _ (c .before .if2 .taken) in
+    let no-byte = small-none _ (c .before .before .before .before .is-small .ensures) (c .before .before .before .if1 .left) other in
     measured-here (turn .before .loop .inv) (turn .loop-test .taken) no-byte _ (c .judged .ensures)
+
+add-capitals : tie.Need-add-capitals Inv-loop μ-loop
+add-capitals c = omega (arith, c .before .before .before .before .before .before .before .loop .inv .row)
 
 add-i : tie.Need-add-i Inv-loop μ-loop
 add-i c = omega arith
@@ -51,12 +52,12 @@ loop-again : tie.Need-loop-again Inv-loop μ-loop
 loop-again c =
     let turn = c .before .before .before in
     let so-far = turn .before .loop .inv in
-    let upper = c .before .is-upper .ensures in
+    let here = turn .loop-test .taken in
     ⊎-elim
-    (λ w. rw (w .2, w .3) (judged-third so-far (turn .loop-test .taken) (sym upper ∙ w .0 .taken) (omega (arith, w .1 .taken))))
+    (λ w. let small = small-other _ (c .before .is-small .ensures) (w .0 .taken) in rw (w .1, w .2) (judged-other so-far here (small .0) (small .1)))
     (⊎-elim
-    (λ w. rw (w .2, w .3) (judged-capital so-far (turn .loop-test .taken) (sym upper ∙ w .0 .taken) (omega (arith, w .1 .left, so-far .row))))
-    (λ w. rw (w .3, w .4) (judged-other so-far (turn .loop-test .taken) (sym upper ∙ w .0 .left) (sym (w .1 .ensures) ∙ not-false _ (w .2 .left)))))
+    (λ w. rw (w .4, w .5) (judged-third so-far here (sym (w .1 .ensures) ∙ not-false _ (w .2 .left)) (omega (arith, w .3 .taken))))
+    (λ w. rw (w .4, w .5) (judged-capital so-far here (sym (w .1 .ensures) ∙ not-false _ (w .2 .left)) (omega (arith, w .3 .left, so-far .row)))))
     (c .if1 .came)
 
 judged-requires-2 : tie.Need-judged-requires-2 Inv-loop μ-loop
@@ -73,11 +74,11 @@ run-at-spec =
     μ-loop
     loop-holds
     shared-slice-read-b
+    is-small-requires
     is-upper-requires
-    add-capitals
-    is-name-byte-requires
     judged-requires
     returns
+    add-capitals
     add-i
     loop-less
     loop-again

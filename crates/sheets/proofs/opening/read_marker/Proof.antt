@@ -11,14 +11,14 @@ use Rattle.sheets.proofs.opening.read_marker.Tie as tie
 traits : (c : tie.After-read-ending) → let start =
     c .before .before .before .before .before .before .before .before .before .before .before .before .before .before .args in
     TraitsAt (start .s .now) (start .start) (start .to) (start .cells .now) (start .slot)
-    (c .before .before .before .before .before .before .before .read-traits .last .1 .1 .0) (c .before .end2 .result) (c .before .before .before .end .given .0 .1 .0)
+    (c .before .before .before .before .before .before .before .read-traits .last .1 .1 .0) (c .before .white-end .result) (c .before .before .before .end .given .0 .1 .0)
     (c .before .before .before .end .given .0 .1 .1 .0)
 traits c =
     let at-read-traits = c .before .before .before .before .before .before .before in
     let at-if = at-read-traits .before .before .before in
     let top = at-if .before .before .before .before in
     marker-traits (top .pre .0) (top .pre .2) (top .pre .1) (top .args .block) (at-if .before .is-full .ensures) (at-if .if1 .left)
-    (at-read-traits .before .under .ensures) (at-read-traits .read-traits .ensures) (c .before .before .before .end .given .1) (c .before .end2 .ensures)
+    (at-read-traits .before .under .ensures) (at-read-traits .read-traits .ensures) (c .before .before .before .end .given .1) (c .before .white-end .ensures)
 
 is-full-requires : tie.Need-is-full-requires
 is-full-requires c κs = search needs
@@ -50,14 +50,14 @@ unopened-requires-2 c κs = search needs
 enum-known-end : tie.Need-enum-known-end
 enum-known-end c = search needs
 
-end-requires : tie.Need-end-requires
-end-requires c κs =
+white-end-requires : tie.Need-white-end-requires
+white-end-requires c κs =
     let at-read-traits = c .before .before .before .before .before in
     let top = at-read-traits .before .before .before .before .before .before .before in
     traits-inside (top .pre .0) (top .pre .2) _ (at-read-traits .read-traits .ensures) (c .before .end .given .1)
 
 read-ending-requires : tie.Need-read-ending-requires
-read-ending-requires c κs = c .end2 .ensures .2
+read-ending-requires c κs = c .white-end .ensures .2
 
 enum-known-refusal-2 : tie.Need-enum-known-refusal-2
 enum-known-refusal-2 c = search needs
@@ -94,13 +94,13 @@ same-length-3 : tie.Need-same-length-3
 same-length-3 c = search needs
 
 returns-4 : tie.Need-returns-4
-returns-4 c = marker-read (traits (c .before .before .before)) _ _ (c .before .before .before .read-ending .ensures) self (c .before .end3 .given .1) refl refl
+returns-4 c = marker-read (traits (c .before .before .before)) _ _ (c .before .before .before .read-ending .ensures) self (c .before .end2 .given .1) refl refl
 
 same-length-4 : tie.Need-same-length-4
 same-length-4 c = search needs
 
 returns-5 : tie.Need-returns-5
-returns-5 c = marker-read (traits (c .before .before .before)) _ _ (c .before .before .before .read-ending .ensures) block (c .before .end4 .given .1) refl refl
+returns-5 c = marker-read (traits (c .before .before .before)) _ _ (c .before .before .before .read-ending .ensures) block (c .before .end3 .given .1) refl refl
 
 pub read-marker-spec : {M : Type 1} → statement M
 read-marker-spec =
@@ -114,7 +114,7 @@ read-marker-spec =
     enum-known-refusal
     unopened-requires-2
     enum-known-end
-    end-requires
+    white-end-requires
     read-ending-requires
     enum-known-refusal-2
     unopened-requires-3
