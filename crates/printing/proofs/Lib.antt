@@ -6,6 +6,7 @@ pub mod Three
 pub mod Slashes
 pub mod Marking
 pub mod LineTexts
+pub mod Staying
 pub mod NoteLaws
 pub mod BodyLaws
 pub mod ConceptLaws

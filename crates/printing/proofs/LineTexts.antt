@@ -21,7 +21,7 @@ use Rattle.text.proofs.Places.{front-behind}
 use Rattle.text.proofs.Stretch.{Stretch, front-at, behind-at, skips-end, skips-some, blank-text, tab-text}
 use Rattle.entries.specs.Laid.{entryAt}
 use Rattle.quoting.specs.Page.{page, Puts}
-use Rattle.printing.specs.Texts.{inked, PastEnd}
+use Rattle.printing.specs.Texts.{inked, PastEnd, LinesStay}
 use Rattle.printing.specs.Walking.{OfContent}
 use Rattle.printing.proofs.Standing.{stand-entry}
 use Rattle.quoting.proofs.Parts.{part-is}
@@ -107,7 +107,7 @@ isText b = not (isLineEnd b)
 pub line-end : (w : List ℕ) (i mark end : ℕ) → Stretch isTab w i mark → Stretch isText w mark end → Stretch isText w i end
 line-end w i mark end tabbed run = skips-end isText w i mark end (skips-some isTab isText tab-text w i mark tabbed) run
 
-end-stops : (e : LineEnd) (next : List ℕ) → startsIn isText (lineEndOnto e next) ≡ false
+pub end-stops : (e : LineEnd) (next : List ℕ) → startsIn isText (lineEndOnto e next) ≡ false
 unfolding startsIn isLineEnd
 end-stops LF next = refl
 end-stops CRLF next = refl
@@ -116,6 +116,13 @@ drop-blanks : (n : ℕ) (t : List ℕ) → all isBlank t ≡ true → all isBlan
 drop-blanks zero t a = a
 drop-blanks (suc n) [] a = a
 drop-blanks (suc n) (b ∷ t) a = drop-blanks n t (all-head isBlank b t a .1)
+
+-- what stands in front of a line's end is text
+pub blanks-text : (w : List ℕ) → all isBlank w ≡ true → all isText w ≡ true
+blanks-text w r = all-weaken isBlank isText blank-text w r
+
+pub line-text : (t : ℕ) (w : List ℕ) → all isText w ≡ true → all isText (replicate (suc t) tab ++ w) ≡ true
+line-text t w r = all-append isText (replicate (suc t) tab) w (blanks-text (replicate (suc t) tab) (all-tabs (suc t))) r
 
 -- the bytes in front of a line's end
 record Shape (t : ℕ) (l : Line) (left : List ℕ) : Type 0 where
@@ -131,7 +138,7 @@ shape t (blank b) left r =
       front-bytes = b .blanks;
       end = b .end;
       is = refl;
-      on-line = all-weaken isBlank isText blank-text (b .blanks) r;
+      on-line = blanks-text (b .blanks) r;
       means = no-ink (drop (suc t) (b .blanks)) (drop-blanks (suc t) (b .blanks) r);
     }
 shape t (text w e) left r =
@@ -142,7 +149,7 @@ shape t (text w e) left r =
       front-bytes = tabs ++ w;
       end = e;
       is = sym (append-assoc tabs w (lineEndOnto e left));
-      on-line = all-append isText tabs w (all-weaken isBlank isText blank-text tabs (all-tabs (suc t))) (h .1);
+      on-line = line-text t w (h .1);
       means = ap inked past ∙ all-ink w (not-true (all isBlank w) (h .0));
     }
 
@@ -201,6 +208,20 @@ module _ (t tabs : ℕ) (w : List ℕ) {out₀ : List ℕ} {at : ℕ} (ls : List
     unfolding lineRun
     lines-on h cut end n {after} {past} c run f p =
         left-on (lineRun t tabs) w out₀ at ls i out to so-far h n after past (line-put w i t cut tabs end n c run f p)
+
+    -- lines that are printed as they stand
+    pub lines-stay : (cut next : ℕ) {after : List ℕ} {past : ℕ} → cut ≡ suc t → LinesStay w cut tabs i next
+        → Puts out to (λ more. take (next - i) (drop i w) ++ more) after past
+        → Left (lineRun t tabs) w out₀ at ls next after past
+    unfolding lineRun
+    lines-stay cut next c stay p =
+        let x = stay .rest t (so-far .more) (so-far .stands) c (so-far .kept) in
+        record {
+          more = x .left;
+          stands = x .stands;
+          kept = x .kept;
+          same = λ more. so-far .same more ∙ ap (page out to) (x .same more) ∙ p .same (printLines tabs (map lineSense (x .left)) more);
+        }
 
     pub lines-over : length w ≤ i → Puts out₀ at (printLines tabs (map lineSense ls)) out to
     unfolding lineRun

@@ -11,13 +11,13 @@ use text::parts::starts_with;
 use text::runs;
 use text::runs::Class;
 ghost use mathlib.Core.Path.{_≡_};
-ghost use Prim.Native.Nat.{_≤_};
+ghost use Prim.Native.Nat.{_≤_, _<_};
 ghost use lib.ListN.{length, drop};
 ghost use Rattle.paper.specs.Bytes.{lengthIn};
 ghost use Rattle.paper.specs.Reading.{isTab};
 ghost use Rattle.paper.specs.Canonical.{printLine};
 ghost use Rattle.quoting.specs.Page.{Puts};
-ghost use Rattle.printing.specs.Texts.{inked, PastEnd, LinesPut};
+ghost use Rattle.printing.specs.Texts.{inked, LineStays, LinesStay, PastEnd, LinesPut};
 ghost use Rattle.printing.specs.Walking.{ContentPut};
 
 // Puts the lines of the Content of entry n, with their text at so many tabs. The closing line behind them has the tabs of their marker.
@@ -52,19 +52,67 @@ fn tabs_at(s: &[u8], at: usize) -> usize
     runs::tab_end(s, at) - at
 }
 
-// Puts lines whose text stands behind `cut` tabs, with their text at so many tabs.
+// Puts lines whose text stands behind `cut` tabs, with their text at so many tabs. Those that stay as they are go in one copy.
 fn put_lines(out: &mut [u8], at: usize, lines: &[u8], cut: usize, tabs: usize) -> usize
     ensures { λ r. ⌜ LinesPut (now (lines .entry)) cut tabs (now (out .entry)) at (now (out .exit)) r ⌝ }
 {
     let mut to = at;
     let mut i = 0;
     while i < lines.len() {
-        let mark = runs::tab_end(lines, i);
-        let end = runs::text_end(lines, mark);
-        to = put_line(out, to, &lines[i..end], cut, tabs);
-        i = line_after(lines, end);
+        let next = past_staying(lines, i, cut, tabs);
+        if i < next {
+            to = put(out, to, &lines[i..next]);
+            i = next;
+        } else {
+            let end = runs::text_end(lines, runs::tab_end(lines, i));
+            to = put_line(out, to, &lines[i..end], cut, tabs);
+            i = line_after(lines, end);
+        }
     }
     to
+}
+
+// Past whole lines at `at` that are put as they stand.
+fn past_staying(lines: &[u8], at: usize, cut: usize, tabs: usize) -> usize
+    requires { ⌜ at ≤ length (now lines) ⌝ }
+    ensures { λ r. ⌜ LinesStay (now (lines .entry)) cut tabs at r ⌝ }
+{
+    if cut != tabs {
+        return at;
+    }
+    let mut i = at;
+    loop {
+        let next = past_line(lines, i);
+        if next <= i {
+            return i;
+        }
+        i = next;
+    }
+}
+
+// Past the line at `at` if it is put as it stands, an empty one or text with no space behind its tabs, and LF behind it; or else `at`.
+fn past_line(s: &[u8], at: usize) -> usize
+    requires { ⌜ at ≤ length (now s) ⌝ }
+    ensures { λ r. ⌜ (at < r → LineStays (now (s .entry)) at r) ⌝ }
+{
+    let mark = runs::tab_end(s, at);
+    let end = runs::text_end(s, mark);
+    if end == s.len() {
+        return at;
+    }
+    if s[end] != b'\n' {
+        return at;
+    }
+    if end == at {
+        return end + 1;
+    }
+    if mark == end {
+        return at;
+    }
+    if s[mark] == b' ' {
+        return at;
+    }
+    end + 1
 }
 
 // Puts a line whose text stands behind `cut` bytes: the text at so many tabs, or an empty line where it is only spaces and tabs.

@@ -10,7 +10,7 @@ use Rattle.paper.specs.Bytes.{all}
 use Rattle.paper.specs.Tree.{Line}
 use Rattle.paper.specs.Grammar.{linesOnto, lineRule}
 use Rattle.quoting.proofs.Sequences.{Left}
-use Rattle.printing.proofs.LineTexts.{lineRun, lines-all, line-end, lines-on, lines-over}
+use Rattle.printing.proofs.LineTexts.{lineRun, lines-all, line-end, lines-on, lines-stay, lines-over}
 use Rattle.printing.proofs.content.put_lines.Statement.{statement}
 use Rattle.printing.proofs.content.put_lines.Tie as tie
 
@@ -24,6 +24,35 @@ abbrev μ-loop : tie.MeasureT-loop
 
 loop-holds : tie.Need-loop-holds Inv-loop μ-loop
 loop-holds c = (refl, λ t ls e f r. lines-all t _ _ ls e r)
+
+past-staying-requires : tie.Need-past-staying-requires Inv-loop μ-loop
+past-staying-requires c κs = search needs
+
+sub-put : tie.Need-sub-put Inv-loop μ-loop
+sub-put c = search needs
+
+part-put-start : tie.Need-part-put-start Inv-loop μ-loop
+part-put-start c = search needs
+
+part-put-end : tie.Need-part-put-end Inv-loop μ-loop
+part-put-end c = c .before .before .past-staying .ensures .inside
+
+put-requires : tie.Need-put-requires Inv-loop μ-loop
+put-requires c κs = search needs
+
+loop-less : tie.Need-loop-less Inv-loop μ-loop
+loop-less c = omega (arith, c .before .before .before .before .before .before .past-staying .ensures .inside)
+
+loop-again : tie.Need-loop-again Inv-loop μ-loop
+loop-again c =
+    let at-put = c .before .before in
+    let at-past-staying = at-put .before .before .before .before in
+    let at-loop = at-past-staying .before .before in
+    let top = at-loop .before .before .before in (
+      omega arith,
+      λ t ls e f r. lines-stay t (top .args .tabs) (top .args .lines .now) ls (at-loop .loop .i) (at-loop .loop .inv .1 t ls e f r) (top .args .cut) _ f
+          (at-past-staying .past-staying .ensures) (at-put .put .ensures),
+    )
 
 tab-end-requires : tie.Need-tab-end-requires Inv-loop μ-loop
 tab-end-requires c κs = search needs
@@ -46,21 +75,21 @@ put-line-requires c κs = search needs
 line-after-requires : tie.Need-line-after-requires Inv-loop μ-loop
 line-after-requires c κs = search needs
 
-loop-less : tie.Need-loop-less Inv-loop μ-loop
-loop-less c = omega arith
+loop-less-2 : tie.Need-loop-less-2 Inv-loop μ-loop
+loop-less-2 c = omega arith
 
-loop-again : tie.Need-loop-again Inv-loop μ-loop
-loop-again c =
+loop-again-2 : tie.Need-loop-again-2 Inv-loop μ-loop
+loop-again-2 c =
     let at-put-line = c .before .before .before in
-    let at-end = at-put-line .before .before .before in
-    let at-mark = at-end .before in
-    let at-loop-test = at-mark .before in
+    let at-text-end = at-put-line .before .before .before in
+    let at-tab-end = at-text-end .before in
+    let at-loop-test = at-tab-end .before .before .before in
     let at-loop = at-loop-test .before in
     let top = at-loop .before .before .before in (
       omega arith,
       λ t ls e f r. lines-on t (top .args .tabs) (top .args .lines .now) ls (at-loop .loop .i) (at-loop .loop .inv .1 t ls e f r)
-          (at-loop-test .loop-test .taken) (top .args .cut) (at-end .text-end .result) (c .line-after .result) f
-          (line-end (top .args .lines .now) (at-loop .loop .i) _ _ (at-mark .tab-end .ensures) (at-end .text-end .ensures))
+          (at-loop-test .loop-test .taken) (top .args .cut) (at-text-end .text-end .result) (c .line-after .result) f
+          (line-end (top .args .lines .now) (at-loop .loop .i) _ _ (at-tab-end .tab-end .ensures) (at-text-end .text-end .ensures))
           (c .line-after .ensures) (at-put-line .put-line .ensures),
     )
 
@@ -77,6 +106,13 @@ put-lines-spec =
     Inv-loop
     μ-loop
     loop-holds
+    past-staying-requires
+    sub-put
+    part-put-start
+    part-put-end
+    put-requires
+    loop-less
+    loop-again
     tab-end-requires
     text-end-requires
     sub-put-line
@@ -84,7 +120,7 @@ put-lines-spec =
     part-put-line-end
     put-line-requires
     line-after-requires
-    loop-less
-    loop-again
+    loop-less-2
+    loop-again-2
     same-length
     returns)
