@@ -13,7 +13,7 @@ use Rattle.paper.specs.Canonical.{lower}
 use Rattle.paper.proofs.Tests.{true-false}
 use Rattle.text.proofs.Places.{here}
 use Rattle.quoting.specs.Page.{page, Puts}
-use Rattle.quoting.proofs.Putting.{copies-more}
+use Rattle.quoting.proofs.Putting.{stores-more}
 
 -- a turn of the loop that copies in lower case
 pub lower-more : (w out : List ℕ) (at i b : ℕ) → i < length w → b ≡ lower (getD w i 0)
@@ -21,7 +21,7 @@ pub lower-more : (w out : List ℕ) (at i b : ℕ) → i < length w → b ≡ lo
 unfolding lower isUpper
 lower-more w out at i b h e =
     let q : b ≡ getD (map lower w) i 0 = e ∙ sym (List·getD-map lower w i 0) in
-    rw q (copies-more out (map lower w) at i (omega (arith, length-map w lower)))
+    stores-more out (map lower w) at i b (omega (arith, length-map w lower)) q
 
 -- what is left to put: in front of the first word, behind a word, or in a gap behind one
 abbrev pub left : Bool → Bool → List ℕ → List ℕ

@@ -8,7 +8,7 @@ use lib.ListN.{length, drop, length-map, length-set}
 use lib.Seq.{sets}
 use borrow.Author.Needs.{needs}
 use Rattle.paper.specs.Canonical.{lower}
-use Rattle.quoting.proofs.Putting.{no-room, stored, copies-end}
+use Rattle.quoting.proofs.Putting.{no-room, stored, stores-end}
 use Rattle.quoting.proofs.Collapsing.{lower-more}
 use Rattle.quoting.proofs.spaced.put_lower.Statement.{statement}
 use Rattle.quoting.proofs.spaced.put_lower.Tie as tie
@@ -79,7 +79,7 @@ returns-3 c =
     let start = turn .before .before .before .before .before in
     let size = length-map (start .args .w .now) lower in
     stored (start .args .out .now) _ (start .args .at) _ (map lower (start .args .w .now))
-    (sym (copies-end (turn .loop .out) (map lower (start .args .w .now)) (start .args .at) (turn .loop .i) (omega arith)) ∙ turn .loop .inv .3) (omega arith)
+    (sym (stores-end (turn .loop .out) (map lower (start .args .w .now)) (start .args .at) (turn .loop .i) (omega arith)) ∙ turn .loop .inv .3) (omega arith)
 
 pub put-lower-spec : {M : Type 1} → statement M
 put-lower-spec =
