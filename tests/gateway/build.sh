@@ -4,7 +4,9 @@
 #   archive LOG             writes target/staticlib/libgateway.a where it is older than the crates; rt's words go to LOG
 #   compile SOURCE PROGRAM  builds a C program
 #   run PROGRAM [WORD..]    runs it
+#   built                   the words in front of a program that rt has built: the kit's loader with the kit's C library
 
+toolchain=$(dirname "$(readlink -f "$(command -v rt)")")/../on/$(uname -m)/toolchain
 case $(uname -m) in
 x86_64)
     compiler=gcc
@@ -12,13 +14,15 @@ x86_64)
     ;;
 aarch64)
     compiler=x86_64-linux-gnu-gcc
-    emulator=("$(dirname "$(readlink -f "$(command -v rt)")")/../on/aarch64/toolchain/bin/qemu-x86_64")
+    emulator=("$toolchain/bin/qemu-x86_64")
     ;;
 *)
     echo "tests/gateway/build.sh: neither x86-64 nor Arm, but $(uname -m)" >&2
     exit 1
     ;;
 esac
+
+built=("${emulator[@]}" "$toolchain/lib/ld-linux-x86-64.so.2" --library-path "$toolchain/lib")
 
 # Only the crate gateway is proved again; what it stands on is taken as rt has proved it, where nothing changed since.
 archive() {
