@@ -22,13 +22,13 @@ use Rattle.sheets.specs.Promises.{ReadsSheet}
 use Rattle.rolls.specs.Promises.{ReadsRoll, AddsSheet}
 
 -- an acceptance of the whole roll with these records, nothing behind them, and entry cells that are zero
-pub record Lists (roll : List ℕ) (es : List Record) (records lent : ℕ) (r : Answer) (after cells : List ℕ) : Type 0 where
+pub record ListsAll (roll : List ℕ) (es : List Record) (records lent : ℕ) (r : Answer) (after cells : List ℕ) : Type 0 where
   pub answer : r ≡ Accepted (length roll) (length es)
   pub are : after ≡ filledRecords records es
   pub zeros : cells ≡ replicate lent 0
 
 lists : {x : RollReading} {roll : List ℕ} {records lent : ℕ} {r : Answer} {after cells : List ℕ} (es : List Record)
-    → record { answer = told r; records = after; cells = cells } ≡ x → x ≡ listing roll es records lent → Lists roll es records lent r after cells
+    → record { answer = told r; records = after; cells = cells } ≡ x → x ≡ listing roll es records lent → ListsAll roll es records lent r after cells
 lists {roll = roll} {r = r} es e l =
     let q = e ∙ l in
     record {
@@ -46,17 +46,17 @@ as-its-bytes-alone table p lent at r cells e = ap (λ (x : Reading). record { st
 
 -- A roll that `read` accepts is what stands before its first boundary, which is blank, and its sheets, each of which begins at a boundary and holds no other; there is
 -- a record for each, in order.
-pub record EachAlone (table roll : List ℕ) (records lent : ℕ) (r : Answer) (after cells : List ℕ) : Type 0 where
+pub record ReadAlone (table roll : List ℕ) (records lent : ℕ) (r : Answer) (after cells : List ℕ) : Type 0 where
   pub lead : List ℕ
   pub sheets : List (List ℕ)
   pub all : lead ++ together sheets ≡ roll
   pub blank : Still true lead
   pub begin : Singles sheets
   pub many : length sheets ≤ rollRoom records
-  pub lists : Lists roll (recordsOf table lent (length lead) sheets) records lent r after cells
+  pub lists : ListsAll roll (recordsOf table lent (length lead) sheets) records lent r after cells
 
 pub read-each-alone : (table roll : List ℕ) (records lent place many : ℕ) (after cells : List ℕ)
-    → ReadsRoll table roll records lent (Accepted place many) after cells → EachAlone table roll records lent (Accepted place many) after cells
+    → ReadsRoll table roll records lent (Accepted place many) after cells → ReadAlone table roll records lent (Accepted place many) after cells
 read-each-alone table roll records lent place many after cells e =
     let a = each-alone table roll records lent place many (sym (ap (λ (x : RollReading). x .answer) e)) in
     record {
@@ -98,22 +98,22 @@ module _ (table roll : List ℕ) (before : List (List ℕ)) (p : List ℕ) (othe
   with h = together (before ++ (h ∷ others))
 
   -- `read` lists both rolls: the other sheets' records are the same, those behind p moved to where h ends
-  abbrev pub StaysHome : List ℕ → Type 0
-  StaysHome h =
+  abbrev pub ReadAtHome : List ℕ → Type 0
+  ReadAtHome h =
       (r r′ : Answer) (after after′ cells cells′ : List ℕ) → ReadsRoll table roll records lent r after cells → ReadsRoll table (with h) records lent r′ after′ cells′
-      → Lists roll (recordsAround table lent before p others) records lent r after cells
-      × Lists (with h) (recordsAround table lent before h others) records lent r′ after′ cells′
+      → ListsAll roll (recordsAround table lent before p others) records lent r after cells
+      × ListsAll (with h) (recordsAround table lent before h others) records lent r′ after′ cells′
 
   module _ (kept : Kept table roll) (e : partsOf roll ≡ parts [] (before ++ (p ∷ others))) (short : length roll ≤ rollLimit)
       (many : length (before ++ (p ∷ others)) ≤ rollRoom records) where
-    pub read-hurt-stays-home : (h : List ℕ) → Hurt p h → length (with h) ≤ rollLimit → StaysHome h
+    pub read-hurt-stays-home : (h : List ℕ) → Hurt p h → length (with h) ≤ rollLimit → ReadAtHome h
     read-hurt-stays-home h x l r r′ after after′ cells cells′ a b =
         let s = hurt-stays-home table roll before p others records lent h (kept-written kept) e x short l many in
         (lists (recordsAround table lent before p others) a (s .was), lists (recordsAround table lent before h others) b (s .is))
 
     -- ---- "a sheet that only lost its tail is refused"
 
-    pub read-cut-stays-home : (k : ℕ) → 2 ≤ k → length (with (take k p ++ (lf ∷ []))) ≤ rollLimit → StaysHome (take k p ++ (lf ∷ []))
+    pub read-cut-stays-home : (k : ℕ) → 2 ≤ k → length (with (take k p ++ (lf ∷ []))) ≤ rollLimit → ReadAtHome (take k p ++ (lf ∷ []))
     read-cut-stays-home k two l r r′ after after′ cells cells′ a b =
         let s = cut-stays-home table roll before p others records lent k (kept-written kept) e two short l many in
         (lists (recordsAround table lent before p others) a (s .was), lists (recordsAround table lent before (take k p ++ (lf ∷ [])) others) b (s .is))

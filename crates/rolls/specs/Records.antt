@@ -6,14 +6,14 @@ use lib.ListN.{length, getD}
 use lib.Seq.{sets}
 use Rattle.paper.specs.Answer.{Told, accepted}
 use Rattle.paper.specs.Roll.{Record, recordCells, allRecords, recordsOf, Parts, parts}
-use Rattle.rolls.specs.declared.records.Record.{Record as Written}
+use Rattle.rolls.specs.declared.records.Record.{Record as InCode}
 
 -- a record with this answer
 abbrev pub recordWith : ℕ → ℕ → Told → Record
 recordWith start end answer = record { start = start; end = end; answer = answer }
 
 -- the paper's record that the code's is
-abbrev pub recordIn : Written → Record
+abbrev pub recordIn : InCode → Record
 recordIn e = recordWith (e .start) (e .end) (record { number = e .number; place = e .place; count = e .entries })
 
 -- the cells with these records in them, the first of which has number n

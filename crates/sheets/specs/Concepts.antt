@@ -7,7 +7,7 @@ use mathlib.Core.List.{List, [], _∷_, _++_}
 use lib.ListN.{length, drop}
 use lib.Dec.{eqb}
 use Rattle.paper.specs.Found.{Found, found, andThen}
-use Rattle.paper.specs.Bytes.{lengthIn, behind}
+use Rattle.paper.specs.Bytes.{behind}
 use Rattle.paper.specs.Modes.{Modes}
 use Rattle.paper.specs.Limits.{sheetLimit}
 use Rattle.paper.specs.Tree.{Marker, Concept, selfClosed, children, content, Body, done, Annotated, BodyPiece, before}
@@ -116,10 +116,6 @@ ReadsAnnotated table s at deeper cells slot r after =
     (annotatedOf (modesOf table) bounds deeper (slot .room - slot .next) (drop at s)) r after
 
 -- ---- a body, piece by piece
-
--- the tabs that stand at a place end at a mark
-abbrev pub TabsTo : List ℕ → ℕ → ℕ → Type 0
-TabsTo s at mark = (mark ≡ at + lengthIn isTab (drop at s)) × (at ≤ mark) × (mark ≤ length s)
 
 -- what was read ends in the sheet; and with the rest of its line
 abbrev pub EndsIn : List ℕ → Part → Type 0

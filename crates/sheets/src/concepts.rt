@@ -24,8 +24,8 @@ use text::runs::Class;
 ghost use mathlib.Core.Path.{_≡_};
 ghost use Prim.Native.Nat.{_≤_};
 ghost use lib.ListN.{length};
-ghost use Rattle.lines.specs.Parts.{seen};
-ghost use Rattle.sheets.specs.Concepts.{Ready, Ends, endedBy, cellsEnded, TabsTo, EndsIn, lineEnded};
+ghost use Rattle.lines.specs.Parts.{seen, Tabbed};
+ghost use Rattle.sheets.specs.Concepts.{Ready, Ends, endedBy, cellsEnded, EndsIn, lineEnded};
 ghost use Rattle.sheets.specs.Concepts.{ReadsConcept, ReadsInside, ReadsBlock, ReadsChildren, ReadsPiece, ReadsAnnotated};
 
 // Reads the Concept whose "<" is due at `at`, on a line of so many tabs, and enters it with what it holds.
@@ -214,7 +214,7 @@ fn read_piece(
     cells: &mut [u32],
     slot: Slot,
 ) -> Part
-    requires { ⌜ Ready (now table) (now s) at (now cells) slot × TabsTo (now s) at mark ⌝ }
+    requires { ⌜ Ready (now table) (now s) at (now cells) slot × Tabbed (now s) at mark ⌝ }
     ensures { λ r.
         ⌜ ReadsPiece (now (table .entry)) (now (s .entry)) at (nesting .left) (now (cells .entry)) slot r (now (cells .exit)) ⌝ }
 {
