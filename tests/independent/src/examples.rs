@@ -1,5 +1,5 @@
-//! Every example of document 01's "Sheets to try" and of READINGS.md that concerns tables, sheets, views, forms and rolls.
-//! The numbers in the comments are READINGS.md's; `7@4` there is (7, 4) here, an acceptance is ACCEPTED.
+//! Every example of document 01's "Sheets to try" and of READINGS.md that concerns tables, sheets, views, forms and rolls; then those of
+//! document 02 and READINGS-02.md. The numbers in the comments are theirs; `7@4` there is (7, 4) here, an acceptance is ACCEPTED.
 
 use crate::reader::{read_sheet, table_answer, view, view_answer, Answer, Refusal};
 use crate::rolls::{add_sheet, read_roll};
@@ -419,7 +419,8 @@ fn reading_42() {
 
 #[test]
 fn readings_43_to_45() {
-    for scalar in ['\u{A0}', '\u{200F}', '\u{FEFF}', '\u{10000}', '\u{E1000}', '\u{EFFFD}', '\u{DFFFD}'] {
+    // 43; request One has taken U+00A0 and U+200F out
+    for scalar in ['\u{FEFF}', '\u{10000}', '\u{E1000}', '\u{EFFFD}', '\u{DFFFD}'] {
         value_form(&format!("x:{scalar}"), 11);
     }
     for scalar in ['\u{E000}', '\u{E0FFF}', '\u{FDD0}', '\u{1FFFE}', '\u{80}', '\u{F0000}', '\u{FFF0}'] {
@@ -580,4 +581,42 @@ fn reading_53() {
     let long = format!("<Steps>\n\t{}\n</Steps>\n", "x".repeat(16_383 - 19));
     adds(&long, b"", 20_000, 0, Ok(format!("{long}\n").as_bytes()));
     adds(long.replacen('x', "xx", 1), b"", 20_000, 0, Err((12, 0)));
+}
+
+// ---- Request One; the numbers are those of READINGS-02.md
+
+#[test]
+fn request_one() {
+    let white_space =
+        [(0xA0, 0xA0), (0x1680, 0x1680), (0x2000, 0x200A), (0x2028, 0x2029), (0x202F, 0x202F), (0x205F, 0x205F), (0x3000, 0x3000)];
+    let bidi_controls = [(0x61C, 0x61C), (0x200E, 0x200F), (0x202A, 0x202E), (0x2066, 0x2069)];
+    for (first, last) in white_space.iter().chain(&bidi_controls) {
+        taken_out(*first, *last);
+    }
+}
+
+/// No address has a letter of the range. It stands in a string and a character, an annotation and Content.
+fn taken_out(first: u32, last: u32) {
+    for letter in (first..=last).filter_map(char::from_u32) {
+        value_no_kind(&format!("x:{letter}"));
+        value_no_kind(&format!("[x:a{letter}b]"));
+        value_form(&format!("\"x:{letter}\""), 1);
+        value_form(&format!("`x:{letter}`"), 1);
+        value_form(&format!("'{letter}'"), 2);
+        accepted(format!("[x:{letter}]\n<Lab/>"));
+        accepted(format!("<Steps>\n\tx:{letter}\n</Steps>"));
+    }
+}
+
+#[test]
+fn request_one_readings_1_to_3() {
+    for letter in ['\u{200B}', '\u{200C}', '\u{200D}', '\u{2060}', '\u{180E}', '\u{AD}', '\u{FEFF}'] {
+        value_form(&format!("x:{letter}"), 11);
+    }
+    // 2
+    value_form("\"\u{A0}\"", 1);
+    value_form("x:%C2%A0", 11);
+    // 3
+    value_no_kind("x:a\u{A0}b=1");
+    value_refused("x:\u{200F}", 9, 12);
 }

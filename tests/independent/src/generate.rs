@@ -29,7 +29,7 @@ pub fn requests(seed: u64, count: usize, longest: usize, kinds: &[&str]) -> Vec<
 /// The requests about one table, sheet or roll, of all kinds.
 fn add_requests(lines: &mut Vec<String>, chance: &mut Chance, longest: usize) {
     let names = Names::random(chance);
-    match chance.below(320) {
+    match chance.below(360) {
         0..=19 => add_table(lines, chance, &names, longest),
         20..=27 => add_limit(lines, chance, longest),
         28 => add_cuts(lines, chance, &names, longest),
@@ -41,8 +41,12 @@ fn add_requests(lines: &mut Vec<String>, chance: &mut Chance, longest: usize) {
             let sheet = one_value(chance);
             add_sheet(lines, chance, &Names::papers().table(), sheet.as_bytes(), longest);
         }
-        90..=149 => add_roll(lines, chance, &names, longest),
-        150..=209 => add_adding(lines, chance, &names, longest),
+        90..=129 => {
+            let sheet = one_address(chance);
+            add_sheet(lines, chance, &Names::papers().table(), &sheet, longest);
+        }
+        130..=189 => add_roll(lines, chance, &names, longest),
+        190..=249 => add_adding(lines, chance, &names, longest),
         _ => {
             let sheet = any_sheet(chance, &names);
             add_sheet(lines, chance, &names.table(), &sheet, longest);
@@ -387,6 +391,45 @@ fn one_value(chance: &mut Chance) -> String {
     format!("<Lab n={before}{value}{behind}{}", chance.pick(&["/>", " />", ">\n</Lab>", " m=1/>", ""]))
 }
 
+/// A sheet with letters of or near request One's list in an address, or where they always may stand; at times cut.
+fn one_address(chance: &mut Chance) -> Vec<u8> {
+    let around = [
+        ("<Lab u=x:", " />"),
+        ("<Lab u=x:a", "b/>"),
+        ("<Lab u=x:%C2%A0", "/ >\n</Lab>"),
+        ("<Lab u=x:a", "b=1 />"),
+        ("<Lab u=x", ":a />"),
+        ("<Lab u=", " />"),
+        ("<Lab u=[1, x:", "/, y:] />"),
+        ("<Lab u=[[x:a", "]]/>"),
+        ("<Lab u=\"x:", "\" />"),
+        ("<Lab u='", "' />"),
+        ("<Lab u=`x: ", " ` />"),
+        ("<Lab u=[`a`, \"", "\"] />"),
+        ("[", "]\n<Lab/>"),
+        ("<Steps>\n\t", "\n</Steps>"),
+        ("<Lab", " />"),
+    ];
+    let (before, behind) = around[chance.below(around.len())];
+    let letters: String = (0..1 + chance.below(2) * chance.below(3)).map(|_| hidden_letter(chance)).collect();
+    let sheet = format!("{before}{letters}{behind}").into_bytes();
+    let length = if chance.one_in(6) { chance.below(sheet.len() + 1) } else { sheet.len() };
+    sheet[..length].to_vec()
+}
+
+/// A letter at or next to a bound of request One's list, inside one of its ranges, or one that shows no more than those and may stand.
+fn hidden_letter(chance: &mut Chance) -> char {
+    let bounds =
+        [0xA0, 0x1680, 0x2000, 0x200A, 0x2028, 0x2029, 0x202F, 0x205F, 0x3000, 0x61C, 0x200E, 0x200F, 0x202A, 0x202E, 0x2066, 0x2069];
+    let others = [0x2003, 0x2005, 0x202C, 0x2067, 0xAD, 0x180E, 0x200B, 0x200C, 0x200D, 0x2060, 0xFEFF];
+    let scalar = match chance.below(4) {
+        0 => others[chance.below(others.len())],
+        1 => bounds[chance.below(bounds.len())] - 1 + 2 * chance.below(2) as u32,
+        _ => bounds[chance.below(bounds.len())],
+    };
+    char::from_u32(scalar).expect("none is near the surrogates")
+}
+
 // ---- Damage
 
 /// The bytes with one to three of them changed, inserted or removed.
@@ -633,13 +676,13 @@ impl<'a> Printer<'a> {
         if self.chance.one_in(5) {
             self.put(&format!("</{name}>"));
         }
-        self.put_one_of(&["boot 7", "a", " x ", "\ty", "<Lab>", "\\[", "\u{e9}\u{1F600} ", "[a]", "0\t"]);
+        self.put_one_of(&["boot 7", "a", " x ", "\ty", "<Lab>", "\\[", "\u{e9}\u{1F600} ", "\u{a0}x:\u{200F}", "[a]", "0\t"]);
     }
 
     fn annotation(&mut self, depth: usize) {
         self.tabs(depth);
         self.put("[");
-        let texts = ["", " ", "a", "  a \t b ", "\\]", "\\\\", "a\\\\ ", "[", "<Lab>", "\u{e9}", "\t\\] x\\]\t"];
+        let texts = ["", " ", "a", "  a \t b ", "\\]", "\\\\", "a\\\\ ", "[", "<Lab>", "\u{e9}", "\u{3000}\u{200E}", "\t\\] x\\]\t"];
         for _ in 0..self.chance.below(3) {
             self.put_one_of(&texts);
         }
@@ -705,7 +748,7 @@ impl<'a> Printer<'a> {
         let (own, other) = if quote == '"' { ("\\\"", "'") } else { ("\\'", "\"") };
         let scalars = [
             "a", "\\\\", "\\n", "\\r", "\\t", "\t", "\\u0041", "\\u00e9", "\\u{7f}", "\\u{0}", "\\u{1F}", "\\u{10ffff}", "\\u{00000a}",
-            "\u{e9}", "\u{1F600}", "\u{2028}", " ", "\u{85}", "\u{FEFF}", "/", ">", "<", own, other,
+            "\u{e9}", "\u{1F600}", "\u{2028}", "\u{200F}", "\u{3000}", " ", "\u{85}", "\u{FEFF}", "/", ">", "<", own, other,
         ];
         let count = if quote == '"' { self.chance.below(5) } else { 1 };
         self.put(&quote.to_string());
@@ -729,7 +772,10 @@ impl<'a> Printer<'a> {
     fn iri(&mut self, in_list: bool) {
         self.put_one_of(&["x:", "http://", "a+b-c.9:", "Z:"]);
         for _ in 0..self.chance.below(5) {
-            self.put_one_of(&["y", "/", "?q=1", "#f", "[", "@!$&'()*+;=", "%zz", "\u{a0}", "\u{e9}", "\u{FEFF}", "\u{E1000}", ":", "~._-"]);
+            self.put_one_of(&[
+                "y", "/", "?q=1", "#f", "[", "@!$&'()*+;=", "%zz", "\u{a1}", "\u{e9}", "\u{FEFF}", "\u{E1000}", ":", "~._-", "\u{200B}",
+                "\u{2010}", "\u{2030}", "\u{2060}", "\u{3001}",
+            ]);
         }
         if !in_list {
             self.put_one_of(&["", "", ",]", "/"]);
@@ -745,13 +791,13 @@ const WORDS: [&str; 29] = [
 ];
 
 /// Spellings that are no value, or that stop short of one.
-const FAULTY_VALUES: [&str; 70] = [
+const FAULTY_VALUES: [&str; 74] = [
     "", "04", "1.", ".5", "1/-2", "01/2", "1e05", "1/02", "truex", "Infinity", "-Infinity", "+", "-", "1e", "e1", "1/2/3", "00", "--1",
     "1:", "-x:y", "$", "$a", "~A", "~", "$A-", "True", "null", "1.5.", "1.2e", "1e1.5", "1.e1", "+-1", "1/", "/2",
     "123e4567-E89b-12d3-a456-42661417400", "123e4567-E89b-12d3-a45-6426614174000", "g23e4567-E89b-12d3-a456-426614174000", "x:\u{E000}",
     "x:\u{FDD0}", "x:\u{1FFFE}", "x:\"", "x:<", "x:\\", "x:{", "x:|", "x:^", "\u{e9}:a", ":a", "\"a", "\"\\q\"", "\"\\uD800\"",
     "\"\\u{}\"", "\"\\u{1234567}\"", "\"\\u{110000}\"", "\"\\'\"", "\"a\nb\"", "''", "'ab'", "'", "'\n'", "'\\\"'", "'\\uDFFF'", "[1",
-    "`a", "[ ]", "[1 ]", "\"\\u{0000041}\"", "'''", "$aB", "x:\u{E0FFF}",
+    "`a", "[ ]", "[1 ]", "\"\\u{0000041}\"", "'''", "$aB", "x:\u{E0FFF}", "x:\u{A0}", "http://a/\u{200F}b", "x:\u{202E}", "x:a\u{3000}b",
 ];
 
 #[cfg(test)]

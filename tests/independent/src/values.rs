@@ -314,7 +314,7 @@ fn is_decimal(unsigned: &[u8]) -> bool {
     split_at(unsigned, |byte| byte == b'.').map_or(false, |(integer, rest)| is_whole(integer) && is_digits(rest))
 }
 
-/// Scheme, ":", body of 001 §14. The scheme ends at the first colon.
+/// Scheme, ":", body of 001 §14 as request One mends it. The scheme ends at the first colon.
 fn is_iri(word: &[u8]) -> bool {
     let (scheme, body) = match split_at(word, |byte| byte == b':') {
         Some(parts) => parts,
@@ -326,7 +326,7 @@ fn is_iri(word: &[u8]) -> bool {
 }
 
 fn is_iri_scalar(one: char) -> bool {
-    one.is_ascii_alphanumeric() || "-._~:/?#[]@!$&'()*+,;=%".contains(one) || is_ucschar(one as u32)
+    one.is_ascii_alphanumeric() || "-._~:/?#[]@!$&'()*+,;=%".contains(one) || (is_ucschar(one as u32) && !is_barred(one as u32))
 }
 
 /// RFC 3987's ucschar ranges, as 001 §14 prints them.
@@ -336,5 +336,28 @@ fn is_ucschar(scalar: u32) -> bool {
         0x10000..=0xDFFFF => scalar & 0xFFFF <= 0xFFFD,
         0xE1000..=0xEFFFD => true,
         _ => false,
+    }
+}
+
+/// White space, then bidi controls: request One's list, in its order.
+fn is_barred(scalar: u32) -> bool {
+    match scalar {
+        0xA0 | 0x1680 | 0x2000..=0x200A | 0x2028 | 0x2029 | 0x202F | 0x205F | 0x3000 => true,
+        0x61C | 0x200E | 0x200F | 0x202A..=0x202E | 0x2066..=0x2069 => true,
+        _ => false,
+    }
+}
+
+#[cfg(test)]
+mod tests {
+    use super::*;
+
+    /// What request One lists is Unicode's white space and bidi controls beyond the controls, which no body took before.
+    #[test]
+    fn the_list_is_white_space_and_bidi_controls() {
+        let bidi = "\u{61C}\u{200E}\u{200F}\u{202A}\u{202B}\u{202C}\u{202D}\u{202E}\u{2066}\u{2067}\u{2068}\u{2069}";
+        for one in (0xA0..=0x10FFFF).filter_map(char::from_u32) {
+            assert_eq!(is_barred(one as u32), one.is_whitespace() || bidi.contains(one), "U+{:04X}", one as u32);
+        }
     }
 }
