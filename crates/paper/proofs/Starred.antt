@@ -1,4 +1,4 @@
--- The starred sheets of document 01, "Sheets to try": one statement over one list, by computation.
+-- The starred sheets of document 01, "Sheets to try", then those of document 02: one statement over one list, by computation.
 -- Of the reading and the canonical form as the definitions say them (`starred`), and so of the grammar itself (`starred-derived`).
 use Prim.Native.Nat.{ℕ, zero, suc, _-_}
 use Prim.Native.String.{String}
@@ -25,6 +25,9 @@ use Rattle.paper.proofs.Exactly.{Accepts, Exactly, Accepted, refused-ot
 unfoldable pub table : List ℕ
 table = 0x01 ∷ 0x03 ∷ 0x4C ∷ 0x61 ∷ 0x62 ∷ 0x01 ∷ 0x05 ∷ 0x53 ∷ 0x74 ∷ 0x65 ∷ 0x70 ∷ 0x73 ∷ []
 
+abbrev pub utf8 : String → List ℕ
+utf8 s = Bytes.encodeAll (Bytes.bytes s)
+
 -- what a sheet gives: the answer, every lent cell, and the canonical form, which is empty where it is refused
 pub record Seen : Type 0 where
   pub answer : Told
@@ -49,11 +52,11 @@ formOf lent s =
 
 unfoldable pub seen : Case → Seen
 seen k =
-    let s = Bytes.bytes (k .sheet) in
+    let s = utf8 (k .sheet) in
     record { answer = Reading.reading table s (k .lent) .answer; cells = Reading.reading table s (k .lent) .cells; form = formOf (k .lent) s }
 
 abbrev pub due : Case → Seen
-due k = record { answer = k .answer; cells = k .entries ++ replicate (k .lent - length (k .entries)) 0; form = Bytes.bytes (k .form) }
+due k = record { answer = k .answer; cells = k .entries ++ replicate (k .lent - length (k .entries)) 0; form = utf8 (k .form) }
 
 abbrev pub refusedCase : String → Told → Case
 refusedCase s told = record { sheet = s; lent = 24; answer = told; entries = []; form = "" }
@@ -86,6 +89,23 @@ cases =
           ∷ 1 ∷ 3 ∷ 0 ∷ 1 ∷ 12 ∷ 17 ∷ 11 ∷ 35 ∷ 5 ∷ 0 ∷ 2 ∷ 0 ∷ 19 ∷ 19 ∷ 19 ∷ 27 ∷ [];
       form = "<Lab n=4>\n\t<Steps>\n\t\tboot 7\n\t</Steps>\n</Lab>\n";
     }
+    -- request One: a mark and a space in an address, one that hides the next trait, and a cut word; a string keeps them, an address U+200B
+    ∷ refusedCase "<Lab u=x:\u{200f} />" (refused 6 7) ∷ refusedCase "<Lab u=x:\u{3000} />" (refused 6 7)
+    ∷ refusedCase "<Lab u=x:a\u{a0}b=1 />" (refused 6 7) ∷ refusedCase "<Lab u=x:\u{200f}" (refused 9 12)
+    ∷ record {
+      sheet = "<Lab u=\"\u{200f}\u{3000}\" />";
+      lent = 16;
+      answer = accepted 18 2;
+      entries = 1 ∷ 1 ∷ 4294967295 ∷ 1 ∷ 1 ∷ 4 ∷ 0 ∷ 18 ∷ 2 ∷ 1 ∷ 0 ∷ 0 ∷ 5 ∷ 6 ∷ 7 ∷ 15 ∷ [];
+      form = "<Lab u=\"\u{200f}\u{3000}\" />\n";
+    }
+    ∷ record {
+      sheet = "<Lab u=x:\u{200b} />";
+      lent = 16;
+      answer = accepted 15 2;
+      entries = 1 ∷ 1 ∷ 4294967295 ∷ 1 ∷ 1 ∷ 4 ∷ 0 ∷ 15 ∷ 2 ∷ 11 ∷ 0 ∷ 0 ∷ 5 ∷ 6 ∷ 7 ∷ 12 ∷ [];
+      form = "<Lab u=x:\u{200b} />\n";
+    }
     ∷ []
 
 pub starred : map seen cases ≡ map due cases
@@ -99,7 +119,7 @@ unfolding table cases formOf seen many
     Values.pieceOnto Values.piecesOnto Values.hexDigit Values.hexValue Values.spellsScalar Values.pieceRule
     Values.letterMeans Values.pieceMeans Values.piecesMean Values.oneScalar Values.backtickRule Values.collapse
     Values.isToken Values.hexGroups Values.areDigits Values.isCount Values.unsigned Values.isDecimal
-    Values.isScientific Values.isFraction Values.isIriScalar Values.isIriBody Values.isScheme Values.isIri
+    Values.isScientific Values.isFraction Values.isUcschar Values.inRanges Values.isIriScalar Values.isIriBody Values.isScheme Values.isIri
     Values.wordForm Values.isEnder Values.endsWord Values.leafOnto Values.valueOnto Values.leafRule Values.valueRule
     Values.endsInSlash Values.listDepth
     Grammar.blanksOnto Grammar.annotationsOnto Grammar.traitsOnto Grammar.linesOnto Grammar.conceptOnto
@@ -128,14 +148,14 @@ starred = refl
 -- an accepted case: a tree derives the sheet within the limits and the room; its entries, laid into the lent cells, and its form are those due
 pub record Derived (k : Case) : Type 0 where
   pub list : List Entries.Entry
-  pub exactly : Exactly table (Bytes.bytes (k .sheet)) (k .lent) list
+  pub exactly : Exactly table (utf8 (k .sheet)) (k .lent) list
   pub count : length list ≡ k .answer .count
   pub cells : Entries.filled (k .lent) list ≡ due k .cells
-  pub form : Canonical.canonical (exactly .tree) ≡ Bytes.bytes (k .form)
+  pub form : Canonical.canonical (exactly .tree) ≡ utf8 (k .form)
 
 -- a refused case: no tree does
 abbrev pub Underived : Case → Type 0
-Underived k = (es : List Entries.Entry) → Exactly table (Bytes.bytes (k .sheet)) (k .lent) es → ⊥
+Underived k = (es : List Entries.Entry) → Exactly table (utf8 (k .sheet)) (k .lent) es → ⊥
 
 -- one or the other, by the number due
 abbrev pub Judged : ℕ → Case → Type 0
@@ -157,11 +177,11 @@ each-of f g P h (k ∷ ks) e =
     (h k first, each-of f g P h ks others)
 
 -- the form of what is accepted is that of its tree
-form-is : (k : Case) (es : List Entries.Entry) (x : Exactly table (Bytes.bytes (k .sheet)) (k .lent) es) → seen k .form ≡ Canonical.canonical (x .tree)
+form-is : (k : Case) (es : List Entries.Entry) (x : Exactly table (utf8 (k .sheet)) (k .lent) es) → seen k .form ≡ Canonical.canonical (x .tree)
 unfolding seen formOf
 form-is k es x =
     let room = Reading.roomOf (k .lent) in
-    let s = Bytes.bytes (k .sheet) in
+    let s = utf8 (k .sheet) in
     let a : Accepts (x .modes) room s (x .tree) = record { derives = x .derives; limits = x .limits; fit = omega (arith, x .fit, ap length (x .are)) } in
     rw (table-back table (x .modes) (x .valid), formOf, sheet-accepts (x .modes) room s (x .tree) a)
 
@@ -171,7 +191,7 @@ unfolding seen
 case-stands k e = go (k .answer .number) refl
   where
     s : List ℕ
-    s = Bytes.bytes (k .sheet)
+    s = utf8 (k .sheet)
 
     number : Reading.reading table s (k .lent) .answer .number ≡ k .answer .number
     number = ap (λ (x : Seen). x .answer .number) e
@@ -193,6 +213,6 @@ case-stands k e = go (k .answer .number) refl
         (refused-otherwise table s (k .lent))
     go (suc m) z = λ es x. omega (arith, number, ap (λ (x : Reading.Reading). x .answer .number) (accepted-exactly table s (k .lent) es .1 x))
 
--- for each starred sheet: accepted, it is derived, with these entries and this form; refused, it is not
+-- for each of the sheets: accepted, it is derived, with these entries and this form; refused, it is not
 pub starred-derived : Each Stands cases
 starred-derived = each-of seen due Stands case-stands cases starred

@@ -1,5 +1,5 @@
 -- Values: their trees, their spelling, the rules that a spelling keeps, and what it means.
--- Document 01, "The grammar", Values; 001 §8 to §16 and §19.
+-- Document 01, "The grammar", Values; 001 §8 to §16 and §19; document 02, One.
 use Prim.Native.Nat.{ℕ, zero, suc, _+_, _-_, _*_, _%_, max}
 use mathlib.Core.Bool.{Bool, true, false, not, _&&_, _||_}
 use mathlib.Core.List.{List, [], _∷_, _++_}
@@ -147,11 +147,26 @@ isScientific w = (isInteger (upTo isExponent w) || isDecimal (upTo isExponent w)
 unfoldable pub isFraction : List ℕ → Bool
 isFraction w = isInteger (upTo (is (byte "/")) w) && isCount (past (is (byte "/")) w)
 
--- 001 §14, with the ranges of RFC 3987's ucschar
+-- the ranges of RFC 3987's ucschar
+unfoldable pub isUcschar : ℕ → Bool
+isUcschar v =
+    within 0xA0 0xD7FF v || within 0xF900 0xFDCF v || within 0xFDF0 0xFFEF v || (within 0x10000 0xDFFFF v && leb (v % 0x10000) 0xFFFD)
+    || within 0xE1000 0xEFFFD v
+
+-- request One's list, in its order: white space, then bidi controls. Both bounds of a range belong to it
+abbrev pub barred : List (ℕ × ℕ)
+barred =
+    (0xA0, 0xA0) ∷ (0x1680, 0x1680) ∷ (0x2000, 0x200A) ∷ (0x2028, 0x2029) ∷ (0x202F, 0x202F) ∷ (0x205F, 0x205F) ∷ (0x3000, 0x3000)
+    ∷ (0x61C, 0x61C) ∷ (0x200E, 0x200F) ∷ (0x202A, 0x202E) ∷ (0x2066, 0x2069) ∷ []
+
+-- one of the ranges has the value
+unfoldable pub inRanges : List (ℕ × ℕ) → ℕ → Bool
+inRanges [] v = false
+inRanges (r ∷ rs) v = within (r .0) (r .1) v || inRanges rs v
+
+-- 001 §14, without what request One takes out
 unfoldable pub isIriScalar : ℕ → Bool
-isIriScalar v =
-    isNameByte v || elem v (bytes "-._~:/?#[]@!$&'()*+,;=%") || within 0xA0 0xD7FF v || within 0xF900 0xFDCF v || within 0xFDF0 0xFFEF v
-    || (within 0x10000 0xDFFFF v && leb (v % 0x10000) 0xFFFD) || within 0xE1000 0xEFFFD v
+isIriScalar v = isNameByte v || elem v (bytes "-._~:/?#[]@!$&'()*+,;=%") || (isUcschar v && not (inRanges barred v))
 
 -- the fuel is at least the list's length
 unfoldable pub isIriBody : ℕ → List ℕ → Bool

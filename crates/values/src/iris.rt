@@ -1,5 +1,5 @@
 // IRIs: a scheme, ":" and a body.
-// Document 01, "The grammar", Values; 001 §14, with the ranges of RFC 3987's ucschar.
+// Document 01, "The grammar", Values; 001 §14, with the ranges of RFC 3987's ucschar; document 02, One.
 use text::classes;
 use text::parts::starts_with;
 use text::runs;
@@ -55,13 +55,22 @@ fn is_body(body: &[u8]) -> bool
     true
 }
 
-// Whether the scalar value may stand in an IRI.
+// Whether the scalar value may stand in an IRI. The gaps up to U+D7FF are request One's list, in the order of numbers.
 fn may_stand(v: u32) -> bool
     ensures { λ r. ⌜ r ≡ isIriScalar v ⌝ }
 {
     match v {
         0..=0x7F => may_stand_ascii(v as u8),
-        0xA0..=0xD7FF | 0xF900..=0xFDCF | 0xFDF0..=0xFFEF | 0xE1000..=0xEFFFD => true,
+        0xA1..=0x61B
+        | 0x61D..=0x167F
+        | 0x1681..=0x1FFF
+        | 0x200B..=0x200D
+        | 0x2010..=0x2027
+        | 0x2030..=0x205E
+        | 0x2060..=0x2065
+        | 0x206A..=0x2FFF
+        | 0x3001..=0xD7FF => true,
+        0xF900..=0xFDCF | 0xFDF0..=0xFFEF | 0xE1000..=0xEFFFD => true,
         0x10000..=0xDFFFF => v % 0x10000 <= 0xFFFD,
         _ => false,
     }
