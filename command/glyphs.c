@@ -8,10 +8,11 @@ struct range {
     uint32_t first, last;
 };
 
-/* Controls, line breaks and marks that turn the direction of writing: what would garble the line is shown by its bytes. */
+/* Controls, line breaks, marks that turn the direction of writing, and white space that looks like a space: what would garble the line
+ * or is not what it seems is shown by its bytes. */
 static const struct range hidden[] = {
-    {0x00, 0x1F},     {0x7F, 0x9F},     {0x61C, 0x61C},   {0x200E, 0x200F},   {0x2028, 0x202E},
-    {0x2060, 0x206F}, {0xFEFF, 0xFEFF}, {0xFFF9, 0xFFFB}, {0xE0001, 0xE007F},
+    {0x00, 0x1F},     {0x7F, 0xA0},     {0x61C, 0x61C},   {0x1680, 0x1680}, {0x2000, 0x200A}, {0x200E, 0x200F},   {0x2028, 0x202F},
+    {0x205F, 0x206F}, {0x3000, 0x3000}, {0xFEFF, 0xFEFF}, {0xFFF9, 0xFFFB}, {0xE0001, 0xE007F},
 };
 
 /* Marks that are drawn onto the character before them. */
