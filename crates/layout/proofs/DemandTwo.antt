@@ -31,8 +31,9 @@ use Rattle.paper.proofs.DemandTwo.{Wrote, write-inverts, canonical-fixed, only-
 use Rattle.sheets.specs.Promises.{ReadsSheet}
 use Rattle.layout.specs.Promises.{WritesSheet}
 
--- A sheet is read with answer r and these cells, its form with r′ and those: both are accepted, under the table's modes, to trees of one meaning; entry by entry kinds, forms, parents
--- and counts are the same, and names, values, annotations and Content tell the same. So only offsets differ.
+-- A sheet is read with answer r and these cells, its form with r′ and those: both are accepted, under the table's modes, to trees of one
+-- meaning; entry by entry kinds, forms, parents and counts are the same, and names, values, annotations and Content tell the same. So
+-- only offsets differ.
 pub record SameTree (table sheet form : List ℕ) (lent : ℕ) (r r′ : Answer) (cells cells′ : List ℕ) : Type 0 where
   pub modes : Modes
   pub valid : ValidTable table modes

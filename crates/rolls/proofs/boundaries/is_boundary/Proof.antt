@@ -29,7 +29,9 @@ returns-2 c =
     boundary-upper (top .args .roll .now) (top .args .at) (omega (arith, c .before .before .before .before .if1 .left)) (c .before .before .if2 .taken) _ (c .is-upper .ensures)
 
 returns-3 : tie.Need-returns-3
-returns-3 c = boundary-other (c .before .before .before .before .args .roll .now) (c .before .before .before .before .args .at) (omega (arith, c .before .before .if1 .left)) (c .if2 .left)
+returns-3 c =
+    let top = c .before .before .before .before in
+    boundary-other (top .args .roll .now) (top .args .at) (omega (arith, c .before .before .if1 .left)) (c .if2 .left)
 
 pub is-boundary-spec : {M : Type 1} → statement M
 is-boundary-spec =

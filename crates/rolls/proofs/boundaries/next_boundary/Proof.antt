@@ -36,7 +36,10 @@ loop-less : tie.Need-loop-less Inv-loop μ-loop
 loop-less c = let f = c .next-line .ensures .further (c .before .before .before .loop-test .taken) in omega arith
 
 loop-again : tie.Need-loop-again Inv-loop μ-loop
-loop-again c = passes-then (c .before .before .before .before .loop .inv) (no-boundary (sym (c .before .before .is-boundary .ensures) ∙ c .before .if1 .left) (c .next-line .ensures .passes))
+loop-again c =
+    let at-boundary = c .before .before in
+    passes-then (at-boundary .before .before .loop .inv)
+    (no-boundary (sym (at-boundary .is-boundary .ensures) ∙ c .before .if1 .left) (c .next-line .ensures .passes))
 
 returns-2 : tie.Need-returns-2 Inv-loop μ-loop
 returns-2 c =

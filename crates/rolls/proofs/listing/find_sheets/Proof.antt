@@ -35,7 +35,10 @@ found-at-requires c κs =
     (omega arith, omega (arith, c .before .sheet-end .ensures .begins .inside))
 
 put-requires : tie.Need-put-requires Inv-loop μ-loop
-put-requires c κs = omega (arith, c .before .before .before .before .before .before .room .ensures, c .before .before .before .if1 .left, c .before .before .before .before .before .loop .inv .long)
+put-requires c κs =
+    let at-if1 = c .before .before .before in
+    let at-loop = at-if1 .before .before in
+    omega (arith, at-loop .before .room .ensures, at-if1 .if1 .left, at-loop .loop .inv .long)
 
 add-count : tie.Need-add-count Inv-loop μ-loop
 add-count c = omega (arith, c .before .before .before .before .before .before .before .before .before .room .ensures, c .before .before .before .before .before .before .if1 .left)
@@ -46,8 +49,9 @@ loop-less c = omega (arith, c .before .before .before .before .before .sheet-end
 loop-again : tie.Need-loop-again Inv-loop μ-loop
 loop-again c =
     let at-end = c .before .before .before .before .before in
-    finding-turn (at-end .before .before .before .loop .inv) (recordIn (c .before .before .before .found-at .result)) (omega (arith, at-end .before .if1 .left)) (at-end .sheet-end .ensures)
-    (c .before .before .before .found-at .ensures) (c .before .before .put .ensures)
+    let at-found = c .before .before .before in
+    finding-turn (at-end .before .before .before .loop .inv) (recordIn (at-found .found-at .result)) (omega (arith, at-end .before .if1 .left))
+    (at-end .sheet-end .ensures) (at-found .found-at .ensures) (c .before .before .put .ensures)
 
 same-length-2 : tie.Need-same-length-2 Inv-loop μ-loop
 same-length-2 c = c .before .loop .inv .long

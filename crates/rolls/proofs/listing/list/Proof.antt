@@ -40,7 +40,8 @@ enum-told-2 c = search needs
 returns-2 : tie.Need-returns-2
 returns-2 c =
     let top = c .before .before .before .before .before .before .before .before in
-    table-bad (top .args .table .now) (top .args .roll .now) _ _ (omega (arith, c .before .before .before .if1 .left)) _ _ _ (c .before .before .read .ensures) (c .enum-told2 .given .1)
+    table-bad (top .args .table .now) (top .args .roll .now) _ _ (omega (arith, c .before .before .before .if1 .left)) _ _ _
+    (c .before .before .read .ensures) (c .enum-told2 .given .1)
 
 next-boundary-requires : tie.Need-next-boundary-requires
 next-boundary-requires c κs = search needs

@@ -19,7 +19,9 @@ loop-holds : tie.Need-loop-holds Inv-loop μ-loop
 loop-holds c = (none-read _ _ _ _ _ (c .before .before .before .before .pre .1), refl)
 
 read-sheet-requires : tie.Need-read-sheet-requires Inv-loop μ-loop
-read-sheet-requires c κs = (c .before .before .before .before .before .before .before .before .pre .0, read-spans (c .before .before .before .loop .inv .0) (c .before .before .loop-test .taken))
+read-sheet-requires c κs =
+    let at-loop = c .before .before .before in
+    (at-loop .before .before .before .before .before .pre .0, read-spans (at-loop .loop .inv .0) (c .before .before .loop-test .taken))
 
 add-n : tie.Need-add-n Inv-loop μ-loop
 add-n c = search needs

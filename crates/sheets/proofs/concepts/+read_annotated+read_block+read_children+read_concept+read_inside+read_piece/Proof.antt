@@ -652,7 +652,8 @@ read-piece-same-length t c = c .before .before .before .read-concept .kept .1 .1
 read-piece-returns : (t : ℕ) → read-piece-lts.Need-returns (read-piece-calls t) (read-piece-at t) read-piece.Post
 read-piece-returns t c =
     let marked = piece-marked t (c .before .before .before) in
-    line-made (c .before .before .before .before .before .before .before .before .before .before .before .pre .1 .0) _ (mark-piece (marked .0) _ _ _) (marked .1) _ (c .end-line .ensures)
+    line-made (c .before .before .before .before .before .before .before .before .before .before .before .pre .1 .0) _
+    (mark-piece (marked .0) _ _ _) (marked .1) _ (c .end-line .ensures)
 
 read-piece-slice-aggregate-starts-with-2 : (t : ℕ) → read-piece-lts.Need-slice-aggregate-starts-with-2 (read-piece-calls t) (read-piece-at t) read-piece.Post
 read-piece-slice-aggregate-starts-with-2 t c = search needs

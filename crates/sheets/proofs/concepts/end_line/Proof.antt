@@ -29,7 +29,8 @@ returns-2 c =
 returns-3 : tie.Need-returns-3
 returns-3 c =
     let read = c .before .before .before .before .before .part .given .1 in
-    rest-read _ read _ (c .before .before .before .line-rest .ensures) (c .before .before .before .before .before .before .before .before .pre _ _ _ read) (c .before .rest .given .1)
+    rest-read _ read _ (c .before .before .before .line-rest .ensures)
+    (c .before .before .before .before .before .before .before .before .pre _ _ _ read) (c .before .rest .given .1)
 
 pub end-line-spec : {M : Type 1} → statement M
 end-line-spec =
