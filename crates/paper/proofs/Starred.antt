@@ -119,7 +119,7 @@ unfolding table cases formOf seen many
     Values.pieceOnto Values.piecesOnto Values.hexDigit Values.hexValue Values.spellsScalar Values.pieceRule
     Values.letterMeans Values.pieceMeans Values.piecesMean Values.oneScalar Values.backtickRule Values.collapse
     Values.isToken Values.hexGroups Values.areDigits Values.isCount Values.unsigned Values.isDecimal
-    Values.isScientific Values.isFraction Values.isUcschar Values.inRanges Values.isIriScalar Values.isIriBody Values.isScheme Values.isIri
+    Values.isScientific Values.isFraction Values.inRanges Values.isIriScalar Values.isIriBody Values.isScheme Values.isIri
     Values.wordForm Values.isEnder Values.endsWord Values.leafOnto Values.valueOnto Values.leafRule Values.valueRule
     Values.endsInSlash Values.listDepth
     Grammar.blanksOnto Grammar.annotationsOnto Grammar.traitsOnto Grammar.linesOnto Grammar.conceptOnto

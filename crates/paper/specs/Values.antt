@@ -1,6 +1,6 @@
 -- Values: their trees, their spelling, the rules that a spelling keeps, and what it means.
 -- Document 01, "The grammar", Values; 001 §8 to §16 and §19; document 02, One.
-use Prim.Native.Nat.{ℕ, zero, suc, _+_, _-_, _*_, _%_, max}
+use Prim.Native.Nat.{ℕ, zero, suc, _+_, _-_, _*_, max}
 use mathlib.Core.Bool.{Bool, true, false, not, _&&_, _||_}
 use mathlib.Core.List.{List, [], _∷_, _++_}
 use lib.ListN.{length, drop}
@@ -147,13 +147,16 @@ isScientific w = (isInteger (upTo isExponent w) || isDecimal (upTo isExponent w)
 unfoldable pub isFraction : List ℕ → Bool
 isFraction w = isInteger (upTo (is (byte "/")) w) && isCount (past (is (byte "/")) w)
 
--- the ranges of RFC 3987's ucschar
-unfoldable pub isUcschar : ℕ → Bool
-isUcschar v =
-    within 0xA0 0xD7FF v || within 0xF900 0xFDCF v || within 0xFDF0 0xFFEF v || (within 0x10000 0xDFFFF v && leb (v % 0x10000) 0xFFFD)
-    || within 0xE1000 0xEFFFD v
+-- 001 §14's UcsChar, the ranges of RFC 3987's ucschar as printed. Both bounds of a range belong to it
+abbrev pub ucschar : List (ℕ × ℕ)
+ucschar =
+    (0xA0, 0xD7FF) ∷ (0xF900, 0xFDCF) ∷ (0xFDF0, 0xFFEF) ∷ (0x10000, 0x1FFFD)
+    ∷ (0x20000, 0x2FFFD) ∷ (0x30000, 0x3FFFD) ∷ (0x40000, 0x4FFFD) ∷ (0x50000, 0x5FFFD)
+    ∷ (0x60000, 0x6FFFD) ∷ (0x70000, 0x7FFFD) ∷ (0x80000, 0x8FFFD) ∷ (0x90000, 0x9FFFD)
+    ∷ (0xA0000, 0xAFFFD) ∷ (0xB0000, 0xBFFFD) ∷ (0xC0000, 0xCFFFD) ∷ (0xD0000, 0xDFFFD)
+    ∷ (0xE1000, 0xEFFFD) ∷ []
 
--- request One's list, in its order: white space, then bidi controls. Both bounds of a range belong to it
+-- request One's list, in its order: white space, then bidi controls
 abbrev pub barred : List (ℕ × ℕ)
 barred =
     (0xA0, 0xA0) ∷ (0x1680, 0x1680) ∷ (0x2000, 0x200A) ∷ (0x2028, 0x2029) ∷ (0x202F, 0x202F) ∷ (0x205F, 0x205F) ∷ (0x3000, 0x3000)
@@ -166,7 +169,7 @@ inRanges (r ∷ rs) v = within (r .0) (r .1) v || inRanges rs v
 
 -- 001 §14, without what request One takes out
 unfoldable pub isIriScalar : ℕ → Bool
-isIriScalar v = isNameByte v || elem v (bytes "-._~:/?#[]@!$&'()*+,;=%") || (isUcschar v && not (inRanges barred v))
+isIriScalar v = isNameByte v || elem v (bytes "-._~:/?#[]@!$&'()*+,;=%") || (inRanges ucschar v && not (inRanges barred v))
 
 -- the fuel is at least the list's length
 unfoldable pub isIriBody : ℕ → List ℕ → Bool

@@ -1,8 +1,8 @@
 -- IRIs: the scalar values of a body, the body step by step, and the scheme in front. Over plain lists. Assumes nothing.
 -- Document 01, "The grammar", Values; 001 §14, with the ranges of RFC 3987's ucschar; document 02, One.
-use Prim.Native.Nat.{ℕ, zero, suc, _+_, _-_, _%_, _≤_, _<_}
+use Prim.Native.Nat.{ℕ, zero, suc, _+_, _-_, _*_, _%_, _≤_, _<_}
 use mathlib.Core.Path.{_≡_, refl, sym, ap, _∙_}
-use mathlib.Core.Bool.{Bool, true, false, not, _&&_, _||_, or-false, and-false, and-true}
+use mathlib.Core.Bool.{Bool, true, false, not, _&&_, _||_, and-false, and-true}
 use mathlib.Core.List.{List, [], _∷_}
 use mathlib.Core.Logic.{_⊎_, inl, inr, ⊎-elim}
 use native.Mathlib.Omega.{arith}
@@ -13,8 +13,8 @@ use borrow.Author.Tests.{le-leb, leb-true, leb-false, ne-eqb}
 use Rattle.paper.specs.Found.{Found, found, fault}
 use Rattle.paper.specs.Bytes.{byte, bytes, within, isUpper, isLower, isDigit, isLetter, isNameByte}
 use Rattle.paper.specs.Bytes.{all, elem, startsIn, startsWith, lengthIn, front, behind, scalar}
-use Rattle.paper.specs.Values.{upTo, onward, is, isUcschar, barred, inRanges, isIriScalar, isIriBody, isScheme, isIri}
-use Rattle.paper.proofs.Tests.{split, apart, either, or-right, inside, below, above, byRange}
+use Rattle.paper.specs.Values.{upTo, onward, is, ucschar, barred, inRanges, isIriScalar, isIriBody, isScheme, isIri}
+use Rattle.paper.proofs.Tests.{split, apart, or-right, inside, above, byRange}
 use Rattle.paper.proofs.Lists.{both, elem-apart, front-all}
 use Rattle.paper.proofs.Scalars.{row-one, scalar-one, scalar-shorter}
 use Rattle.text.specs.declared.utf8.Cursor.{Cursor}
@@ -22,39 +22,8 @@ use Rattle.text.specs.declared.utf8.Step.{Step}
 use Rattle.text.specs.Steps.{stepAt}
 use Rattle.text.proofs.Places.{here}
 use Rattle.text.proofs.Steps.{Stepped, ended, failed}
+use Rattle.values.proofs.Ranges.{every, every-in, clear, clear-out, covered, covered-in, planes, in-planes}
 use Rattle.values.proofs.Runs.{starts-one, endsAt, mark-ends, no-mark-ends, up-to-run, up-to-more}
-
--- ---- stretches of numbers
-
--- a test of so many numbers, from one on
-abbrev pub every : (ℕ → Bool) → ℕ → ℕ → Bool
-every test low zero = true
-every test low (suc n) = test low && every test (low + 1) n
-
-every-in : (test : ℕ → Bool) (n low b : ℕ) → every test low n ≡ true → low ≤ b → b < low + n → test b ≡ true
-every-in test zero low b e h k = absurd (omega arith)
-every-in test (suc n) low b e h k =
-    let t = both (test low) (every test (low + 1) n) e in
-    split (leb b low) (λ l. let q : b ≡ low = omega (arith, leb-true b low l) in ap test q ∙ t .0)
-    (λ l. every-in test n (low + 1) b (t .1) (omega (arith, leb-false b low l)) (omega arith))
-
--- no range of a list has a number from low to high
-abbrev pub clear : ℕ → ℕ → List (ℕ × ℕ) → Bool
-clear low high [] = true
-clear low high (r ∷ rs) = (leb (r .1 + 1) low || leb (high + 1) (r .0)) && clear low high rs
-
-row-out : (low high v : ℕ) (r : ℕ × ℕ) → leb (r .1 + 1) low || leb (high + 1) (r .0) ≡ true → low ≤ v → v ≤ high → within (r .0) (r .1) v ≡ false
-row-out low high v r e l h =
-    either (leb (r .1 + 1) low) (leb (high + 1) (r .0)) e
-    (λ k. above (r .0) (r .1) v (omega (arith, leb-true (r .1 + 1) low k)))
-    (λ k. below (r .0) (r .1) v (omega (arith, leb-true (high + 1) (r .0) k)))
-
-clear-out : (low high v : ℕ) (rs : List (ℕ × ℕ)) → clear low high rs ≡ true → low ≤ v → v ≤ high → inRanges rs v ≡ false
-unfolding inRanges
-clear-out low high v [] e l h = refl
-clear-out low high v (r ∷ rs) e l h =
-    let t = both (leb (r .1 + 1) low || leb (high + 1) (r .0)) (clear low high rs) e in
-    rw (row-out low high v r (t .0) l h, clear-out low high v rs (t .1) l h)
 
 -- ---- scalar values
 
@@ -67,7 +36,7 @@ module _ (v : ℕ) where
   outside low high n = byRange low high v (λ l h e. absurd (n l h)) (λ e. e)
 
   -- those beyond ASCII
-  iri-high : 0x80 ≤ v → isUcschar v && not (inRanges barred v) ≡ isIriScalar v
+  iri-high : 0x80 ≤ v → inRanges ucschar v && not (inRanges barred v) ≡ isIriScalar v
   unfolding isIriScalar isNameByte isLetter isUpper isLower isDigit elem all
   iri-high h =
       rw (
@@ -77,65 +46,35 @@ module _ (v : ℕ) where
         elem-apart (leb 0x80) v marks (le-leb 0x80 v h) refl,
       )
 
-  -- up to U+D7FF all but request One's list: a stretch that is clear of it, and one that lies in it
-  iri-low : 0xA0 ≤ v → v ≤ 0xD7FF → not (inRanges barred v) ≡ isIriScalar v
-  unfolding isUcschar
-  iri-low l h = rw (inside 0xA0 0xD7FF v l h) at (iri-high (omega arith))
+  -- a stretch that a range takes and request One's list leaves, one that no range takes, and one that lies in the list
+  pub iri-taken : (low high : ℕ) → covered low high ucschar && clear low high barred ≡ true → 0x80 ≤ low → low ≤ v → v ≤ high → true ≡ isIriScalar v
+  iri-taken low high e k l h =
+      let t = both (covered low high ucschar) (clear low high barred) e in
+      rw (covered-in low high v l h ucschar (t .0), clear-out low high v l h barred (t .1)) at (iri-high (omega arith))
 
-  pub iri-clear : (low high : ℕ) → clear low high barred ≡ true → 0xA0 ≤ low → high ≤ 0xD7FF → low ≤ v → v ≤ high → true ≡ isIriScalar v
-  iri-clear low high e j k l h = rw (clear-out low high v barred e l h) at (iri-low (omega arith) (omega arith))
+  pub iri-out : (low high : ℕ) → clear low high ucschar ≡ true → 0x80 ≤ low → low ≤ v → v ≤ high → false ≡ isIriScalar v
+  iri-out low high e k l h = rw (clear-out low high v l h ucschar e) at (iri-high (omega arith))
 
-  pub iri-barred : (low n : ℕ) → every (inRanges barred) low n ≡ true → 0xA0 ≤ low → low + n ≤ 0xD800 → low ≤ v → v < low + n → false ≡ isIriScalar v
-  iri-barred low n e j k l h = rw (every-in (inRanges barred) n low v e l h) at (iri-low (omega arith) (omega arith))
-
-  -- above it the list has nothing
-  iri-far : 0x3001 ≤ v → isUcschar v ≡ isIriScalar v
-  iri-far h = rw (clear-out 0x3001 v v barred refl h (omega arith), and-true (isUcschar v)) at (iri-high (omega arith))
-
-  pub iri-forms : 0xF900 ≤ v → v ≤ 0xFDCF → true ≡ isIriScalar v
-  unfolding isUcschar
-  iri-forms l h = rw (above 0xA0 0xD7FF v (omega arith), inside 0xF900 0xFDCF v l h) at (iri-far (omega arith))
-
-  pub iri-more-forms : 0xFDF0 ≤ v → v ≤ 0xFFEF → true ≡ isIriScalar v
-  unfolding isUcschar
-  iri-more-forms l h = rw (above 0xA0 0xD7FF v (omega arith), above 0xF900 0xFDCF v (omega arith), inside 0xFDF0 0xFFEF v l h) at (iri-far (omega arith))
-
-  pub iri-planes : 0x10000 ≤ v → v ≤ 0xDFFFF → leb (v % 0x10000) 0xFFFD ≡ isIriScalar v
-  unfolding isUcschar
-  iri-planes l h =
-      rw (
-        above 0xA0 0xD7FF v (omega arith),
-        above 0xF900 0xFDCF v (omega arith),
-        above 0xFDF0 0xFFEF v (omega arith),
-        inside 0x10000 0xDFFFF v l h,
-        below 0xE1000 0xEFFFD v (omega arith),
-        or-false (leb (v % 0x10000) 0xFFFD),
-      ) at (iri-far (omega arith))
-
-  pub iri-last-plane : 0xE1000 ≤ v → v ≤ 0xEFFFD → true ≡ isIriScalar v
-  unfolding isUcschar
-  iri-last-plane l h =
-      rw (
-        above 0xA0 0xD7FF v (omega arith),
-        above 0xF900 0xFDCF v (omega arith),
-        above 0xFDF0 0xFFEF v (omega arith),
-        above 0x10000 0xDFFFF v (omega arith),
-        inside 0xE1000 0xEFFFD v l h,
-      ) at (iri-far (omega arith))
-
-  pub iri-none : 0x80 ≤ v → (0xA0 ≤ v → v ≤ 0xD7FF → ⊥) → (0xF900 ≤ v → v ≤ 0xFDCF → ⊥) → (0xFDF0 ≤ v → v ≤ 0xFFEF → ⊥)
-      → (0x10000 ≤ v → v ≤ 0xDFFFF → ⊥) → (0xE1000 ≤ v → v ≤ 0xEFFFD → ⊥) → false ≡ isIriScalar v
-  unfolding isUcschar
-  iri-none h a b c d e =
-      rw (outside 0xA0 0xD7FF a, outside 0xF900 0xFDCF b, outside 0xFDF0 0xFFEF c, outside 0x10000 0xDFFFF d, outside 0xE1000 0xEFFFD e) at (iri-high h)
+  pub iri-barred : (low n : ℕ) → every (inRanges barred) low n ≡ true → 0x80 ≤ low → low ≤ v → v < low + n → false ≡ isIriScalar v
+  iri-barred low n e k l h = rw (every-in (inRanges barred) n low v e l h, and-false (inRanges ucschar v)) at (iri-high (omega arith))
 
   -- the first gap: controls, and the first letter of the list
   pub iri-first-gap : 0x80 ≤ v → v ≤ 0xA0 → false ≡ isIriScalar v
   unfolding inRanges
   iri-first-gap l h =
-      split (leb v 0x9F)
-      (λ k. let j = leb-true v 0x9F k in iri-none l (λ a b. omega arith) (λ a b. omega arith) (λ a b. omega arith) (λ a b. omega arith) (λ a b. omega arith))
-      (λ k. iri-barred 0xA0 1 refl (omega arith) (omega arith) (omega (arith, leb-false v 0x9F k)) (omega arith))
+      split (leb v 0x9F) (λ k. iri-out 0x80 0x9F refl (omega arith) l (leb-true v 0x9F k))
+      (λ k. iri-barred 0xA0 1 refl (omega arith) (omega (arith, leb-false v 0x9F k)) (omega arith))
+
+  -- from U+10000 on: thirteen planes, and the last range behind them
+  planes-only : 0x10000 ≤ v → inRanges ucschar v ≡ inRanges (planes 1 13 ((0xE1000, 0xEFFFD) ∷ [])) v
+  unfolding inRanges
+  planes-only l = rw (above 0xA0 0xD7FF v (omega arith), above 0xF900 0xFDCF v (omega arith), above 0xFDF0 0xFFEF v (omega arith))
+
+  pub iri-planes : 0x10000 ≤ v → v ≤ 0xDFFFF → leb (v % 0x10000) 0xFFFD ≡ isIriScalar v
+  iri-planes l h =
+      in-planes v ((0xE1000, 0xEFFFD) ∷ []) (clear-out 0x10000 0xDFFFF v l h ((0xE1000, 0xEFFFD) ∷ []) refl) 13 1 l (omega arith)
+      ∙ sym (planes-only l)
+      ∙ rw (clear-out 0x10000 0xDFFFF v l h barred refl, and-true (inRanges ucschar v)) at (iri-high (omega arith))
 
 -- ---- bytes of ASCII
 
@@ -158,7 +97,7 @@ Single b = (b ≡ byte "!") ⊎ ((b ≡ byte "=") ⊎ ((b ≡ byte "]") ⊎ ((b 
 
 module _ (b : ℕ) (h : b ≤ 0x7F) where
   in-ascii : inAscii b ≡ isIriScalar b
-  unfolding agree isIriScalar isUcschar inRanges isNameByte isLetter isUpper isLower isDigit elem
+  unfolding agree isIriScalar inRanges isNameByte isLetter isUpper isLower isDigit elem
   in-ascii = agree-same (inAscii b) (isIriScalar b) (every-in (λ b. agree (inAscii b) (isIriScalar b)) 128 0 b refl (omega arith) (omega arith))
 
   ascii-in : inAscii b ≡ true → true ≡ isIriScalar b
@@ -174,7 +113,7 @@ module _ (b : ℕ) (h : b ≤ 0x7F) where
   ascii-lower e = ascii-in (or-right (within (byte "#") (byte ";") b || within (byte "?") (byte "[") b) _ (rw e))
 
   pub ascii-single : Single b → true ≡ isIriScalar b
-  unfolding isIriScalar isUcschar inRanges isNameByte isLetter isUpper isLower isDigit elem
+  unfolding isIriScalar inRanges isNameByte isLetter isUpper isLower isDigit elem
   ascii-single = ⊎-elim (λ q. rw q) (⊎-elim (λ q. rw q) (⊎-elim (λ q. rw q) (⊎-elim (λ q. rw q) (λ q. rw q))))
 
   pub ascii-none : isLower b ≡ false → (Single b → ⊥) → (byte "#" ≤ b → b ≤ byte ";" → ⊥) → (byte "?" ≤ b → b ≤ byte "[" → ⊥) → false ≡ isIriScalar b

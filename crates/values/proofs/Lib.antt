@@ -9,6 +9,7 @@ pub mod WordEnds
 pub mod Integers
 pub mod NumberForms
 pub mod Groups
+pub mod Ranges
 pub mod IriParts
 pub mod FirstBytes
 pub mod LeafReads
