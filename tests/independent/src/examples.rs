@@ -3,6 +3,7 @@
 
 use crate::reader::{read_sheet, table_answer, view, view_answer, Answer, Refusal};
 use crate::rolls::{add_sheet, read_roll};
+use crate::times::time_answer;
 use crate::writer::write_form;
 
 /// Lab in children mode, Steps in content mode.
@@ -410,7 +411,7 @@ fn reading_42() {
     }
     let bad = [
         "1.", ".5", "1/-2", "01/2", "1e05", "1/02", "truex", "-Infinity", "Infinity", "$", "$a", "~A", "~", "-", "1e", "1/2/3", "-x:y",
-        "1:", "123e4567-E89b-12d3-a456-42661417400", "1e1/2", "1i", "1.5p", "#fff", "{now}", "(1)", "set[1]",
+        "1:", "123e4567-E89b-12d3-a456-42661417400", "1e1/2", "1i", "1.5p", "#fff", "(1)", "set[1]",
     ];
     for value in bad {
         value_no_kind(value);
@@ -619,4 +620,155 @@ fn request_one_readings_1_to_3() {
     // 3
     value_no_kind("x:a\u{A0}b=1");
     value_refused("x:\u{200F}", 9, 12);
+}
+
+// ---- Request Two; the numbers are those of READINGS-02.md
+
+/// The value is a time of the kind with this number in 001 §18's order, as a trait's value and as a list item.
+#[track_caller]
+fn time_of_kind(value: &str, kind: usize) {
+    assert_eq!(time_answer(value.as_bytes()), kind, "{value}");
+    value_form(value, 13);
+    value_form(&format!("[{value}]"), 12);
+    written(value, value);
+}
+
+/// The value is read up to its "}" and is no time.
+#[track_caller]
+fn no_time(value: &str) {
+    assert_eq!(time_answer(value.as_bytes()), 0, "{value}");
+    value_no_kind(value);
+    value_no_kind(&format!("[1,{value}]"));
+}
+
+#[test]
+fn request_two_reading_4() {
+    refused("<Lab n={now />\n}", 6, 7);
+    refused("<Lab n={\"}\"} />", 6, 7);
+    refused("<Lab n={ x />\n</Lab>\n", 9, 21);
+    refused("<Lab n={x", 9, 9);
+    refused("<Lab n={", 9, 8);
+    refused("<Lab n=[1,{now]/>", 9, 17);
+    refused("<Lab n=[04,{now]/>", 6, 7);
+    refused("<Lab n={{now}} />", 6, 7);
+    refused("<Lab n={now\r\n} />", 6, 7);
+    refused("<Lab n={now\r} />", 3, 11);
+}
+
+#[test]
+fn request_two_reading_5() {
+    refused("<Lab n={now}x />", 7, 12);
+    refused("<Lab n=[{now}x] />", 6, 7);
+    accepted("<Lab n={now}/>");
+    refused("<Lab n=x:{now} />", 6, 7);
+    accepted("<Lab n={now}>\n</Lab>");
+    refused("<Lab n={now}} />", 7, 12);
+    refused("<Lab n={now}{now} />", 7, 12);
+    refused("<Lab n={now}m=1 />", 7, 12);
+    refused("<Lab n={now}", 9, 12);
+    refused("<Lab n=[{now}", 9, 13);
+    refused("<Lab n=[{now} ] />", 6, 7);
+    refused("<Lab n=[{now}{now}] />", 6, 7);
+    refused("<Lab n=1{now} />", 6, 7);
+    refused("<Lab n=x:{now", 9, 13);
+}
+
+#[test]
+fn request_two_reading_6() {
+    time_of_kind("{0000-02-29}", 3);
+    no_time("{1900-02-29}");
+    time_of_kind("{02-29}", 5);
+    no_time("{02-30}");
+    no_time("{04-31}");
+    time_of_kind("{2000-02-29}", 3);
+    time_of_kind("{9999-12-31}", 3);
+    time_of_kind("{0000-01}", 4);
+    for bad in ["{2100-02-29}", "{2023-02-29}", "{2024-02-30}", "{2024-00-01}", "{2024-13-01}", "{2024-01-00}", "{2024-13}", "{00-01}"] {
+        no_time(bad);
+    }
+}
+
+#[test]
+fn request_two_reading_7() {
+    time_of_kind("{2024-01-01T00:00+23:59}", 1);
+    no_time("{2024-01-01T00:00+24:00}");
+    time_of_kind("{2024-01-01T00:00-00:00}", 1);
+    no_time("{2024-01-01T00:00+00:60}");
+    no_time("{23:59:60}");
+    no_time("{24:00}");
+    no_time("{23:60}");
+    time_of_kind("{23:59:59}", 6);
+}
+
+#[test]
+fn request_two_reading_8() {
+    no_time("{12:00Z}");
+    no_time("{2024-01-01T00:00[a]}");
+    no_time("{2024-01-01T00:00Z[Etc/GMT+1]}");
+    time_of_kind("{12:00:00.1234567}", 6);
+    time_of_kind("{2024-01-01T00:00:00.5}", 2);
+    time_of_kind("{2024-01-01T00:00Z[Europe/Berlin_-9]}", 1);
+    for bad in ["{2024-01-01Z}", "{2024-01T00:00}", "{2024-01-01T}", "{2024-01-01T00:00Z[]}", "{12:00:00.}", "{12:00.5}", "{2024}"] {
+        no_time(bad);
+    }
+}
+
+#[test]
+fn request_two_reading_9() {
+    for duration in ["{P1D2Y1D}", "{P007D}", "{P0D}", "{PT1.5H2.5M}"] {
+        time_of_kind(duration, 7);
+    }
+    for bad in ["{P1.5D}", "{P}", "{PT}", "{P1DT}", "{}", "{Now}"] {
+        no_time(bad);
+    }
+    time_of_kind("{today}", 8);
+    time_of_kind("{now}", 8);
+    time_of_kind("{P1Y2M3W4DT5H6M7.25S}", 7);
+    for bad in ["{PT1.H}", "{PT.5H}", "{P1H}", "{PT1D}", "{p1D}", "{P1d}", "{-P1D}", "{P1}", "{P1T1H}", "{TODAY}", "{now }", "{ now}"] {
+        no_time(bad);
+    }
+}
+
+#[test]
+fn request_two_reading_10() {
+    refused("<Lab n=[{now},{noon}] />", 6, 7);
+    refused_with("<Lab n={now}?", 8, 11, 5);
+    refused_with("<Lab n={no}?", 8, 6, 7);
+    refused_with("<Lab n={no", 8, 9, 10);
+    refused_with("<Lab n=[{now}]?", 16, 11, 8);
+    refused("<Lab n={now}?", 7, 12);
+}
+
+#[test]
+fn request_two_entries_and_form() {
+    cells(
+        "<Lab n=[{now},{P1D}] m={02-29}/>",
+        &[
+            [1, 1, TOP, 2, 1, 4, 0, 32],
+            [2, 12, 0, 2, 5, 6, 7, 20],
+            [3, 13, 1, 0, 8, 8, 8, 13],
+            [3, 13, 1, 0, 14, 14, 14, 19],
+            [2, 13, 0, 0, 21, 22, 23, 30],
+        ],
+    );
+    form("<Lab\tn={PT007.50S}>\n</Lab>", "<Lab n={PT007.50S}>\n</Lab>\n");
+    form("<Lab a={now} b={12:00}\nc={2024-01}/>", "<Lab\n\ta={now}\n\tb={12:00}\n\tc={2024-01}\n/>\n");
+    written("[{2024-01-01T00:00Z[a/B]},[{now},\n{P1D}]]", "[{2024-01-01T00:00Z[a/B]}, [{now}, {P1D}]]");
+    // a brace is no value in Content, an annotation or a string
+    form("[{ }]\n<Steps n=\"{\">\n\t{\n</Steps>", "[{ }]\n<Steps n=\"{\">\n\t{\n</Steps>\n");
+    records("<Lab n={now\n<Lab n={now}/>\n", &[[0, 12, 9, 12, 0], [12, 27, 0, 15, 2]]);
+}
+
+#[test]
+fn request_two_time_answers() {
+    let kinds = ["{2024-02-29T12:00Z}", "{2024-02-29T12:00}", "{2024-02-29}", "{2024-02}", "{02-29}", "{12:00}", "{P1D}", "{now}"];
+    for (number, time) in kinds.iter().enumerate() {
+        time_of_kind(time, number + 1);
+    }
+    for value in
+        ["", "{", "}", "now", "{now", "now}", " {now}", "{now} ", "{now}\n", "{now}}", "{{now}", "{now}{now}", "[{now}]", "{now}/>"]
+    {
+        assert_eq!(time_answer(value.as_bytes()), 0, "{value}");
+    }
+    assert_eq!(time_answer(b"{\xFF}"), 0);
 }

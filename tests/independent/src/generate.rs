@@ -1,5 +1,5 @@
-//! Makes request lines from a seed: tables, sheets and rolls that are valid, nearly valid, damaged, cut or at a limit.
-//! Follows document 01's grammar to print trees in random layouts; each printed rule may be broken once.
+//! Makes request lines from a seed: tables, sheets, rolls and times that are valid, nearly valid, damaged, cut or at a limit.
+//! Follows document 01's grammar, and 001 §18's, to print trees in random layouts; each printed rule may be broken once.
 
 use crate::reader::{read_sheet, CONCEPTS_DEEP, ENTRIES, ENTRY_CELLS, NAME_BYTES, SHEET_BYTES};
 use crate::rolls::{read_roll, RECORD_CELLS, ROLL_BYTES, SHEETS};
@@ -11,9 +11,9 @@ use crate::writer::write_form;
 const PLENTY: usize = ENTRIES * ENTRY_CELLS;
 
 /// The kinds of requests, by their first words.
-pub const KINDS: [&str; 6] = ["table", "sheet", "form", "view", "roll", "add"];
+pub const KINDS: [&str; 7] = ["table", "sheet", "form", "view", "roll", "add", "time"];
 
-/// `count` request lines of the kinds named, none with a sheet longer than `longest` or a roll longer than four times that.
+/// `count` request lines of the kinds named, none with a sheet or a time longer than `longest` or a roll longer than four times that.
 pub fn requests(seed: u64, count: usize, longest: usize, kinds: &[&str]) -> Vec<String> {
     let mut chance = Chance(seed);
     let mut lines = Vec::new();
@@ -26,10 +26,10 @@ pub fn requests(seed: u64, count: usize, longest: usize, kinds: &[&str]) -> Vec<
     lines
 }
 
-/// The requests about one table, sheet or roll, of all kinds.
+/// The requests about one table, sheet, roll or time, of all kinds.
 fn add_requests(lines: &mut Vec<String>, chance: &mut Chance, longest: usize) {
     let names = Names::random(chance);
-    match chance.below(360) {
+    match chance.below(440) {
         0..=19 => add_table(lines, chance, &names, longest),
         20..=27 => add_limit(lines, chance, longest),
         28 => add_cuts(lines, chance, &names, longest),
@@ -47,6 +47,7 @@ fn add_requests(lines: &mut Vec<String>, chance: &mut Chance, longest: usize) {
         }
         130..=189 => add_roll(lines, chance, &names, longest),
         190..=249 => add_adding(lines, chance, &names, longest),
+        250..=329 => add_time(lines, chance, longest),
         _ => {
             let sheet = any_sheet(chance, &names);
             add_sheet(lines, chance, &names.table(), &sheet, longest);
@@ -359,13 +360,15 @@ fn pieces_in_a_row(chance: &mut Chance) -> String {
         "\"", "\\", "\\u", "{", "}", "0", "1", "D8", "'", "`", "[", "]", ",", " ", "\n", "/", ">", "x:", ".", "e", "-", "a", "true",
         "\u{e9}", "$", "~",
     ];
-    let (start, pieces) = match chance.below(7) {
+    let (start, pieces) = match chance.below(9) {
         0 => ("", &lines[..]),
         1 => ("<Lab>\n", &lines[..]),
         2 => ("\t<Steps>\n", &lines[..]),
         3 => ("[a", &lines[..]),
         4 => ("<Lab n=\"", &values[..]),
         5 => ("<Lab n=[", &values[..]),
+        6 => ("<Lab n=", &TIME_PIECES[..]),
+        7 => ("<Lab n=[{", &TIME_PIECES[..]),
         _ => ("<Lab n=", &values[..]),
     };
     let mut sheet = start.to_string();
@@ -430,6 +433,263 @@ fn hidden_letter(chance: &mut Chance) -> char {
     char::from_u32(scalar).expect("none is near the surrogates")
 }
 
+// ---- Times
+
+/// A time, or what is nearly one, alone and in a sheet.
+fn add_time(lines: &mut Vec<String>, chance: &mut Chance, longest: usize) {
+    let time = any_time(chance);
+    let alone = time_alone(chance, &time);
+    if alone.len() <= longest {
+        lines.push(format!("time {}", to_hex(&alone)));
+    }
+    let sheet = one_time(chance, &time);
+    add_sheet(lines, chance, &Names::papers().table(), &sheet, longest);
+}
+
+/// A time that is good in half of the cases, else nearly good or pieces in a row between braces.
+fn any_time(chance: &mut Chance) -> String {
+    match chance.below(8) {
+        0..=3 => good_time(chance),
+        4..=6 => nearly_time(chance),
+        _ => {
+            let pieces: String = (0..chance.below(8)).map(|_| chance.pick(&TIME_PIECES)).collect();
+            format!("{{{pieces}}}")
+        }
+    }
+}
+
+/// The time as it is; at times with bytes before or behind it, without its braces, damaged, cut, or none at all.
+fn time_alone(chance: &mut Chance, time: &str) -> Vec<u8> {
+    let beside = [" ", "x", "{", "}", "\n", "{now}", "\"", "1", "/>"];
+    let bytes = time.as_bytes().to_vec();
+    match chance.below(20) {
+        0 => [chance.pick(&beside).as_bytes(), &bytes].concat(),
+        1 | 2 => [&bytes, chance.pick(&beside).as_bytes()].concat(),
+        3 => time.trim_matches(&['{', '}'][..]).as_bytes().to_vec(),
+        4 | 5 => damaged(chance, bytes),
+        6 => bytes[..chance.below(bytes.len() + 1)].to_vec(),
+        7 if chance.one_in(4) => Vec::new(),
+        _ => bytes,
+    }
+}
+
+/// A sheet with the time as a trait's value or a list item, with junk beside it, or where no value begins; at times cut.
+fn one_time(chance: &mut Chance, time: &str) -> Vec<u8> {
+    let good = [
+        ("<Lab n=", "/>"),
+        ("<Lab n=", " />"),
+        ("<Lab n=", ">\n</Lab>"),
+        ("<Steps n=", "\r\n>\n\t{now}\n</Steps>"),
+        ("<Lab n=", " m={now}/>"),
+        ("<Lab a=1 b=", "\tc=\"{\" />"),
+        ("<Lab n=[", "]/>"),
+        ("<Lab n=[1,", ", x:]/>"),
+        ("<Lab n=[[], ", ",\n\"a\"] />"),
+        ("<Lab n=[{P1D},[{02-29}, ", "]] />"),
+        ("<Lab n=[[[[[[[[", "]]]]]]]]/>"),
+    ];
+    let other = [
+        ("<Lab n=", "x />"),
+        ("<Lab n=", "m=1/>"),
+        ("<Lab n=", "{now} />"),
+        ("<Lab n=", "}/>"),
+        ("<Lab n=", "] />"),
+        ("<Lab n=", ",{now}/>"),
+        ("<Lab n=", "\" />"),
+        ("<Lab n=", "/ >\n</Lab>"),
+        ("<Lab n=", ""),
+        ("<Lab n=[", ""),
+        ("<Lab n=[", "x]/>"),
+        ("<Lab n=[", "{now}]/>"),
+        ("<Lab n=[", " ]/>"),
+        ("<Lab n=[", ",]/>"),
+        ("<Lab n=[", "}]/>"),
+        ("<Lab n=[", ">\n</Lab>"),
+        ("<Lab n=[04,", "]/>"),
+        ("<Lab n=[ ", "]/>"),
+        ("<Lab n=[[[[[[[[[", "]]]]]]]]]/>"),
+        ("<Lab n=x:", " />"),
+        ("<Lab n=1", " />"),
+        ("<Lab n=$A", "/>"),
+        ("<Lab n= ", "/>"),
+        ("<Lab n=\"", "\" />"),
+        ("<Lab n=`", "` />"),
+        ("<Lab n={", "/>"),
+        ("<Lab n", "/>"),
+        ("<Lab ", "/>"),
+        ("[", "]\n<Lab/>"),
+        ("<Steps>\n\t", "\n</Steps>"),
+        ("<Lab>\n", "\n</Lab>"),
+    ];
+    let around = if chance.one_in(3) { &other[..] } else { &good[..] };
+    let (before, behind) = around[chance.below(around.len())];
+    let sheet = format!("{before}{time}{behind}").into_bytes();
+    let length = if chance.one_in(8) { chance.below(sheet.len() + 1) } else { sheet.len() };
+    sheet[..length].to_vec()
+}
+
+/// A time of a random kind.
+fn good_time(chance: &mut Chance) -> String {
+    let kind = 1 + chance.below(8);
+    time_of_kind(chance, kind)
+}
+
+/// A time of the kind with this number in 001 §18's order.
+fn time_of_kind(chance: &mut Chance, kind: usize) -> String {
+    let body = match kind {
+        1 => format!("{}T{}{}", random_date(chance), random_time_of_day(chance), random_zone(chance)),
+        2 => format!("{}T{}", random_date(chance), random_time_of_day(chance)),
+        3 => random_date(chance),
+        4 => format!("{}-{:02}", random_year(chance), 1 + chance.below(12)),
+        5 if chance.one_in(4) => "02-29".to_string(),
+        5 => random_month_day(chance),
+        6 => random_time_of_day(chance),
+        7 => random_duration(chance),
+        _ => chance.pick(&["now", "today"]).to_string(),
+    };
+    format!("{{{body}}}")
+}
+
+fn random_year(chance: &mut Chance) -> String {
+    let telling = ["0000", "0001", "0004", "0100", "0400", "1582", "1900", "1999", "2000", "2023", "2024", "2100", "9996", "9999"];
+    if chance.one_in(3) {
+        format!("{:04}", chance.below(10_000))
+    } else {
+        chance.pick(&telling).to_string()
+    }
+}
+
+/// A month and a day that every year has.
+fn random_month_day(chance: &mut Chance) -> String {
+    let last = [
+        "01-31", "02-28", "03-31", "04-30", "05-31", "06-30", "07-31", "08-31", "09-30", "10-31", "11-30", "12-31", "01-01", "02-01",
+        "10-10",
+    ];
+    if chance.one_in(3) {
+        format!("{:02}-{:02}", 1 + chance.below(12), 1 + chance.below(28))
+    } else {
+        chance.pick(&last).to_string()
+    }
+}
+
+fn random_date(chance: &mut Chance) -> String {
+    if chance.one_in(4) {
+        let leap_years = ["0000", "0004", "0400", "1600", "1904", "1996", "2000", "2024", "2400", "9996"];
+        return format!("{}-02-29", chance.pick(&leap_years));
+    }
+    format!("{}-{}", random_year(chance), random_month_day(chance))
+}
+
+fn random_hour_and_minute(chance: &mut Chance) -> String {
+    let (hour, minute) = (chance.below(24), chance.below(60));
+    format!("{:02}:{:02}", chance.pick(&[&0, &23, &hour]), chance.pick(&[&0, &59, &minute]))
+}
+
+fn random_time_of_day(chance: &mut Chance) -> String {
+    let mut time = random_hour_and_minute(chance);
+    if !chance.one_in(3) {
+        let second = chance.below(60);
+        time.push_str(&format!(":{:02}", chance.pick(&[&0, &59, &second])));
+        if chance.one_in(2) {
+            time.push('.');
+            time.push_str(&random_digits(chance));
+        }
+    }
+    time
+}
+
+/// An offset, at times with a name.
+fn random_zone(chance: &mut Chance) -> String {
+    let names = ["[Europe/Berlin]", "[a]", "[Etc/GMT-1]", "[_-/]", "[0]", "[America/Argentina/Buenos_Aires]"];
+    let sign = chance.pick(&["+", "-"]);
+    let offset = if chance.one_in(3) { "Z".to_string() } else { format!("{sign}{}", random_hour_and_minute(chance)) };
+    offset + if chance.one_in(2) { chance.pick(&names) } else { "" }
+}
+
+/// Parts in any order, behind T with fractions, too.
+fn random_duration(chance: &mut Chance) -> String {
+    let mut duration = String::from("P");
+    let has_time = chance.one_in(2);
+    let parts = if has_time { chance.below(3) } else { 1 + chance.below(4) };
+    for _ in 0..parts {
+        duration.push_str(&random_digits(chance));
+        duration.push_str(chance.pick(&["Y", "M", "W", "D"]));
+    }
+    if has_time {
+        duration.push('T');
+        for _ in 0..1 + chance.below(3) {
+            duration.push_str(&random_digits(chance));
+            if chance.one_in(3) {
+                duration.push('.');
+                duration.push_str(&random_digits(chance));
+            }
+            duration.push_str(chance.pick(&["H", "M", "S"]));
+        }
+    }
+    duration
+}
+
+fn random_digits(chance: &mut Chance) -> String {
+    if chance.one_in(16) {
+        return "9".repeat(1 + chance.below(40));
+    }
+    chance.pick(&["0", "1", "2", "5", "00", "007", "10", "123", "1234567", "18446744073709551616"]).to_string()
+}
+
+/// A good time with one small change, which mostly makes it none.
+fn nearly_time(chance: &mut Chance) -> String {
+    let mut time = good_time(chance);
+    let at = 1 + chance.below(time.len() - 1);
+    match chance.below(10) {
+        0 => time.insert_str(at, chance.pick(&[" ", "\t", "\n", "\r\n", "}", "{", "\"", "'", ">", "/>", "\u{e9}", ",", "]", "0"])),
+        1 => time.insert_str(at, chance.pick(&TIME_PIECES)),
+        2 => drop(time.remove(at)),
+        3 => time.replace_range(at.., &other_case(&time[at..])),
+        4 => time.truncate(at),
+        5..=7 => change_field(chance, &mut time),
+        _ => time = chance.pick(&FAULTY_TIMES).to_string(),
+    }
+    time
+}
+
+fn other_case(text: &str) -> String {
+    text.chars().map(|one| if one.is_ascii_uppercase() { one.to_ascii_lowercase() } else { one.to_ascii_uppercase() }).collect()
+}
+
+/// Puts other digits where two stand together: those at and behind the fields' bounds, too few or too many.
+fn change_field(chance: &mut Chance, time: &mut String) {
+    let pairs: Vec<usize> = (1..time.len()).filter(|&at| time.as_bytes()[at - 1..=at].iter().all(u8::is_ascii_digit)).collect();
+    if !pairs.is_empty() {
+        let past = pairs[chance.below(pairs.len())] + 1;
+        let others = ["00", "01", "12", "13", "19", "23", "24", "28", "29", "30", "31", "32", "59", "60", "61", "99", "1", "011", ""];
+        time.replace_range(past - 2..past, chance.pick(&others));
+    }
+}
+
+/// What times are made of, and what may not stand in them.
+const TIME_PIECES: [&str; 39] = [
+    "{", "}", "{", "}", "2024", "2000-02", "02-29", "-02", "-29", "-", "T", "T", "12:00", "00:00", ":59", ":", ".5", ".", "Z", "+01:00",
+    "-00:00", "[a/b]", "[", "]", "P", "P", "1", "0", "1D", "2Y", "3M", "1.5", "S", "H", "now", "today", " ", "\n", ",",
+];
+
+/// Spellings in braces that are no time, or that stop short of one.
+const FAULTY_TIMES: [&str; 118] = [
+    "{}", "{", "{ }", "{P}", "{PT}", "{P1DT}", "{P1.5D}", "{PT1.H}", "{PT.5S}", "{PT1.5.5S}", "{P1}", "{PT1}", "{PT1.5}", "{P1H}",
+    "{PT1D}", "{P-1D}", "{-P1D}", "{+P1D}", "{P1DT1.5D}", "{PT1H1D}", "{P1D T1H}", "{PT1HT1M}", "{P1T1H}", "{TP1D}", "{1D}", "{PD}",
+    "{P1,5D}", "{p1D}", "{P1d}", "{Pt1H}", "{PT1h}", "{PP1D}", "{P1DP1D}", "{12:00Z}", "{12:00+01:00}", "{12:00[a]}", "{24:00}", "{23:60}",
+    "{23:59:60}", "{24:00:00}", "{12:00:}", "{12:00:00.}", "{12:00.5}", "{12:00:00:00}", "{12}", "{12:}", "{1:00}", "{12:0}", "{012:00}",
+    "{T12:00}", "{12:00:00,5}", "{-12:00}", "{12-00:00}", "{2024-00-01}", "{2024-13-01}", "{2024-01-00}", "{2024-01-32}", "{2024-02-30}",
+    "{2023-02-29}", "{1900-02-29}", "{2100-02-29}", "{0100-02-29}", "{2024-04-31}", "{2024-06-31}", "{02-30}", "{04-31}", "{06-31}",
+    "{09-31}", "{11-31}", "{00-01}", "{13-01}", "{01-00}", "{01-32}", "{2024-00}", "{2024-13}", "{2024}", "{2024-1}", "{2024-1-1}",
+    "{24-01-01}", "{02024-01-01}", "{-2024-01-01}", "{--02-29}", "{2024-01-01T}", "{2024-01-01T24:00}", "{2024-01-01t00:00}",
+    "{2024-01-01 00:00}", "{2024-01-01Z}", "{2024-01T00:00}", "{01-01T00:00}", "{2024-01-01T00:00z}", "{2024-01-01T00:00+24:00}",
+    "{2024-01-01T00:00-00:60}", "{2024-01-01T00:00+0100}", "{2024-01-01T00:00+01}", "{2024-01-01T00:00+01:00:00}", "{2024-01-01T00:00ZZ}",
+    "{2024-01-01T00:00Z+00:00}", "{2024-01-01T00:00[a]}", "{2024-01-01T00:00Z[]}", "{2024-01-01T00:00Z[a}", "{2024-01-01T00:00Za]}",
+    "{2024-01-01T00:00Z[a]]}", "{2024-01-01T00:00Z[a][b]}", "{2024-01-01T00:00Z[Etc/GMT+1]}", "{2024-01-01T00:00Z[a b]}",
+    "{2024-01-01T00:00Z [a]}", "{2023-02-29T00:00Z}", "{Now}", "{NOW}", "{noon}", "{no}", "{nowtoday}", "{today }", "{ now}", "{now />\n}",
+    "{\"}\"}", "{{now}}", "{\u{662}024-01-01}",
+];
+
 // ---- Damage
 
 /// The bytes with one to three of them changed, inserted or removed.
@@ -447,7 +707,7 @@ fn damaged(chance: &mut Chance, mut bytes: Vec<u8>) -> Vec<u8> {
 }
 
 fn random_byte(chance: &mut Chance) -> u8 {
-    let telling = b"<>/[]\"'`\\=,: \t\n\r$~-+.eE01u{}LabSx\x7F\x00\xEF\xC3\x80";
+    let telling = b"<>/[]\"'`\\=,: \t\n\r$~-+.eE012u{}{}PTZLabSx\x7F\x00\xEF\xC3\x80";
     match chance.below(6) {
         0 => chance.below(256) as u8,
         _ => telling[chance.below(telling.len())],
@@ -459,7 +719,7 @@ fn random_byte(chance: &mut Chance) -> u8 {
 /// A sheet at or just past one of the limits of "Sizes", with more room for its form than any form may take.
 fn add_limit(lines: &mut Vec<String>, chance: &mut Chance, longest: usize) {
     let over = chance.below(2);
-    let sheet = match chance.below(10) {
+    let sheet = match chance.below(12) {
         0 => format!("<Lab {}=1/>", "n".repeat(NAME_BYTES + over)),
         1 => format!("<L{}/>", "a".repeat(NAME_BYTES - 1 + over)),
         2 => format!("<Lab n={}1{} />", "[".repeat(LISTS_DEEP + over), "]".repeat(LISTS_DEEP + over)),
@@ -468,6 +728,8 @@ fn add_limit(lines: &mut Vec<String>, chance: &mut Chance, longest: usize) {
         5 => of_length(SHEET_BYTES + over),
         6 | 7 => of_deeper_content(1 + chance.below(CONCEPTS_DEEP - 1), SHEET_BYTES + over),
         8 => of_escapes(SHEET_BYTES + over),
+        9 => of_fraction(SHEET_BYTES + over),
+        10 => format!("<Lab n=[{}{{now}}] />", "{now},".repeat(ENTRIES - 3 + over)),
         _ => of_length(SHEET_BYTES - 1 + over) + "\n",
     };
     let table = Names::papers().table();
@@ -502,6 +764,12 @@ fn of_deeper_content(depth: usize, length: usize) -> String {
 fn of_escapes(length: usize) -> String {
     let left = length - "<Lab n=\"\" />\n".len();
     format!("<Lab n=\"{}{}\"/>", "x".repeat(left % 2), "\t".repeat(left / 2))
+}
+
+/// A sheet whose form has `length` bytes, most of them the digits behind a time's point.
+fn of_fraction(length: usize) -> String {
+    let frame = "<Lab n={12:00:00.} />\n".len();
+    format!("<Lab n={{12:00:00.{}}}/>", "0".repeat(length - frame))
 }
 
 // ---- Sheets
@@ -703,7 +971,7 @@ impl<'a> Printer<'a> {
             self.put_or_slip("=", &["", " =", "= ", "==", ":"]);
             self.value(LISTS_DEEP, false);
             if self.slip() {
-                self.put_one_of(&["x", "\"", ",", "]", "[", "m=1", "'a'"]);
+                self.put_one_of(&["x", "\"", ",", "]", "[", "m=1", "'a'", "}", "{now}"]);
             }
         }
         let slash_last = self.text.last() == Some(&b'/');
@@ -715,15 +983,24 @@ impl<'a> Printer<'a> {
     /// A value of a random kind. A word is kept from running into the byte behind it by the caller's white space.
     fn value(&mut self, lists: usize, in_list: bool) {
         if self.slip() {
-            self.put_one_of(&FAULTY_VALUES);
+            if self.chance.one_in(3) {
+                let time = nearly_time(self.chance);
+                self.put(&time);
+            } else {
+                self.put_one_of(&FAULTY_VALUES);
+            }
             return;
         }
-        match self.chance.below(9) {
+        match self.chance.below(12) {
             0 | 1 if lists > 0 => self.list(lists - 1),
             2 => self.quoted('"'),
             3 => self.quoted('\''),
             4 => self.backtick(),
             5 => self.iri(in_list),
+            6..=8 => {
+                let time = good_time(self.chance);
+                self.put(&time);
+            }
             _ => self.put_one_of(&WORDS),
         }
     }
@@ -803,6 +1080,24 @@ const FAULTY_VALUES: [&str; 74] = [
 #[cfg(test)]
 mod tests {
     use super::*;
+    use crate::times::time_answer;
+
+    #[test]
+    fn good_times_are_of_their_kind() {
+        let mut chance = Chance(0);
+        for number in 0..8_000 {
+            let kind = 1 + number % 8;
+            let time = time_of_kind(&mut chance, kind);
+            assert_eq!(time_answer(time.as_bytes()), kind, "{time}");
+        }
+    }
+
+    #[test]
+    fn faulty_times_are_none() {
+        for time in FAULTY_TIMES {
+            assert_eq!(time_answer(time.as_bytes()), 0, "{time}");
+        }
+    }
 
     /// Where no rule is broken the sheet is accepted, and the form of its form is the form itself.
     #[test]

@@ -1,10 +1,11 @@
 //! Answers requests on standard input, one a line, or prints such requests made from a seed.
-//! The answers are those of document 01 as reader.rs, writer.rs and rolls.rs read it; see README.md for the lines.
+//! The answers are those of documents 01 and 02 as reader.rs, writer.rs, rolls.rs and times.rs read them; see README.md for the lines.
 
 mod definitions;
 mod generate;
 mod reader;
 mod rolls;
+mod times;
 mod values;
 mod writer;
 
@@ -15,6 +16,7 @@ use generate::KINDS;
 use reader::{read_sheet, table_answer, view, view_answer, Answer, SHEET_BYTES};
 use rolls::{add_sheet, read_roll};
 use std::io::{BufRead, Write};
+use times::time_answer;
 use writer::write_form;
 
 fn main() {
@@ -108,6 +110,7 @@ fn answer_line(line: &str) -> Option<String> {
             Some(in_words(answer) + &cells_in_words(&cells))
         }
         ["add", rest @ .., roll, n, room] => adding_words(&SheetRequest::of(rest)?, from_hex(roll)?, n.parse().ok()?, room.parse().ok()?),
+        ["time", value] => Some(time_answer(&from_hex(value)?).to_string()),
         _ => None,
     }
 }

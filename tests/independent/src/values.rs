@@ -1,7 +1,8 @@
 //! Reads one value of a trait or a list: where its spelling ends, of which kind it is, what it spells.
-//! Follows document 01, "Values", with 001 §12 (numbers), §14 (IRIs) and §19 (lists).
+//! Follows document 01, "Values", with 001 §12 (numbers), §14 (IRIs), §19 (lists), and §18 (times) as request Two asks for it.
 
 use crate::reader::{Refusal, Span};
+use crate::times::kind_of_body;
 
 /// How deep lists may stand in one another, the outermost counting as one ("Sizes").
 pub const LISTS_DEEP: usize = 8;
@@ -30,10 +31,12 @@ pub enum Kind {
     Uuid,
     Iri,
     List(Vec<Value>),
+    /// a time in braces
+    Temporal,
 }
 
 impl Kind {
-    /// The value form of "Entries".
+    /// The value form of "Entries", and of request Two.
     pub fn form(&self) -> u32 {
         match self {
             Kind::String(_) => 1,
@@ -48,6 +51,7 @@ impl Kind {
             Kind::Uuid => 10,
             Kind::Iri => 11,
             Kind::List(_) => 12,
+            Kind::Temporal => 13,
         }
     }
 }
@@ -78,6 +82,7 @@ fn value(sheet: &[u8], start: usize, lists: usize, in_list: bool) -> Result<Valu
         b'\'' => character(sheet, start)?,
         b'`' => backtick(sheet, start)?,
         b'[' => list(sheet, start, lists)?,
+        b'{' => temporal(sheet, start)?,
         _ => word(sheet, start, in_list)?,
     };
     Ok(Value { span: Span { start, end }, kind })
@@ -214,6 +219,16 @@ fn list(sheet: &[u8], start: usize, lists: usize) -> Past<Kind> {
             _ => return Err(Fault::NoKindFits),
         }
     }
+}
+
+/// A time in braces is read up to the first "}", whatever stands before it, and only then judged.
+fn temporal(sheet: &[u8], start: usize) -> Past<Kind> {
+    let mut at = start + 1;
+    while byte(sheet, at)? != b'}' {
+        at += 1;
+    }
+    kind_of_body(&sheet[start + 1..at]).ok_or(Fault::NoKindFits)?;
+    Ok((Kind::Temporal, at + 1))
 }
 
 /// White space is spaces, tabs and line ends; a CR is known to stand before a LF.

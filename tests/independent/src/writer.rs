@@ -1,5 +1,5 @@
 //! Lays out the canonical form of a sheet that reads without refusal.
-//! Follows document 01, "Canonical form", and refusal 12 of "Refusal numbers".
+//! Follows document 01, "Canonical form", and refusal 12 of "Refusal numbers"; braces keep their spelling (document 02, request Two).
 
 use crate::reader::{read_root, Answer, Body, Concept, Refusal, Trait, SHEET_BYTES};
 use crate::values::{spaces_joined, Kind, Value};
@@ -155,7 +155,8 @@ impl Form<'_> {
             Kind::Character(one) => self.quoted([*one].into_iter(), '\''),
             Kind::Uuid => self.put(&spelling.to_ascii_lowercase()),
             Kind::List(items) => self.list(items),
-            _ => self.put(spelling),
+            Kind::Boolean | Kind::Integer | Kind::Decimal | Kind::Scientific | Kind::Fraction => self.put(spelling),
+            Kind::Enumerated | Kind::Lookup | Kind::Iri | Kind::Temporal => self.put(spelling),
         }
     }
 
