@@ -1,5 +1,6 @@
 /* cdx show: the entries of a sheet as a tree, for a person.
- * Kinds, forms, names and spans are those of document 01's "Entries"; the text of Content is as "Content" has it. */
+ * Kinds, forms, names and spans are those of document 01's "Entries"; the text of Content is as "Content" has it. The kinds of times are
+ * those of 001 §18. */
 #include "glyphs.h"
 #include "sheets.h"
 #include "words.h"
@@ -18,7 +19,8 @@ static const char help[] =
     "        Content (1 line)\n"
     "          | Boot the machine.\n"
     "\n"
-    "Values are as they are spelt in the sheet. An annotation stands above its Concept.\n"
+    "Values are as they are spelt in the sheet, each with its form, a time with its kind.\n"
+    "An annotation stands above its Concept.\n"
     "\n"
     "TABLE is a mode table or its text. No FILE, or `-`, is standard input.\n"
     "Status 1 if the sheet is refused, 2 if a file could not be read.\n"
@@ -120,14 +122,21 @@ static void print_content(const struct sheet *sheet, uint32_t number, unsigned d
     }
 }
 
+/* What a value is: its form, or the kind of a time. */
+static const char *value_in_words(uint32_t form, struct part value)
+{
+    return form == CDX_TIME ? time_kind_in_words(cdx_time(value.bytes, value.length)) : value_form_in_words(form);
+}
+
 static void print_valued(const struct sheet *sheet, uint32_t number, const uint32_t *entry)
 {
     if (entry[CDX_FORM] == CDX_LIST) {
         printf(" (list of %u)\n", entry[CDX_COUNT]);
         return;
     }
-    printf(" (%s) ", value_form_in_words(entry[CDX_FORM]));
-    print_value(view(sheet, number));
+    struct part value = view(sheet, number);
+    printf(" (%s) ", value_in_words(entry[CDX_FORM], value));
+    print_value(value);
     fputc('\n', stdout);
 }
 

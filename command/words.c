@@ -1,5 +1,5 @@
 /* The numbers of an answer and of an entry in words.
- * They follow the sections "Entries" and "Refusal numbers" of document 01. */
+ * They follow the sections "Entries" and "Refusal numbers" of document 01, and 001 §18. */
 #include "words.h"
 
 #include "cdx.h"
@@ -56,6 +56,16 @@ const char *value_form_in_words(uint32_t form)
         [CDX_CAMEL] = "~ word",    [CDX_UUID] = "UUID",             [CDX_IRI] = "IRI",           [CDX_LIST] = "list",
     };
     return words[form];
+}
+
+const char *time_kind_in_words(uint32_t kind)
+{
+    static const char *const words[] = {
+        [CDX_ZONED] = "date, time and zone", [CDX_LOCAL] = "date and time",     [CDX_DATE] = "date",
+        [CDX_YEAR_MONTH] = "year and month", [CDX_MONTH_DAY] = "month and day", [CDX_TIME_OF_DAY] = "time",
+        [CDX_DURATION] = "duration",         [CDX_RESERVED] = "reserved word",
+    };
+    return words[kind];
 }
 
 void print_entries(FILE *out, uint32_t entries)

@@ -1,5 +1,5 @@
 /* The numbers of an answer and of an entry in words.
- * They follow the sections "Entries" and "Refusal numbers" of document 01. */
+ * They follow the sections "Entries" and "Refusal numbers" of document 01, and 001 §18. */
 #ifndef WORDS_H
 #define WORDS_H
 
@@ -13,9 +13,10 @@ const char *refusal_in_words(uint32_t number);
 /* What an entry is. */
 const char *kind_in_words(uint32_t kind);
 
-/* The form of a Concept, and that of a value. */
+/* The form of a Concept, that of a value that is no time, and the kind of a time. */
 const char *concept_form_in_words(uint32_t form);
 const char *value_form_in_words(uint32_t form);
+const char *time_kind_in_words(uint32_t kind);
 
 /* Prints how many entries there are, and how many sheets. */
 void print_entries(FILE *out, uint32_t entries);

@@ -90,7 +90,21 @@ enum cdx_value_form {
     CDX_CAMEL = 9,  /* "~" and a name */
     CDX_UUID = 10,
     CDX_IRI = 11,
-    CDX_LIST = 12
+    CDX_LIST = 12,
+    CDX_TIME = 13 /* in braces; cdx_time tells its kind */
+};
+
+/* The kinds of a time. */
+enum cdx_time_kind {
+    CDX_NO_TIME = 0,
+    CDX_ZONED = 1, /* date, time of day and zone */
+    CDX_LOCAL = 2, /* date and time of day */
+    CDX_DATE = 3,
+    CDX_YEAR_MONTH = 4,
+    CDX_MONTH_DAY = 5,
+    CDX_TIME_OF_DAY = 6,
+    CDX_DURATION = 7,
+    CDX_RESERVED = 8 /* {now} or {today} */
 };
 
 /* A record of a roll is so many cells, and these are its cells by their place in it. */
@@ -121,6 +135,10 @@ void cdx_sheet(const uint8_t *table, size_t table_len, const uint8_t *sheet, siz
  * answer: CDX_OK, and where the part starts and ends in the sheet; or CDX_VIEW, 0 and 0, where the entry lies not wholly in the
  * cells, has no kind, or its span is reversed or ends outside of the sheet. */
 void cdx_view(const uint8_t *sheet, size_t sheet_len, const uint32_t *cells, size_t cells_len, uint64_t entry, uint32_t answer[3]);
+
+/* Tells the kind of a time from its bytes, braces and all, as the span of an entry of the form CDX_TIME names them. They may be any bytes.
+ * Answers an enum cdx_time_kind, which is CDX_NO_TIME where the bytes are not exactly one time. */
+uint32_t cdx_time(const uint8_t *value, size_t value_len);
 
 /* Writes the canonical form of a sheet that reads without refusal. The cells are lent to the reading, as to cdx_sheet, and are all 0
  * after every answer. A form of more than CDX_MAX_SHEET bytes is refused, so that more room than that is of no use.

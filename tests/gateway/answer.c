@@ -322,6 +322,18 @@ static void answer_view(struct input sheet, uint64_t entry, struct input cells)
     give_back(answer);
 }
 
+/* The number of the kind. */
+static void answer_time(struct input value)
+{
+    struct loan lent_value = lend(value.items, value.count);
+    uint32_t kind = cdx_time(bytes_of(lent_value), value.count);
+    if (!all_kept(lent_value))
+        printf("broken: cdx_time changed the value or its guards");
+    else
+        printf("%u", (unsigned)kind);
+    give_back(lent_value);
+}
+
 /* Number, place, count, and the records. */
 static void answer_roll(struct input table, struct input roll, size_t room, size_t lent)
 {
@@ -432,6 +444,8 @@ static void answer_line(char *line)
     else if (strcmp(kind, "view") == 0 && read_bytes(next_word(&line), &first) &&
              read_number(next_word(&line), UINT64_MAX, &number) && read_cells(&line, &second))
         answer_view(first, number, second);
+    else if (strcmp(kind, "time") == 0 && read_bytes(next_word(&line), &first) && *next_word(&line) == 0)
+        answer_time(first);
     else if (strcmp(kind, "roll") == 0 && read_bytes(next_word(&line), &first) && read_bytes(next_word(&line), &second) &&
              read_size(next_word(&line), &room) && read_size(next_word(&line), &number) && *next_word(&line) == 0)
         answer_roll(first, second, (size_t)room, (size_t)number);

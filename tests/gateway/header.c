@@ -1,5 +1,5 @@
 /* Holds the numbers of cdx.h to libgateway.a: what is at a limit is accepted and what is one past it refused, each refusal has its
- * number, and each kind and form of an entry and cell of a record too. Says what is not so, and then ends with status 1. */
+ * number, and each kind and form of an entry, kind of a time and cell of a record too. Says what is not so, and then ends with status 1. */
 #include "cdx.h"
 
 #include <stdio.h>
@@ -256,13 +256,13 @@ static void entry_is(size_t number, enum cdx_kind kind, unsigned form, uint32_t 
 
 static void try_entries(void)
 {
-    add("[a]\n<Lab a=\"\" b='b' c=true d=4 e=0.5 f=6e6 g=7/7 h=$H i=~i j=00000000-0000-0000-0000-000000000000 k=k: l=[12]>\n", 1);
+    add("[a]\n<Lab a=\"\" b='b' c=true d=4 e=0.5 f=6e6 g=7/7 h=$H i=~i j=00000000-0000-0000-0000-000000000000 k=k: l={now} m=[12]>\n", 1);
     add("<Lab/>\n<Steps>\n</Steps>\n</Lab>", 1);
     sheet_is(CDX_OK, "a sheet with every kind and form");
     entry_is(0, CDX_ANNOTATION, 0, CDX_TOP, 0);
-    entry_is(1, CDX_CONCEPT, CDX_CHILDREN, CDX_TOP, 14);
+    entry_is(1, CDX_CONCEPT, CDX_CHILDREN, CDX_TOP, 15);
     static const enum cdx_value_form forms[] = {CDX_STRING, CDX_CHARACTER, CDX_BOOLEAN, CDX_INTEGER, CDX_DECIMAL, CDX_SCIENTIFIC,
-                                                CDX_FRACTION, CDX_PASCAL, CDX_CAMEL, CDX_UUID, CDX_IRI};
+                                                CDX_FRACTION, CDX_PASCAL, CDX_CAMEL, CDX_UUID, CDX_IRI, CDX_TIME};
     size_t at = 2;
     for (; at < 2 + sizeof forms / sizeof *forms; at++)
         entry_is(at, CDX_TRAIT, forms[at - 2], 1, 0);
@@ -273,16 +273,32 @@ static void try_entries(void)
     entry_is(at + 4, CDX_CONTENT, 0, (uint32_t)at + 3, 0);
 }
 
+static void try_times(void)
+{
+    static const struct {
+        enum cdx_time_kind kind;
+        const char *value;
+    } times[] = {{CDX_NO_TIME, "now"},         {CDX_ZONED, "{2026-11-20T08:00Z}"}, {CDX_LOCAL, "{2026-11-20T08:00}"},
+                 {CDX_DATE, "{2026-11-20}"},   {CDX_YEAR_MONTH, "{2026-11}"},      {CDX_MONTH_DAY, "{11-20}"},
+                 {CDX_TIME_OF_DAY, "{08:00}"}, {CDX_DURATION, "{PT8H}"},           {CDX_RESERVED, "{now}"}};
+    for (size_t at = 0; at < sizeof times / sizeof *times; at++) {
+        uint32_t kind = cdx_time((const uint8_t *)times[at].value, strlen(times[at].value));
+        if (kind != times[at].kind)
+            wrong(times[at].value, times[at].kind, kind);
+    }
+}
+
 int main(void)
 {
     try_limits();
     try_refusals();
     try_forms();
     try_entries();
+    try_times();
     try_rolls();
     try_records();
     try_adding();
     if (status == 0)
-        puts("the limits, refusals, kinds, forms and records of include/cdx.h are the library's");
+        puts("the limits, refusals, kinds, forms, times and records of include/cdx.h are the library's");
     return status;
 }

@@ -3,6 +3,8 @@
 use Prim.Native.Nat.{ℕ}
 use mathlib.Core.Path.{_≡_, sym, _∙_}
 use mathlib.Core.List.{List}
+use Rattle.times.specs.Numbers.{TellsTime}
+use Rattle.times.proofs.Braces.{one-number}
 use Rattle.gateway.specs.Promises.{TellsTable, TellsSheet, TellsView, TellsForm, TellsRoll, TellsAdding}
 
 pub one-answer-cdx-table : (table answer answer′ : List ℕ) → TellsTable table answer → TellsTable table answer′ → answer ≡ answer′
@@ -15,6 +17,9 @@ one-answer-cdx-sheet table sheet lent cells cells′ answer answer′ p q = (p .
 pub one-answer-cdx-view : (sheet cells : List ℕ) (entry : ℕ) (answer answer′ : List ℕ) → TellsView sheet cells entry answer → TellsView sheet cells entry answer′
     → answer ≡ answer′
 one-answer-cdx-view sheet cells entry answer answer′ e e′ = e ∙ sym e′
+
+pub one-answer-cdx-time : (value : List ℕ) (kind kind′ : ℕ) → TellsTime value kind → TellsTime value kind′ → kind ≡ kind′
+one-answer-cdx-time value kind kind′ p q = one-number value kind kind′ p q
 
 pub one-answer-cdx-write : (table sheet : List ℕ) (lent : ℕ) (out : List ℕ) (cells cells′ after after′ answer answer′ : List ℕ)
     → TellsForm table sheet lent out cells after answer → TellsForm table sheet lent out cells′ after′ answer′

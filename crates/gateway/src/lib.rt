@@ -1,13 +1,15 @@
 // The C interface: the public functions for programs that are not written in Rattle.
-// Document 01, "Refusal numbers" and the answers of "Order"; include/cdx.h declares these functions for C.
+// Document 01, "Refusal numbers" and the answers of "Order"; document 02, Two. include/cdx.h declares these functions for C.
 use entries::get;
 use layout::write;
 use paper::Answer;
 use sheets::read;
 use sheets::view_answer;
+use times::kinds::value_kind;
 ghost use mathlib.Core.Path.{_≡_};
 ghost use lib.ListN.{length};
 ghost use Rattle.paper.specs.Answer.{told};
+ghost use Rattle.times.specs.Numbers.{TellsTime};
 ghost use Rattle.gateway.specs.Answers.{Few, threeOf};
 ghost use Rattle.gateway.specs.Promises.{TellsTable, TellsSheet, TellsView, TellsForm, TellsRoll, TellsAdding};
 
@@ -40,6 +42,14 @@ pub extern "C" fn cdx_view(sheet: &[u8], cells: &[u32], entry: u64, answer: &mut
     }
     let laid = get(cells, entry as usize);
     *answer = [0, laid.start, laid.end];
+}
+
+// The kind of the time that these bytes are, braces and all, by its number; 0 where they are no time.
+#[no_mangle]
+pub extern "C" fn cdx_time(value: &[u8]) -> u32
+    ensures { λ r. ⌜ TellsTime (now (value .entry)) r ⌝ }
+{
+    value_kind(value)
 }
 
 // Writes the canonical form of a sheet that reads without refusal to the room lent, and leaves all behind it as it came; a refusal

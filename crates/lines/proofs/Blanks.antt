@@ -9,8 +9,7 @@ use lib.ListN.{length, getD, drop, drop-of-length-le}
 use lib.Dec.{eqb}
 use Rattle.paper.specs.declared.Refusal.{Refusal}
 use Rattle.paper.specs.Found.{found, fault, more, turnOf}
-use Rattle.paper.specs.Bytes.{isBlank, isLineEnd, startsIn, lengthIn, front, behind, startsWith, space, tab}
-use Rattle.paper.specs.Values.{is}
+use Rattle.paper.specs.Bytes.{isBlank, isLineEnd, startsIn, lengthIn, front, behind, startsWith, space, tab, is}
 use Rattle.paper.specs.Reading.{lineRest, isBlankLine, blankTurn, blankLines, isTab, noSpace, tabsOnly, lastBlanks}
 use Rattle.paper.proofs.Tests.{split}
 use Rattle.paper.proofs.Lines.{blank-shorter}

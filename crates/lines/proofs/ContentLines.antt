@@ -7,8 +7,7 @@ use mathlib.Core.List.{List, [], _∷_, append-nil}
 use native.Mathlib.Omega.{arith}
 use lib.ListN.{drop, replicate}
 use Rattle.paper.specs.Found.{Found, found, fault, andThen, stop, turnOf}
-use Rattle.paper.specs.Bytes.{isBlank, isLineEnd, lengthIn, startsIn, startsWith, front, behind, tab, lf, cr}
-use Rattle.paper.specs.Values.{upTo}
+use Rattle.paper.specs.Bytes.{isBlank, isLineEnd, lengthIn, startsIn, startsWith, front, behind, tab, lf, cr, upTo}
 use Rattle.paper.specs.Tree.{blank, text}
 use Rattle.paper.specs.Reading.{isTab, lineEnd, lineRest, isBlankLine, closesLine, textLine, otherLine, lineTurn}
 use Rattle.paper.proofs.Tests.{split, apart}

@@ -10,9 +10,8 @@ use lib.Seq.{drop-drop, length-take-le}
 use lib.Dec.{leb, eqb}
 use borrow.Author.Tests.{eq-eqb, ne-eqb, eqb-true, le-leb, lt-leb, not-true, not-false}
 use Rattle.paper.specs.Found.{found, fault}
-use Rattle.paper.specs.Bytes.{isUpper, isLower, isBlank, isNameByte, startsIn, front, startsWith, lf, cr}
+use Rattle.paper.specs.Bytes.{isUpper, isLower, isBlank, isNameByte, startsIn, front, startsWith, lf, cr, is}
 use Rattle.paper.specs.Names.{run, pastRun, isConceptName, isTraitName}
-use Rattle.paper.specs.Values.{is}
 use Rattle.paper.specs.Tree.{LF, CRLF, Blank}
 use Rattle.paper.specs.Grammar.{blankOnto}
 use Rattle.paper.specs.Reading.{due, nameOf, name, lineEnd, lineRest}

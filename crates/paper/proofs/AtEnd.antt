@@ -2,7 +2,7 @@
 -- Document 01, "Refusal numbers", 9.
 use Prim.Native.Nat.{ℕ, zero, suc, _+_, _-_, _<_, _≤_}
 use mathlib.Core.Path.{_≡_, refl, sym, ap, _∙_}
-use mathlib.Core.Bool.{Bool, true, false}
+use mathlib.Core.Bool.{Bool, true, false, not}
 use mathlib.Core.List.{List, [], _∷_, map}
 use native.Mathlib.Omega.{arith}
 use lib.ListN.{length, drop, take, getD}
@@ -11,15 +11,15 @@ use borrow.Author.Tests.{eqb-true, eq-eqb}
 use Rattle.paper.specs.declared.Mode.the-variants.{Children, Absent}
 use Rattle.paper.specs.Found.{Found, found, fault, andThen, Turn, more, over, stop, turnOf, goOn, many, manyOf}
 use Rattle.paper.specs.Bytes.{byte, bytes, isUpper, isLower, isHex, isBlank, isLineEnd, isWhite, lengthIn, front, behind, elem, same, startsIn}
-use Rattle.paper.specs.Bytes.{startsWith, lf, cr, space, scalar}
+use Rattle.paper.specs.Bytes.{startsWith, lf, cr, space, scalar, is, onward}
 use Rattle.paper.specs.Names.{run, pastRun, isName}
 use Rattle.paper.specs.Modes.{Modes}
-use Rattle.paper.specs.Values.{is, onward, Piece, four, braces, escaped, Value, More, list, listEnders, comma, pieceRule, wordForm}
+use Rattle.paper.specs.Values.{Piece, four, braces, escaped, Value, More, list, listEnders, comma, pieceRule, wordForm}
 use Rattle.paper.specs.Tree.{Trait, Marker, blank, Ending, block, self, Concept, selfClosed, done, before, Sheet}
 use Rattle.paper.specs.Grammar.{tabsOnto, inMode}
 use Rattle.paper.specs.Entries.{itemEntries, traitSize, bodySize}
 use Rattle.paper.specs.ReadingValues.{insideOf, itself, judged, fourDigits, bracedDigits, escape, pieceTurn, closeCharacter, characterOf}
-use Rattle.paper.specs.ReadingValues.{backtickTurn, wordLength, wordOf, leafOf, valueOf, moreOf, itemAnd, wholeValue}
+use Rattle.paper.specs.ReadingValues.{backtickTurn, wordLength, wordOf, leafOf, valueOf, moreOf, itemAnd, wholeValue, temporalOf}
 use Rattle.paper.specs.Reading.{Bounds, lineEnd, lineRest, isBlankLine, blankTurn, blankLines, isTab, noSpace, tabsOnly, nameOf, name, due, makes}
 use Rattle.paper.specs.Reading.{textOf, escapeOf, annotation, annotationTurn, annotations}
 use Rattle.paper.specs.Reading.{enters, trait, traitDue, traitTurn, ending, Opened, opened, admitted, head, opening, closing}
@@ -34,12 +34,13 @@ use Rattle.paper.proofs.Annotations.{ReadAnnotations, annotations-reads
 use Rattle.paper.proofs.Content.{line-shorter}
 use Rattle.paper.proofs.Pieces.{byInside, turn-closes, turn-escapes, turn-breaks, turn-itself, turn-shorter, tick-shorter}
 use Rattle.paper.proofs.Leaves.{byFirst, character-closes, character-breaks, character-escapes, character-itself, character-broken}
-use Rattle.paper.proofs.Leaves.{leaf-string, leaf-character, leaf-backtick, leaf-word}
+use Rattle.paper.proofs.Leaves.{leaf-string, leaf-character, leaf-backtick, leaf-word, leaf-temporal, temporal-none, temporal-there}
 use Rattle.paper.proofs.ReadValues.{ReadValue, value-reads, value-of-deep, value-of-leaf, value-of-empty, value-of-list, more-of-end}
 use Rattle.paper.proofs.ReadValues.{more-of-close, more-of-comma, more-of-other, whole-found, whole-fault}
 use Rattle.paper.proofs.Markers.{trait-shorter}
 use Rattle.paper.proofs.Concepts.{ReadOpening, opening-reads, ReadPiece, piece-reads}
 use Rattle.paper.proofs.Fuel.{marker-shorter, concept-of, block-of, body-of}
+use Rattle.paper.proofs.TimeKinds.{byTimeKind}
 
 -- ---- a 9 leaves nothing
 
@@ -245,15 +246,21 @@ character-ends (b ∷ l) =
     direct e (fault n left) f = rw (character-broken b l n left e f) (other refl)
 
 leaf-ends : (also s : List ℕ) → Ends (leafOf also s)
-unfolding leafOf wordOf
+unfolding leafOf wordOf temporalOf
 leaf-ends also [] = cut
 leaf-ends also (b ∷ l) =
     byFirst b
     (λ q. rw (q, leaf-string also l) (then (manyOf (λ p. 0) pieceTurn 0 l) (string-ends l) (λ ps left. finds)))
     (λ q. rw (q, leaf-character also l) (character-ends l))
     (λ q. rw (q, leaf-backtick also l) (then (manyOf (λ p. 0) backtickTurn 0 l) (backtick-ends l) (λ ps left. finds)))
+    (λ q. rw (q, leaf-temporal also l) (time (front (λ c. not (is (byte "}") c)) l) (onward (is (byte "}")) l)))
     (λ e. rw (leaf-word also l b e) (word (take (wordLength also (b ∷ l)) (b ∷ l)) (drop (wordLength also (b ∷ l)) (b ∷ l))))
   where
+    time : (w left : List ℕ) → Ends (temporalOf (byte "{" ∷ l) w left)
+    time w [] = cut
+    time w (c ∷ m) =
+        byTimeKind w (λ k e q. rw (temporal-there (byte "{" ∷ l) w c m k q) finds) (λ q. rw (temporal-none (byte "{" ∷ l) w c m q) (other refl))
+
     word : (w left : List ℕ) → Ends (wordOf (b ∷ l) w left)
     word w [] = cut
     word w (c ∷ m) = split (eqb (wordForm w) 0) (λ e. rw (e, wordOf) (other refl)) (λ e. rw (e, wordOf) finds)

@@ -9,8 +9,7 @@ use lib.Seq.{drop-append-seam}
 use lib.Dec.{eqb}
 use borrow.Author.Tests.{eq-eqb, not-true}
 use Rattle.paper.specs.Found.{Found, found, fault, andThen, more, manyOf}
-use Rattle.paper.specs.Bytes.{byte, isBlank, isLineEnd, all, startsIn, lengthIn, behind, startsWith, tab, lf, cr}
-use Rattle.paper.specs.Values.{upTo, onward}
+use Rattle.paper.specs.Bytes.{byte, isBlank, isLineEnd, all, startsIn, lengthIn, behind, startsWith, tab, lf, cr, upTo, onward}
 use Rattle.paper.specs.Tree.{LineEnd, LF, CRLF, Blank, Line, blank, text, Marker, Concept, content}
 use Rattle.paper.specs.Grammar.{lineEndOnto, blankOnto, tabsOnto, closingOnto, lineOnto, linesOnto, blankRule, lineRule}
 use Rattle.paper.specs.Reading.{lineEnd, lineRest, isBlankLine, makes, atLineEnd, closingMark, closesLine, textLine, otherLine, lineTurn, contentOf}

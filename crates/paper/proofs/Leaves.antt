@@ -3,25 +3,28 @@ use Prim.Native.Nat.{ℕ, _≤_, _<_}
 use mathlib.Core.Path.{_≡_, refl, sym, ap, _∙_}
 use mathlib.Core.Bool.{Bool, true, false, not, _&&_}
 use mathlib.Core.List.{List, [], _∷_, _++_, map, append-nil, append-assoc}
+use mathlib.Core.Option.{none, some}
 use native.Mathlib.Omega.{arith}
 use lib.ListN.{length, take, drop, take-append-drop}
 use lib.Seq.{take-append-seam, drop-append-seam}
 use lib.Dec.{leb, eqb}
 use borrow.Author.Tests.{leb-true, le-leb, eqb-true, eq-eqb, ne-eqb}
 use Rattle.paper.specs.Found.{Found, found, fault, andThen, manyOf}
-use Rattle.paper.specs.Bytes.{byte, bytes, all, elem, startsIn, scalar, encode}
-use Rattle.paper.specs.Values.{Piece, direct, escaped, four, braces, pieceOnto, piecesOnto, pieceRule, oneScalar, is, wordForm, isEnder, endsWord, endsInSlash}
-use Rattle.paper.specs.Values.{Leaf, string, character, backtick, word, leafOnto, leafRule, leafInSlash}
+use Rattle.paper.specs.Bytes.{byte, bytes, all, elem, startsIn, front, onward, scalar, encode, is, isNameByte, isLetter, isUpper, isLower, isDigit}
+use Rattle.paper.specs.Values.{Piece, direct, escaped, four, braces, pieceOnto, piecesOnto, pieceRule, oneScalar, wordForm, isEnder, endsWord, endsInSlash}
+use Rattle.paper.specs.Values.{Leaf, string, character, backtick, word, temporal, leafOnto, leafRule, leafInSlash}
 use Rattle.paper.specs.ReadingValues.{escape, closes, escapes, breaks, itself, insideOf, pieceTurn, closeCharacter, characterOf, backtickTurn, wordLength, wordOf}
-use Rattle.paper.specs.ReadingValues.{wordLeaf, other, firstOf, leafOf}
+use Rattle.paper.specs.Times.{TimeKind, isOf, timeKind}
+use Rattle.paper.specs.ReadingValues.{wordLeaf, temporalOf, temporalLeaf, other, firstOf, leafOf}
 use Rattle.paper.proofs.Tests.{split, true-false, apart, upTo}
 use Rattle.paper.proofs.Finds.{whole, past, tail-of, tail-drop, tail-end, faults, Reads, reads-in, reads-then, reads-map}
-use Rattle.paper.proofs.Lists.{both, and, byFront, all-nil, all-cons, all-head, without, without-less, starts-weaken, starts-append, empty-is}
+use Rattle.paper.proofs.Lists.{both, and, byFront, all-nil, all-cons, all-head, front-of, behind-of, marked, without, without-less, starts-weaken, starts-append, empty-is}
 use Rattle.paper.proofs.Scalars.{scalar-sound, scalar-encode}
 use Rattle.paper.proofs.Pieces.{pieces-append, Stood, escape-reads, letter-back, four-back, braces-back, inside-itself, byInside, Quoted, pieces-read, pieces-back}
 use Rattle.paper.proofs.Pieces.{Ticked, ticks-read, ticks-back, direct-onto, scalar-rule, scalar-one, one-scalar, one-escape}
 use Rattle.paper.proofs.Words.{word-cut, word-only}
 use Rattle.paper.proofs.WordKinds.{beginsNoLeaf, beginsNoWord, word-begins}
+use Rattle.paper.proofs.TimeKinds.{inside-free, byTimeKind, kind-of}
 
 -- ---- the spelling in front of what follows
 
@@ -34,6 +37,7 @@ leaf-append (string ps) next = quoted-append (byte "\"") ps next
 leaf-append (character ps) next = quoted-append (byte "'") ps next
 leaf-append (backtick ps) next = quoted-append (byte "`") ps next
 leaf-append (word form w) next = rw (append-nil w)
+leaf-append (temporal kind w) next = rw (append-assoc w (byte "}" ∷ []) next)
 
 -- ---- what is read, and what may follow
 
@@ -210,6 +214,47 @@ word-back also form w next r f =
     (byFront next (λ e. absurd (omega (arith, ap length e, f .some)))
     (λ b l e. rw e (word-there (w ++ (b ∷ l)) w b l (omega arith) ∙ rw (h .kind))))
 
+-- ---- times
+
+-- a time: cut by the end of input, of no kind, or of one
+pub temporal-end : (s w : List ℕ) → temporalOf s w [] ≡ fault 9 []
+unfolding temporalOf
+temporal-end s w = refl
+
+module _ (s w : List ℕ) (b : ℕ) (l : List ℕ) where
+  pub temporal-none : timeKind w ≡ none → temporalOf s w (b ∷ l) ≡ fault 6 s
+  unfolding temporalOf
+  temporal-none e = rw (e, temporalOf)
+
+  pub temporal-there : (k : TimeKind) → timeKind w ≡ some k → temporalOf s w (b ∷ l) ≡ found (temporal k w) l
+  unfolding temporalOf
+  temporal-there k e = rw (e, temporalOf)
+
+-- what is read as a time stood there, and is of its kind
+pub temporal-reads : (also l : List ℕ) → Reads (byte "{" ∷ l) (ReadLeaf also (byte "{" ∷ l)) (temporalLeaf (byte "{" ∷ l) l)
+unfolding temporalOf leafOnto leafRule
+temporal-reads also l =
+    let s = byte "{" ∷ l in
+    let w = front (λ b. not (is (byte "}") b)) l in
+    byFront (onward (is (byte "}")) l) (λ e. rw (e, Reads) (faults 9 (omega arith) (tail-end s)))
+    (λ b left e. byTimeKind w
+    (λ k f q. let h = marked (is (byte "}")) l b left e in
+    let covers : s ≡ leafOnto (temporal k w) left =
+    ap (λ (x : List ℕ). byte "{" ∷ x) (h .1) ∙ ap (λ (x : ℕ). byte "{" ∷ (w ++ (x ∷ left))) (eqb-true b (byte "}") (h .0)) in
+    rw (e, temporal-there s w b left k q, Reads) (
+      tail-of (leafOnto (temporal k w) []) (covers ∙ leaf-append (temporal k w) left),
+      record { covers = covers; rule = f; slash = λ z. true-false (sym z) },
+    ))
+    (λ q. rw (e, temporal-none s w b left q, Reads) (faults 6 (omega arith) whole)))
+
+-- a spelt time is read back
+pub temporal-back : (k : TimeKind) (w next : List ℕ) → isOf k w ≡ true → (s : List ℕ) → temporalLeaf s (w ++ (byte "}" ∷ next)) ≡ found (temporal k w) next
+unfolding startsIn elem isNameByte isLetter isUpper isLower isDigit
+temporal-back k w next e s =
+    let inner = inside-free (byte "}") refl k w e in
+    rw (front-of (λ b. not (is (byte "}") b)) w (byte "}" ∷ next) inner refl, behind-of (λ b. not (is (byte "}") b)) w (byte "}" ∷ next) inner refl)
+    (temporal-there s w (byte "}") next k (kind-of k w e))
+
 -- ---- by the first byte
 
 pub leaf-end : (also : List ℕ) → leafOf also [] ≡ fault 9 []
@@ -229,16 +274,21 @@ module _ (also l : List ℕ) where
   unfolding leafOf firstOf
   leaf-backtick = refl
 
+  pub leaf-temporal : leafOf also (byte "{" ∷ l) ≡ temporalLeaf (byte "{" ∷ l) l
+  unfolding leafOf firstOf
+  leaf-temporal = refl
+
   pub leaf-word : (b : ℕ) → firstOf b ≡ other → leafOf also (b ∷ l) ≡ wordLeaf also (b ∷ l)
   unfolding leafOf
   leaf-word b e = rw (e, leafOf)
 
-pub byFirst : {X : Type 0} (b : ℕ) → (b ≡ byte "\"" → X) → (b ≡ byte "'" → X) → (b ≡ byte "`" → X) → (firstOf b ≡ other → X) → X
+pub byFirst : {X : Type 0} (b : ℕ) → (b ≡ byte "\"" → X) → (b ≡ byte "'" → X) → (b ≡ byte "`" → X) → (b ≡ byte "{" → X) → (firstOf b ≡ other → X) → X
 unfolding firstOf
-byFirst b double single back on =
+byFirst b double single back brace on =
     split (eqb b (byte "\"")) (λ e. double (eqb-true b (byte "\"") e))
     (λ e. split (eqb b (byte "'")) (λ f. single (eqb-true b (byte "'") f))
-    (λ f. split (eqb b (byte "`")) (λ g. back (eqb-true b (byte "`") g)) (λ g. on (rw (e, f, g)))))
+    (λ f. split (eqb b (byte "`")) (λ g. back (eqb-true b (byte "`") g))
+    (λ g. split (eqb b (byte "{")) (λ h. brace (eqb-true b (byte "{") h)) (λ h. on (rw (e, f, g, h))))))
 
 -- what is read stood there, and keeps the rule
 pub leaf-reads : (also s : List ℕ) → Reads s (ReadLeaf also s) (leafOf also s)
@@ -253,6 +303,7 @@ leaf-reads also (b ∷ l) =
     (λ q. rw (q, leaf-backtick also l) (reads-in (past whole) _ (andThen (manyOf (λ p. 0) backtickTurn 0 l) (λ ps left. found (backtick ps) left))
     (reads-map l (Ticked l) _ backtick (manyOf (λ p. 0) backtickTurn 0 l) (ticks-read l)
     (λ ps left h. record { covers = ap (λ (x : List ℕ). byte "`" ∷ x) (h .covers); rule = h .rule false (λ z. true-false (sym z)); slash = λ z. true-false (sym z) }))))
+    (λ q. rw (q, leaf-temporal also l) (temporal-reads also l))
     (λ e. rw (leaf-word also l b e) (word-reads also (b ∷ l)))
 
 -- a word, and any other value that is no list, begins with a byte that begins no value of another sort and stands behind none
@@ -264,12 +315,14 @@ unfolding leafOnto startsIn elem
 leaf-begins also (string ps) next r = refl
 leaf-begins also (character ps) next r = refl
 leaf-begins also (backtick ps) next r = refl
-leaf-begins also (word form w) next r = starts-append _ w next (starts-weaken _ _ (without-less (bytes "\"'`") beginsNoLeaf) w (word-first also form w r))
+leaf-begins also (word form w) next r = starts-append _ w next (starts-weaken _ _ (without-less (bytes "\"'`{") beginsNoLeaf) w (word-first also form w r))
+leaf-begins also (temporal kind w) next r = refl
 
 word-other : (b : ℕ) → without beginsNoWord b ≡ true → firstOf b ≡ other
 unfolding firstOf elem
 word-other b e =
-    rw (apart (without beginsNoWord) b (byte "\"") e refl, apart (without beginsNoWord) b (byte "'") e refl, apart (without beginsNoWord) b (byte "`") e refl)
+    let not : (c : ℕ) → without beginsNoWord c ≡ false → eqb b c ≡ false = λ c f. apart (without beginsNoWord) b c e f in
+    rw (not (byte "\"") refl, not (byte "'") refl, not (byte "`") refl, not (byte "{") refl)
 
 leaf-other : (also w next : List ℕ) → startsIn (without beginsNoWord) w ≡ true → leafOf also (w ++ next) ≡ wordLeaf also (w ++ next)
 unfolding startsIn
@@ -283,3 +336,4 @@ leaf-back also (string ps) next r f = leaf-string also _ ∙ rw (pieces-back ps 
 leaf-back also (character ps) next r f = let h = both (all (pieceRule (byte "'")) ps) (oneScalar ps) r in leaf-character also _ ∙ character-back ps next (h .0) (h .1)
 leaf-back also (backtick ps) next r f = leaf-backtick also _ ∙ rw (ticks-back false ps next r)
 leaf-back also (word form w) next r f = leaf-other also w next (word-first also form w r) ∙ word-back also form w next r f
+leaf-back also (temporal kind w) next r f = leaf-temporal also _ ∙ temporal-back kind w next r _

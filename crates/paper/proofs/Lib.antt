@@ -8,6 +8,8 @@ pub mod Scalars
 pub mod Pieces
 pub mod Words
 pub mod WordKinds
+pub mod TimeParts
+pub mod TimeKinds
 pub mod Leaves
 pub mod Lines
 pub mod Annotations
@@ -27,6 +29,8 @@ pub mod TableSizes
 pub mod AtEnd
 pub mod Exactly
 pub mod OnlyOne
+pub mod TimesMade
+pub mod TimesToTry
 pub mod Starred
 pub mod RollStarred
 pub mod Beginning

@@ -9,9 +9,8 @@ use lib.Seq.{length-take-le}
 use lib.Dec.{leb, ltb, eqb}
 use borrow.Author.Tests.{eqb-true, eq-eqb, leb-true, le-leb}
 use Rattle.paper.specs.Found.{Found, found, fault}
-use Rattle.paper.specs.Bytes.{isNameByte, isUpper, isLetter, isBlank, isLineEnd, all, startsIn, lengthIn, front, behind, startsWith, lf, cr, tab, space}
+use Rattle.paper.specs.Bytes.{isNameByte, isUpper, isLetter, isBlank, isLineEnd, all, startsIn, lengthIn, front, behind, startsWith, lf, cr, tab, space, is}
 use Rattle.paper.specs.Names.{fewCapitals, nameRule, run, pastRun}
-use Rattle.paper.specs.Values.{is}
 use Rattle.paper.specs.Tree.{LineEnd, LF, CRLF, Blank}
 use Rattle.paper.specs.Grammar.{lineEndOnto, blankOnto, blanksOnto, tabsOnto, blankRule}
 use Rattle.paper.specs.Reading.{lineEnd, lineRest, isBlankLine, blankTurn, blankLines, isTab, noSpace, tabsOnly, nameOf, name, due, makes}

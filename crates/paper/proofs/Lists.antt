@@ -7,8 +7,8 @@ use native.Mathlib.Omega.{arith}
 use lib.ListN.{length, drop, replicate, take-append-drop}
 use lib.Seq.{take-append-seam, drop-append-seam}
 use lib.Dec.{eqb}
-use borrow.Author.Tests.{eqb-true, eq-eqb, not-true}
-use Rattle.paper.specs.Bytes.{all, startsIn, elem, lengthIn, front, behind, same, startsWith}
+use borrow.Author.Tests.{eqb-true, eq-eqb, not-true, not-false, ne-eqb, eqb-false}
+use Rattle.paper.specs.Bytes.{all, startsIn, elem, lengthIn, front, behind, upTo, onward, past, same, startsWith}
 use Rattle.paper.proofs.Tests.{split, true-false, apart, either}
 
 -- ---- two tests
@@ -74,6 +74,13 @@ elem-apart class b [] e a = refl
 elem-apart class b (c ∷ cs) e a = let h = all-head _ c cs a in rw (apart class b c e (not-true (class c) (h .0))) (elem-apart class b cs e (h .1))
 
 -- one of these is one of more
+-- a byte that is one of these, all of which are of the class
+pub all-among : (class : ℕ → Bool) (b : ℕ) (cs : List ℕ) → elem b cs ≡ true → all class cs ≡ true → class b ≡ true
+unfolding elem
+all-among class b [] e a = true-false (sym e)
+all-among class b (c ∷ cs) e a =
+    let h = all-head class c cs a in either (eqb b c) (elem b cs) e (λ k. rw (eqb-true b c k) (h .0)) (λ k. all-among class b cs k (h .1))
+
 pub elem-more : (b : ℕ) (cs ds : List ℕ) → elem b cs ≡ true → elem b (cs ++ ds) ≡ true
 unfolding elem
 elem-more b [] ds e = true-false (sym e)
@@ -144,6 +151,19 @@ unfolding lengthIn
 length-in class [] = omega arith
 length-in class (b ∷ l) = split (class b) (λ e. rw (e, lengthIn) (omega (arith, length-in class l))) (λ e. rw (e, lengthIn) (omega arith))
 
+same-suc : (m n : ℕ) → eqb (suc m) (suc n) ≡ eqb m n
+same-suc m n = split (eqb m n) (λ e. rw (e, eq-eqb (suc m) (suc n) (ap suc (eqb-true m n e))))
+    (λ e. rw (e, ne-eqb (suc m) (suc n) (λ q. eqb-false m n e (omega arith))))
+
+-- a list has only bytes of a class where the run of them is as long as the list
+pub all-run : (class : ℕ → Bool) (s : List ℕ) → eqb (lengthIn class s) (length s) ≡ all class s
+unfolding lengthIn all
+all-run class [] = refl
+all-run class (b ∷ l) =
+    split (class b)
+    (λ e. rw (e, lengthIn) (same-suc (lengthIn class l) (length l) ∙ all-run class l))
+    (λ e. rw (e, lengthIn, ne-eqb 0 (suc (length l)) (λ q. omega arith)))
+
 pub front-of : (class : ℕ → Bool) (w next : List ℕ) → all class w ≡ true → startsIn class next ≡ false → front class (w ++ next) ≡ w
 front-of class w next a e = rw (front-length class w next a e) (take-append-seam w next)
 
@@ -151,6 +171,20 @@ pub behind-of : (class : ℕ → Bool) (w next : List ℕ) → all class w ≡ t
 behind-of class w next a e = rw (front-length class w next a e) (drop-append-seam w next)
 
 -- at least those that are known to be
+-- in two parts at the first byte of a class
+pub marked : (class : ℕ → Bool) (w : List ℕ) (b : ℕ) (l : List ℕ) → onward class w ≡ b ∷ l → (class b ≡ true) × (w ≡ upTo class w ++ (b ∷ l))
+unfolding startsIn
+marked class w b l e = (
+  not-false (class b) (rw e at (behind-stops (λ c. not (class c)) w)),
+  sym (front-behind (λ c. not (class c)) w) ∙ ap (λ (x : List ℕ). upTo class w ++ x) e,
+)
+
+-- so, or without such a byte
+pub byMark : {X : Type 0} (class : ℕ → Bool) (w : List ℕ) → (onward class w ≡ [] → X)
+    → ((b : ℕ) → class b ≡ true → w ≡ upTo class w ++ (b ∷ past class w) → X) → X
+byMark class w none some =
+    byFront (onward class w) none (λ b l e. let h = marked class w b l e in some b (h .0) (h .1 ∙ ap (λ (x : List ℕ). upTo class w ++ (b ∷ x)) (rw e)))
+
 pub front-least : (class : ℕ → Bool) (w next : List ℕ) → all class w ≡ true → length w ≤ lengthIn class (w ++ next)
 unfolding lengthIn
 front-least class [] next a = omega arith

@@ -9,9 +9,9 @@ use lib.Dec.{leb, eqb, eqb·suc-zero}
 use borrow.Author.Tests.{eqb-true, leb-true, le-leb, ne-eqb}
 use Rattle.paper.specs.Found.{found, fault, more, over, turnOf, manyOf}
 use Rattle.paper.specs.Bytes.{byte, bytes, isUpper, isLower, isDigit, isLetter, isNameByte, isBlank, isLineEnd, isWhite, all, elem, startsIn, lengthIn, front}
-use Rattle.paper.specs.Bytes.{behind, same}
+use Rattle.paper.specs.Bytes.{behind, same, is}
 use Rattle.paper.specs.Names.{nameRule, isName}
-use Rattle.paper.specs.Values.{is, isEnder, endsWord, Value, valueOnto, valueRule, valueInSlash, listDepth}
+use Rattle.paper.specs.Values.{isEnder, endsWord, Value, valueOnto, valueRule, valueInSlash, listDepth}
 use Rattle.paper.specs.Tree.{Trait, Marker, Ending, block, self}
 use Rattle.paper.specs.Grammar.{traitOnto, traitsOnto, endingOnto, closingOnto, traitRule, slashLast, opensBlock}
 use Rattle.paper.specs.Limits.{traitFits}

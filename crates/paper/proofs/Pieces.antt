@@ -9,8 +9,8 @@ use lib.Seq.{take-at, drop-at}
 use lib.Dec.{leb, eqb}
 use borrow.Author.Tests.{leb-true, le-leb, lt-leb, eqb-true, not-true}
 use Rattle.paper.specs.Found.{Found, found, fault, more, over, stop, turnOf, manyOf}
-use Rattle.paper.specs.Bytes.{byte, bytes, isDigit, isHex, isLineEnd, all, elem, startsIn, startsWith, lengthIn, front, behind, scalar, isScalar, encode}
-use Rattle.paper.specs.Values.{Piece, direct, escaped, four, braces, pieceOnto, piecesOnto, spellsScalar, hexValue, pieceRule, oneScalar, backtickRule, is}
+use Rattle.paper.specs.Bytes.{byte, bytes, isDigit, isHex, isLineEnd, all, elem, startsIn, startsWith, lengthIn, front, behind, scalar, isScalar, encode, is}
+use Rattle.paper.specs.Values.{Piece, direct, escaped, four, braces, pieceOnto, piecesOnto, spellsScalar, hexValue, pieceRule, oneScalar, backtickRule}
 use Rattle.paper.specs.ReadingValues.{judged, fourDigits, bracedDigits, escape, closes, escapes, breaks, itself, insideOf, pieceTurn, backtickTurn}
 use Rattle.paper.proofs.Tests.{split, true-false, apart, upTo}
 use Rattle.paper.proofs.Finds.{whole, past, tail-of, tail-end, faults, Reads, Turns, turns-of}

@@ -8,8 +8,8 @@ use lib.ListN.{length, drop, length-append}
 use lib.Dec.{eqb}
 use borrow.Author.Tests.{eqb-true}
 use Rattle.paper.specs.Found.{Found, found, fault, andThen, pick}
-use Rattle.paper.specs.Bytes.{byte, bytes, isWhite, isBlank, isLineEnd, all, elem, startsIn, startsWith, front, behind, lengthIn, space, tab, lf, cr}
-use Rattle.paper.specs.Values.{is, isEnder, endsWord, listEnders, Leaf, leafOnto, leafRule, Value, leaf, emptyList, list, More, close, comma, valueOnto, moreOnto}
+use Rattle.paper.specs.Bytes.{byte, bytes, isWhite, isBlank, isLineEnd, all, elem, startsIn, startsWith, front, behind, lengthIn, space, tab, lf, cr, is}
+use Rattle.paper.specs.Values.{isEnder, endsWord, listEnders, Leaf, leafOnto, leafRule, Value, leaf, emptyList, list, More, close, comma, valueOnto, moreOnto}
 use Rattle.paper.specs.Values.{spelling, valueRule, moreRule, valueInSlash, listDepth, moreDepth}
 use Rattle.paper.specs.ReadingValues.{valueOf, moreOf, itemAnd, leafOf, value, items, wholeValue}
 use Rattle.paper.specs.Canonical.{valueSense}

@@ -12,6 +12,7 @@ use Rattle.paper.specs.Found.{found, fault, many}
 use Rattle.paper.specs.Bytes
 use Rattle.paper.specs.Names
 use Rattle.paper.specs.Modes
+use Rattle.paper.specs.Times
 use Rattle.paper.specs.Values
 use Rattle.paper.specs.Grammar
 use Rattle.paper.specs.Entries
@@ -106,6 +107,26 @@ cases =
       entries = 1 ∷ 1 ∷ 4294967295 ∷ 1 ∷ 1 ∷ 4 ∷ 0 ∷ 15 ∷ 2 ∷ 11 ∷ 0 ∷ 0 ∷ 5 ∷ 6 ∷ 7 ∷ 12 ∷ [];
       form = "<Lab u=x:\u{200b} />\n";
     }
+    -- request Two: a day that there is and one that there is not, up to the first "}" and without one, something behind it, and in a list
+    ∷ record {
+      sheet = "<Lab n={0000-02-29}/>";
+      lent = 16;
+      answer = accepted 21 2;
+      entries = 1 ∷ 1 ∷ 4294967295 ∷ 1 ∷ 1 ∷ 4 ∷ 0 ∷ 21 ∷ 2 ∷ 13 ∷ 0 ∷ 0 ∷ 5 ∷ 6 ∷ 7 ∷ 19 ∷ [];
+      form = "<Lab n={0000-02-29} />\n";
+    }
+    ∷ refusedCase "<Lab n={1900-02-29} />" (refused 6 7) ∷ refusedCase "<Lab n={now />\n}" (refused 6 7)
+    ∷ refusedCase "<Lab n={ x />\n</Lab>\n" (refused 9 21) ∷ refusedCase "<Lab n={now}x />" (refused 7 12)
+    ∷ refusedCase "<Lab n=[{now}x] />" (refused 6 7) ∷ refusedCase "<Lab n=x:{now} />" (refused 6 7)
+    ∷ record {
+      sheet = "<Lab n=[{now},{P1DT2.5H}] />";
+      lent = 32;
+      answer = accepted 28 4;
+      entries =
+          1 ∷ 1 ∷ 4294967295 ∷ 1 ∷ 1 ∷ 4 ∷ 0 ∷ 28 ∷ 2 ∷ 12 ∷ 0 ∷ 2 ∷ 5 ∷ 6 ∷ 7 ∷ 25
+          ∷ 3 ∷ 13 ∷ 1 ∷ 0 ∷ 8 ∷ 8 ∷ 8 ∷ 13 ∷ 3 ∷ 13 ∷ 1 ∷ 0 ∷ 14 ∷ 14 ∷ 14 ∷ 24 ∷ [];
+      form = "<Lab n=[{now}, {P1DT2.5H}] />\n";
+    }
     ∷ []
 
 pub starred : map seen cases ≡ map due cases
@@ -118,7 +139,10 @@ unfolding table cases formOf seen many
     Modes.tableNames Modes.section Modes.wholly Modes.modeTable Modes.readTable Modes.modeOf
     Values.pieceOnto Values.piecesOnto Values.hexDigit Values.hexValue Values.spellsScalar Values.pieceRule
     Values.letterMeans Values.pieceMeans Values.piecesMean Values.oneScalar Values.backtickRule Values.collapse
-    Values.isToken Values.hexGroups Values.areDigits Values.isCount Values.unsigned Values.isDecimal
+    Times.parted Times.perhaps Times.digits Times.numberFrom Times.twoDigits Times.isLeap Times.daysOf Times.isDayOf
+    Times.isDate Times.isYearMonth Times.isTime Times.isLocal Times.isOffset Times.isZoneByte Times.isZoneName Times.isZone
+    Times.isZonedTime Times.isZoned Times.areParts Times.isSpan Times.isDuration Times.isReserved Times.firstFit
+    Values.isToken Values.hexGroups Bytes.areDigits Values.isCount Values.unsigned Values.isDecimal
     Values.isScientific Values.isFraction Values.inRanges Values.isIriScalar Values.isIriBody Values.isScheme Values.isIri
     Values.wordForm Values.isEnder Values.endsWord Values.leafOnto Values.valueOnto Values.leafRule Values.valueRule
     Values.endsInSlash Values.listDepth
@@ -130,7 +154,7 @@ unfolding table cases formOf seen many
     Entries.entries Entries.filled
     ReadingValues.judged ReadingValues.fourDigits ReadingValues.bracedDigits ReadingValues.escape
     ReadingValues.insideOf ReadingValues.pieceTurn ReadingValues.closeCharacter ReadingValues.characterOf
-    ReadingValues.backtickTurn ReadingValues.wordLength ReadingValues.wordOf ReadingValues.firstOf
+    ReadingValues.backtickTurn ReadingValues.wordLength ReadingValues.wordOf ReadingValues.temporalOf ReadingValues.firstOf
     ReadingValues.leafOf ReadingValues.value ReadingValues.wholeValue
     Reading.lineEnd Reading.blankTurn Reading.noSpace Reading.nameOf Reading.due Reading.makes Reading.textOf
     Reading.annotation Reading.annotationTurn Reading.enters Reading.trait Reading.traitDue Reading.traitTurn

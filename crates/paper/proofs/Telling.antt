@@ -11,7 +11,7 @@ use lib.Seq.{take-append-seam}
 use Rattle.paper.specs.Bytes.{byte, tab, all, isBlank, isWhite, isLower, isUpper}
 use Rattle.paper.specs.Names.{nameRule}
 use Rattle.paper.specs.Values.{Leaf, string, character, backtick, word, Value, leaf, emptyList, list, More, close, comma, valueOnto, moreOnto, spelling, collapse}
-use Rattle.paper.specs.Values.{valueRule, moreRule, listEnders}
+use Rattle.paper.specs.Values.{valueRule, moreRule, listEnders, temporal}
 use Rattle.paper.specs.Tree.{Blank, Trait, Marker, Annotation, Line, Concept, selfClosed, children, content, Body, done, blankLine, element, Sheet, block}
 use Rattle.paper.specs.Grammar.{blankOnto, blanksOnto, tabsOnto, annotationOnto, annotationsOnto, traitOnto, traitsOnto, markerOnto, endingOnto, closingOnto}
 use Rattle.paper.specs.Grammar.{linesOnto, conceptOnto, bodyOnto, sheetOnto, blankRule, annotationRule, traitRule, markerRule, lineRule, opensBlock, conceptRule}
@@ -21,7 +21,7 @@ use Rattle.paper.specs.Entries.{annotationEntries, conceptSize, conceptW
 use Rattle.paper.specs.Entries.{rootStart, entries}
 use Rattle.paper.specs.Canonical.{ValueSense, quoted, letter, spelt, listed, ItemsSense, none, item, TraitSense, ConceptSense, bare, around, saying}
 use Rattle.paper.specs.Canonical.{BodySense, empty, with, SheetSense, leafSense, valueSense, moreSense, markerSense, lineSense, annotationSense, conceptSense}
-use Rattle.paper.specs.Canonical.{bodySense, meaning}
+use Rattle.paper.specs.Canonical.{bodySense, meaning, timed}
 use Rattle.paper.proofs.Lists.{both, all-head}
 use Rattle.paper.proofs.Concepts.{element-parts}
 use Rattle.paper.proofs.ReadValues.{value-append}
@@ -76,6 +76,7 @@ unfoldable mutual
   itemSenses (quoted l) = []
   itemSenses (letter l) = []
   itemSenses (spelt form w) = []
+  itemSenses (timed kind w) = []
   itemSenses (listed items) = itemsSenses items
 
   pub itemsSenses : ItemsSense → List Sense
@@ -135,6 +136,7 @@ module _ (s : List ℕ) where
   leaf-tells (character ps) = none-left
   leaf-tells (backtick ps) = none-left
   leaf-tells (word form w) = none-left
+  leaf-tells (temporal kind w) = none-left
 
   mutual
     unfolding itemEntries itemSenses valueSense valueOnto valueRule

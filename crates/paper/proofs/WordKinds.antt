@@ -6,13 +6,14 @@ use mathlib.Core.List.{List, [], _∷_, _++_, List·Memᴰ as Among, List·Mem�
 use native.Mathlib.Omega.{arith}
 use lib.ListN.{length}
 use lib.Dec.{leb, eqb}
-use borrow.Author.Tests.{leb-true, le-leb, lt-leb, eqb-true, not-false}
+use borrow.Author.Tests.{leb-true, le-leb, lt-leb, eqb-true}
 use Rattle.paper.specs.Found.{pick}
 use Rattle.paper.specs.Bytes.{byte, bytes, isUpper, isLower, isDigit, isLetter, isHex, all, elem, same, startsIn, lengthIn, space, tab, lf, cr}
-use Rattle.paper.specs.Values.{is, upTo, onward, past, isToken, hexGroups, isUuid, areDigits, isCount, unsigned, isInteger, isDecimal, isExponent, isScientific}
+use Rattle.paper.specs.Bytes.{is, upTo, onward, past, areDigits}
+use Rattle.paper.specs.Values.{isToken, hexGroups, isUuid, isCount, unsigned, isInteger, isDecimal, isExponent, isScientific}
 use Rattle.paper.specs.Values.{isFraction, isScheme, isIri, wordForm, listEnders}
 use Rattle.paper.proofs.Tests.{split, true-false, either, or-left, or-right}
-use Rattle.paper.proofs.Lists.{both, is-not, byFront, all-nil, all-cons, all-head, all-weaken, front-behind, behind-stops, all-append, starts-weaken}
+use Rattle.paper.proofs.Lists.{both, is-not, all-nil, all-cons, all-head, all-weaken, front-behind, byMark, all-append, starts-weaken}
 use Rattle.paper.proofs.Lists.{starts-append, starts-apart, elem-apart, elem-more, elem-right, without, same-is}
 
 -- ---- the kinds in the order of their forms
@@ -90,15 +91,6 @@ module _ (cs : List ℕ) where
 
   count-some : (v : List ℕ) (b : ℕ) (w : List ℕ) → elem b cs ≡ true → 1 ≤ count cs (v ++ (b ∷ w))
   count-some v b w e = omega (arith, count-append v (b ∷ w), count-in b w e)
-
--- ---- a word in two parts at the first byte of a class
-
-parted : {X : Type 0} (class : ℕ → Bool) (w : List ℕ) → (onward class w ≡ [] → X) → ((b : ℕ) → class b ≡ true → w ≡ upTo class w ++ (b ∷ past class w) → X) → X
-unfolding startsIn
-parted class w none some =
-    byFront (onward class w) none
-    (λ b l e. some b (not-false (class b) (rw e at (behind-stops (λ c. not (class c)) w)))
-    (sym (front-behind (λ c. not (class c)) w) ∙ ap (λ (x : List ℕ). upTo class w ++ x) (e ∙ rw e)))
 
 -- ---- numbers
 
@@ -178,7 +170,7 @@ two-numbers : (c : ℕ) (w : List ℕ) → elem (byte "-") (c ∷ []) ≡ false 
     → Marked (bytes "+-") (c ∷ []) 1 w
 two-numbers c w k i a =
     let d = digits-of (past (is c) w) a .1 in
-    parted (is c) w (λ n. no-digits (rw n at a))
+    byMark (is c) w (λ n. no-digits (rw n at a))
     (λ b e q. rw q (record {
       number =
           joined (bytes "+-") (c ∷ []) _ b _ 1 0 (integer-number _ i) (is-elem c b e) (all-cons _ (byte "-") [] (is-not k) (all-nil _)) (digits-in _ _ d)
@@ -202,7 +194,7 @@ scientific-number w e =
     let m =
     either (isInteger (upTo isExponent w)) (isDecimal (upTo isExponent w)) (h .0) (λ i. number-more (bytes "+-") (bytes ".") _ 1 (integer-number _ i))
     (λ d. decimal-number _ d .number) in
-    parted isExponent w (λ n. no-digits (count-of [] (rw n at (h .1))))
+    byMark isExponent w (λ n. no-digits (count-of [] (rw n at (h .1))))
     (λ b c q. rw q (record {
       number = joined (bytes "+-.") (bytes "eE") _ b _ 1 1 m c refl (number-more (bytes "+-") (bytes ".eE") _ 1 x .made) (x .few);
       mark = count-some (bytes "eE") (upTo isExponent w) b (past isExponent w) c;
@@ -231,7 +223,7 @@ groups-made n (k ∷ ns) w p e =
     let x = both (eqb (length (upTo dash w)) n) (all isHex (upTo dash w)) (h .0) .1 in
     let q = all-head (leb 1) k ns p in
     let g = groups-made k ns (past dash w) (q .1) (h .1) in
-    parted dash w (λ z. no-group k ns (leb-true 1 k (q .0)) (rw z at (h .1)))
+    byMark dash w (λ z. no-group k ns (leb-true 1 k (q .0)) (rw z at (h .1)))
     (λ b f s. rw s (record {
       made =
           all-append hexDash (upTo dash w) (b ∷ past dash w) (all-weaken isHex hexDash (λ b f. or-left (isHex b) _ f) _ x)
@@ -258,7 +250,7 @@ iri-colon : (w : List ℕ) → isIri w ≡ true → 1 ≤ count (bytes ":") w
 unfolding startsIn
 iri-colon w e =
     let colon = is (byte ":") in
-    parted colon w (λ n. true-false (sym (rw n at (iri-parts w e .1))))
+    byMark colon w (λ n. true-false (sym (rw n at (iri-parts w e .1))))
     (λ b f q. rw q (count-some (bytes ":") (upTo colon w) b (past colon w) (is-elem (byte ":") b f)))
 
 iri-first : (w : List ℕ) → isIri w ≡ true → startsIn isLetter w ≡ true
@@ -406,9 +398,9 @@ beginsNone = listEnders ++ (space ∷ tab ∷ lf ∷ cr ∷ [])
 abbrev pub beginsNoLeaf : List ℕ
 beginsNoLeaf = bytes "[" ++ beginsNone
 
--- those, and the quotes of the other values
+-- those, the quotes of the other values, and the brace of a time
 abbrev pub beginsNoWord : List ℕ
-beginsNoWord = bytes "\"'`" ++ beginsNoLeaf
+beginsNoWord = bytes "\"'`{" ++ beginsNoLeaf
 
 -- what a word of each kind begins with
 abbrev pub beginning : Kind → ℕ → Bool

@@ -6,8 +6,8 @@ use mathlib.Core.List.{List, [], _∷_, _++_}
 use lib.ListN.{length, take, drop, take-append-drop}
 use lib.Dec.{eqb}
 use borrow.Author.Tests.{not-true}
-use Rattle.paper.specs.Bytes.{byte, isWhite, all, startsIn}
-use Rattle.paper.specs.Values.{is, isEnder, endsWord, endsInSlash}
+use Rattle.paper.specs.Bytes.{byte, isWhite, all, startsIn, is}
+use Rattle.paper.specs.Values.{isEnder, endsWord, endsInSlash}
 use Rattle.paper.specs.ReadingValues.{wordLength}
 use Rattle.paper.proofs.Tests.{split, true-false}
 use Rattle.paper.proofs.Lists.{all-nil, all-cons, all-head, is-not}

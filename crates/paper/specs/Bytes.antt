@@ -91,6 +91,23 @@ front class s = take (lengthIn class s) s
 abbrev pub behind : (ℕ → Bool) → List ℕ → List ℕ
 behind class s = drop (lengthIn class s) s
 
+abbrev pub is : ℕ → ℕ → Bool
+is a b = eqb b a
+
+-- what stands in front of the first byte of a class, from it on, and behind it
+abbrev pub upTo : (ℕ → Bool) → List ℕ → List ℕ
+upTo class s = front (λ b. not (class b)) s
+
+abbrev pub onward : (ℕ → Bool) → List ℕ → List ℕ
+onward class s = behind (λ b. not (class b)) s
+
+abbrev pub past : (ℕ → Bool) → List ℕ → List ℕ
+past class s = drop 1 (onward class s)
+
+-- digits, one at least
+unfoldable pub areDigits : List ℕ → Bool
+areDigits s = startsIn isDigit s && all isDigit s
+
 -- the same bytes
 unfoldable pub same : List ℕ → List ℕ → Bool
 same [] [] = true

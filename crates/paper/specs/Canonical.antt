@@ -1,5 +1,5 @@
 -- The meaning of a tree, with no offset and no layout, and the canonical form, which is the printed meaning.
--- Document 01, "Canonical form"; 000 §10.5.
+-- Document 01, "Canonical form"; 000 §10.5; document 02, Two.
 use Prim.Native.Nat.{ℕ, suc, _+_, _-_, _/_, _%_}
 use mathlib.Core.Bool.{Bool, true, false, _||_}
 use mathlib.Core.List.{List, [], _∷_, _++_, map}
@@ -7,7 +7,9 @@ use lib.ListN.{length}
 use lib.Dec.{leb, ltb, eqb}
 use Rattle.paper.specs.Found.{pick}
 use Rattle.paper.specs.Bytes.{byte, isUpper, lf, cr, tab, space}
-use Rattle.paper.specs.Values.{piecesMean, collapse, endsInSlash, Leaf, string, character, backtick, word, Value, leaf, emptyList, list, More, close, comma}
+use Rattle.paper.specs.Values.{piecesMean, collapse, endsInSlash, Leaf, string, character, backtick, word, temporal, Value, leaf, emptyList, list, More, close}
+use Rattle.paper.specs.Values.{comma}
+use Rattle.paper.specs.Times.{TimeKind}
 use Rattle.paper.specs.Tree.{Marker, Annotation, Line, blank, text, Concept, selfClosed, children, content, Body, done, blankLine, element, Sheet, Ending, block}
 use Rattle.paper.specs.Tree.{self}
 use Rattle.paper.specs.Grammar.{tabsOnto, endingOnto, closingOnto}
@@ -15,10 +17,11 @@ use Rattle.paper.specs.Grammar.{tabsOnto, endingOnto, closingOnto}
 -- ---- meanings
 
 mutual
-  -- the bytes of a string or of a character, the form and spelling of a word, or the items of a list
+  -- the bytes of a string or of a character, the form and spelling of a word, the kind and inside of a time, or the items of a list
   pub data ValueSense : Type 0 where
     quoted letter : List ℕ → ValueSense
     spelt : ℕ → List ℕ → ValueSense
+    timed : TimeKind → List ℕ → ValueSense
     listed : ItemsSense → ValueSense
 
   pub data ItemsSense : Type 0 where
@@ -58,6 +61,7 @@ leafSense (string ps) = quoted (piecesMean ps)
 leafSense (character ps) = letter (piecesMean ps)
 leafSense (backtick ps) = quoted (collapse (piecesMean ps))
 leafSense (word form w) = spelt form (pick (eqb form 10) (map lower w) w)
+leafSense (temporal kind w) = timed kind w
 
 unfoldable mutual
   pub valueSense : Value → ValueSense
@@ -122,6 +126,7 @@ unfoldable mutual
   printValue (quoted l) next = byte "\"" ∷ bytesOnto (byte "\"") l (byte "\"" ∷ next)
   printValue (letter l) next = byte "'" ∷ bytesOnto (byte "'") l (byte "'" ∷ next)
   printValue (spelt form w) next = w ++ next
+  printValue (timed kind w) next = byte "{" ∷ (w ++ (byte "}" ∷ next))
   printValue (listed items) next = byte "[" ∷ printItems items (byte "]" ∷ next)
 
   pub printItems : ItemsSense → List ℕ → List ℕ
@@ -149,6 +154,7 @@ abbrev pub senseInSlash : ValueSense → Bool
 senseInSlash (quoted l) = false
 senseInSlash (letter l) = false
 senseInSlash (spelt form w) = endsInSlash w
+senseInSlash (timed kind w) = false
 senseInSlash (listed items) = false
 
 unfoldable pub lastInSlash : List TraitSense → Bool

@@ -4,6 +4,7 @@ pub mod Found
 pub mod Bytes
 pub mod Names
 pub mod Modes
+pub mod Times
 pub mod Values
 pub mod Tree
 pub mod Grammar

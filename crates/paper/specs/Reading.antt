@@ -9,10 +9,9 @@ use Rattle.paper.specs.declared.Mode.the-variants.{Children, Absent}
 use Rattle.paper.specs.Answer.{Told, accepted, refused}
 use Rattle.paper.specs.Found.{Found, found, fault, andThen, Turn, over, stop, turnOf, manyOf, placeIn}
 use Rattle.paper.specs.Bytes.{byte, bytes, isUpper, isLower, isBlank, isWhite, isLineEnd, lengthIn, front, behind, elem, same, startsIn, startsWith, sheetBytes, lf}
-use Rattle.paper.specs.Bytes.{cr, tab, space}
+use Rattle.paper.specs.Bytes.{cr, tab, space, is, upTo, onward}
 use Rattle.paper.specs.Names.{nameLimit, run, pastRun, isName}
 use Rattle.paper.specs.Modes.{Modes, modeTable}
-use Rattle.paper.specs.Values.{is, upTo, onward}
 use Rattle.paper.specs.Tree.{LF, CRLF, Blank, Trait, Marker, Annotation, Line, blank, text, Concept, selfClosed, children, content, Body, done, Annotated}
 use Rattle.paper.specs.Tree.{BodyPiece, blankPiece, elementPiece, before, Sheet, Ending, block, self}
 use Rattle.paper.specs.Grammar.{tabsOnto, closingOnto, inMode}

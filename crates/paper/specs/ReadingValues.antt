@@ -1,13 +1,15 @@
 -- Reading a value from the front of a list: its tree and what is left, or the fault met first.
--- Document 01, "The grammar", Values, and refusals 6, 9 and 10 of "Refusal numbers" and "Order".
+-- Document 01, "The grammar", Values, and refusals 6, 9 and 10 of "Refusal numbers" and "Order"; document 02, Two.
 use Prim.Native.Nat.{ℕ, zero, suc}
 use mathlib.Core.Bool.{true, false}
 use mathlib.Core.List.{List, [], _∷_, map}
+use mathlib.Core.Option.{none, some}
 use lib.ListN.{length, take, drop}
 use lib.Dec.{leb, eqb}
 use Rattle.paper.specs.Found.{Found, found, fault, andThen, Turn, more, over, stop, turnOf, manyOf, pick}
-use Rattle.paper.specs.Bytes.{byte, bytes, isHex, isWhite, isLineEnd, lengthIn, front, behind, startsWith, scalar, encode}
-use Rattle.paper.specs.Values.{Piece, direct, escaped, four, braces, pieceRule, wordForm, endsWord, listEnders, Leaf, string, character, backtick, word, Value}
+use Rattle.paper.specs.Bytes.{byte, bytes, isHex, isWhite, isLineEnd, lengthIn, front, behind, startsWith, is, upTo, onward, scalar, encode}
+use Rattle.paper.specs.Times.{timeKind}
+use Rattle.paper.specs.Values.{Piece, direct, escaped, four, braces, pieceRule, wordForm, endsWord, listEnders, Leaf, string, character, backtick, word, temporal, Value}
 use Rattle.paper.specs.Values.{leaf, emptyList, list, More, close, comma}
 
 -- ---- strings, characters and backticks
@@ -101,13 +103,27 @@ wordOf s w (b ∷ l) = elim (eqb (wordForm w) 0) [ true ↦ fault 6 s | false �
 abbrev pub wordLeaf : List ℕ → List ℕ → Found Leaf
 wordLeaf also s = wordOf s (take (wordLength also s) s) (drop (wordLength also s) s)
 
+-- ---- times
+
+-- what stands behind the brace, in front of the first "}" and from it on: cut without one, and else judged by its kind
+unfoldable pub temporalOf : List ℕ → List ℕ → List ℕ → Found Leaf
+temporalOf s w [] = fault 9 []
+temporalOf s w (b ∷ l) = elim (timeKind w) [ none ↦ fault 6 s | some kind ↦ found (temporal kind w) l ]
+
+abbrev pub temporalLeaf : List ℕ → List ℕ → Found Leaf
+temporalLeaf s l = temporalOf s (upTo (is (byte "}")) l) (onward (is (byte "}")) l)
+
 -- ---- all values, by their first byte
 
 pub data First : Type 0 where
-  quote apostrophe tick other : First
+  quote apostrophe tick brace other : First
 
 unfoldable pub firstOf : ℕ → First
-firstOf b = pick (eqb b (byte "\"")) quote (pick (eqb b (byte "'")) apostrophe (pick (eqb b (byte "`")) tick other))
+firstOf b =
+    pick (eqb b (byte "\"")) quote
+    (pick (eqb b (byte "'")) apostrophe
+    (pick (eqb b (byte "`")) tick
+    (pick (eqb b (byte "{")) brace other)))
 
 -- a value that is no list
 unfoldable pub leafOf : List ℕ → List ℕ → Found Leaf
@@ -117,6 +133,7 @@ leafOf also (b ∷ l) =
       | quote ↦ andThen (manyOf (λ p. 0) pieceTurn 0 l) (λ ps left. found (string ps) left)
       | apostrophe ↦ characterOf l
       | tick ↦ andThen (manyOf (λ p. 0) backtickTurn 0 l) (λ ps left. found (backtick ps) left)
+      | brace ↦ temporalLeaf (b ∷ l) l
       | other ↦ wordLeaf also (b ∷ l)
     ]
 

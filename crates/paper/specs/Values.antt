@@ -1,13 +1,14 @@
 -- Values: their trees, their spelling, the rules that a spelling keeps, and what it means.
--- Document 01, "The grammar", Values; 001 §8 to §16 and §19; document 02, One.
+-- Document 01, "The grammar", Values; 001 §8 to §16, §18 and §19; document 02, One and Two.
 use Prim.Native.Nat.{ℕ, zero, suc, _+_, _-_, _*_, max}
 use mathlib.Core.Bool.{Bool, true, false, not, _&&_, _||_}
 use mathlib.Core.List.{List, [], _∷_, _++_}
-use lib.ListN.{length, drop}
+use lib.ListN.{length}
 use lib.Dec.{leb, eqb}
 use Rattle.paper.specs.Found.{found, fault, pick}
-use Rattle.paper.specs.Bytes.{byte, bytes, within, isUpper, isLower, isDigit, isLetter, isNameByte, isHex, isWhite, isLineEnd, all, elem, same, startsIn, front}
-use Rattle.paper.specs.Bytes.{behind, scalar, isScalar, encode, lf, cr, tab, space}
+use Rattle.paper.specs.Bytes.{byte, bytes, within, isUpper, isLower, isDigit, isLetter, isNameByte, isHex, isWhite, isLineEnd, all, elem, same, startsIn}
+use Rattle.paper.specs.Bytes.{is, upTo, onward, past, areDigits, scalar, isScalar, encode, lf, cr, tab, space}
+use Rattle.paper.specs.Times.{TimeKind, isOf}
 
 -- ---- strings, characters and backticks
 
@@ -94,19 +95,6 @@ unfoldable mutual
 
 -- ---- words
 
--- what stands in front of the first byte of a class, from it on, and behind it
-abbrev pub upTo : (ℕ → Bool) → List ℕ → List ℕ
-upTo class w = front (λ b. not (class b)) w
-
-abbrev pub onward : (ℕ → Bool) → List ℕ → List ℕ
-onward class w = behind (λ b. not (class b)) w
-
-abbrev pub past : (ℕ → Bool) → List ℕ → List ℕ
-past class w = drop 1 (onward class w)
-
-abbrev pub is : ℕ → ℕ → Bool
-is a b = eqb b a
-
 -- a sign and a run of letters and digits, as "$Pascal" and "~camel"
 unfoldable pub isToken : ℕ → (ℕ → Bool) → List ℕ → Bool
 isToken sign first [] = false
@@ -121,10 +109,7 @@ hexGroups (n ∷ k ∷ ns) w = eqb (length (upTo (is (byte "-")) w)) n && all is
 abbrev pub isUuid : List ℕ → Bool
 isUuid = hexGroups (8 ∷ 4 ∷ 4 ∷ 4 ∷ 12 ∷ [])
 
--- digits, and digits with no leading zero
-unfoldable pub areDigits : List ℕ → Bool
-areDigits w = startsIn isDigit w && all isDigit w
-
+-- digits with no leading zero
 unfoldable pub isCount : List ℕ → Bool
 isCount w = areDigits w && (eqb (length w) 1 || not (startsIn (is (byte "0")) w))
 
@@ -214,6 +199,7 @@ listEnders = bytes ",]"
 pub data Leaf : Type 0 where
   string character backtick : List Piece → Leaf
   word : ℕ → List ℕ → Leaf
+  temporal : TimeKind → List ℕ → Leaf
 
 mutual
   pub data Value : Type 0 where
@@ -232,6 +218,7 @@ leafOnto (string ps) next = byte "\"" ∷ piecesOnto ps (byte "\"" ∷ next)
 leafOnto (character ps) next = byte "'" ∷ piecesOnto ps (byte "'" ∷ next)
 leafOnto (backtick ps) next = byte "`" ∷ piecesOnto ps (byte "`" ∷ next)
 leafOnto (word form w) next = w ++ next
+leafOnto (temporal kind w) next = byte "{" ∷ (w ++ (byte "}" ∷ next))
 
 unfoldable mutual
   pub valueOnto : Value → List ℕ → List ℕ
@@ -252,6 +239,7 @@ leafRule also (string ps) = all (pieceRule (byte "\"")) ps
 leafRule also (character ps) = all (pieceRule (byte "'")) ps && oneScalar ps
 leafRule also (backtick ps) = backtickRule false ps
 leafRule also (word form w) = eqb (wordForm w) form && leb 1 form && all (λ b. not (isEnder also b)) w
+leafRule also (temporal kind w) = isOf kind w
 
 unfoldable mutual
   pub valueRule : List ℕ → Value → Bool
@@ -269,6 +257,7 @@ leafForm (string ps) = 1
 leafForm (character ps) = 2
 leafForm (backtick ps) = 1
 leafForm (word form w) = form
+leafForm (temporal kind w) = 13
 
 abbrev pub valueForm : Value → ℕ
 valueForm (leaf v) = leafForm v
@@ -281,12 +270,13 @@ endsInSlash [] = false
 endsInSlash (b ∷ []) = eqb b (byte "/")
 endsInSlash (b ∷ c ∷ l) = endsInSlash (c ∷ l)
 
--- a value that ends in "/": only a word can, since the others end in a quote or a bracket
+-- a value that ends in "/": only a word can, since the others end in a quote, a brace or a bracket
 abbrev pub leafInSlash : Leaf → Bool
 leafInSlash (string ps) = false
 leafInSlash (character ps) = false
 leafInSlash (backtick ps) = false
 leafInSlash (word form w) = endsInSlash w
+leafInSlash (temporal kind w) = false
 
 abbrev pub valueInSlash : Value → Bool
 valueInSlash (leaf v) = leafInSlash v

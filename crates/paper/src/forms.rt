@@ -1,5 +1,7 @@
 // The forms of entries, by their numbers: those of Concepts, and those of the values of traits and list items.
 // Document 01, "Entries".
+ghost use mathlib.Core.Path.{_≡_};
+ghost use Rattle.paper.specs.Found.{pick};
 
 // Annotations and Content have no form, and neither has what is no value.
 pub const NONE: u32 = 0;
@@ -35,3 +37,12 @@ pub const UUID: u32 = 10;
 pub const IRI: u32 = 11;
 
 pub const LIST: u32 = 12;
+
+pub const TIME: u32 = 13;
+
+// The form where its test holds, else none.
+pub fn only_if(holds: bool, form: u32) -> u32
+    ensures { λ r. ⌜ r ≡ pick holds form 0 ⌝ }
+{
+    if holds { form } else { NONE }
+}

@@ -11,7 +11,7 @@ use borrow.Author.Tests.{lt-ltb}
 use Rattle.paper.specs.Found.{pick}
 use Rattle.paper.specs.Bytes.{byte, space, isWhite, all}
 use Rattle.paper.specs.Values.{Leaf, string, character, backtick, word, leafOnto, leafForm, leafRule, Value, leaf, emptyList, list, More, close, comma}
-use Rattle.paper.specs.Values.{valueOnto, moreOnto, spelling, valueForm, valueRule, moreRule, listEnders, listDepth, moreDepth}
+use Rattle.paper.specs.Values.{valueOnto, moreOnto, spelling, valueForm, valueRule, moreRule, listEnders, listDepth, moreDepth, temporal}
 use Rattle.paper.specs.Entries.{Entry, itemEntry, itemEntries, moreEntries, itemsOf, moreItems, itemSize, moreSize, valueWidth}
 use Rattle.paper.specs.Canonical.{ItemsSense, none, item, leafSense, valueSense, moreSense, printValue, printItems, printBehind}
 use Rattle.paper.proofs.Lists.{both}
@@ -49,6 +49,7 @@ no-list also (string ps) form e q r = absurd (omega arith)
 no-list also (character ps) form e q r = absurd (omega arith)
 no-list also (backtick ps) form e q r = absurd (omega arith)
 no-list also (word f w) form e q r = let h = word-range also f w r in absurd (omega arith)
+no-list also (temporal kind w) form e q r = absurd (omega arith)
 
 -- the items of a list
 abbrev pub heldBy : Value → ItemsSense

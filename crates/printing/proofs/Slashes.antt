@@ -9,7 +9,7 @@ use lib.Dec.{eqb}
 use borrow.Author.Tests.{ne-eqb}
 use Rattle.paper.specs.Bytes.{byte, isUpper}
 use Rattle.paper.specs.Values.{Piece, piecesOnto, string, character, backtick, word, leafOnto, Value, leaf, emptyList, list, More, close, comma, valueOnto}
-use Rattle.paper.specs.Values.{moreOnto, spelling, endsInSlash}
+use Rattle.paper.specs.Values.{moreOnto, spelling, endsInSlash, temporal}
 use Rattle.paper.specs.Tree.{Trait}
 use Rattle.paper.specs.Canonical.{TraitSense, lower, leafSense, valueSense, senseInSlash, lastInSlash}
 use Rattle.paper.proofs.Tests.{split, in-range}
@@ -67,6 +67,7 @@ value-slash (leaf (string ps)) = ends-quoted (byte "\"") ps
 value-slash (leaf (character ps)) = ends-quoted (byte "'") ps
 value-slash (leaf (backtick ps)) = ends-quoted (byte "`") ps
 value-slash (leaf (word form w)) = word-slash form w
+value-slash (leaf (temporal kind w)) = ends-append (byte "{" ∷ w) (byte "}") []
 value-slash emptyList = refl
 value-slash (list v more) = ap (λ (l : List ℕ). endsInSlash (byte "[" ∷ l)) (value-append v (moreOnto more [])) ∙ ends-more (byte "[" ∷ spelling v) more
     ∙ more-slash more

@@ -9,13 +9,13 @@ use lib.Seq.{take-append-seam}
 use borrow.Author.Tests.{eq-eqb, ne-eqb}
 use Rattle.paper.specs.Bytes.{byte, bytes, all, startsWith}
 use Rattle.paper.specs.Values.{Piece, piecesOnto, pieceRule, piecesMean, backtickRule, collapse, Leaf, string, character, backtick, word, leafOnto, leafForm}
-use Rattle.paper.specs.Values.{leafRule, wordForm}
+use Rattle.paper.specs.Values.{leafRule, wordForm, temporal}
 use Rattle.paper.specs.Canonical.{bytesOnto, lower, leafSense, printValue}
 use Rattle.paper.proofs.Tests.{true-false}
 use Rattle.paper.proofs.Lists.{both}
 use Rattle.paper.proofs.Pieces.{pieces-append}
 use Rattle.paper.proofs.WordKinds.{Kind, formOf, kinds, byKind, word-form}
-use Rattle.paper.proofs.Leaves.{word-rule}
+use Rattle.paper.proofs.Leaves.{word-rule, leaf-append}
 use Rattle.quoting.specs.Page.{page, Puts}
 use Rattle.values.specs.Plain.{isPlain}
 use Rattle.quoting.proofs.Plainly.{plain-pieces}
@@ -94,6 +94,7 @@ module _ (also w : List ℕ) {out after : List ℕ} {at to : ℕ} where
   string-there s f (character ps) e q r = absurd (omega arith)
   string-there s f (backtick ps) e q r = true-false (rw e at s)
   string-there s f (word form u) e q r = word-short also form u (omega arith) r
+  string-there s f (temporal kind u) e q r = absurd (omega arith)
 
   pub backtick-there : startsWith (bytes "`") (drop 0 w) ≡ true
       → ((ps : List Piece) → w ≡ byte "`" ∷ piecesOnto ps (byte "`" ∷ []) → backtickRule false ps ≡ true
@@ -104,6 +105,7 @@ module _ (also w : List ℕ) {out after : List ℕ} {at to : ℕ} where
   backtick-there s f (character ps) e q r = absurd (omega arith)
   backtick-there s f (backtick ps) e q r = f ps e r
   backtick-there s f (word form u) e q r = word-short also form u (omega arith) r
+  backtick-there s f (temporal kind u) e q r = absurd (omega arith)
 
   pub character-there : ((ps : List Piece) → w ≡ byte "'" ∷ piecesOnto ps (byte "'" ∷ []) → all (pieceRule (byte "'")) ps ≡ true
       → Puts out at (λ next. byte "'" ∷ bytesOnto (byte "'") (piecesMean ps) (byte "'" ∷ next)) after to)
@@ -113,6 +115,7 @@ module _ (also w : List ℕ) {out after : List ℕ} {at to : ℕ} where
   character-there f (character ps) e q r = f ps e (both (all (pieceRule (byte "'")) ps) _ r .0)
   character-there f (backtick ps) e q r = absurd (omega arith)
   character-there f (word form u) e q r = word-short also form u (omega arith) r
+  character-there f (temporal kind u) e q r = absurd (omega arith)
 
   pub uuid-there : Puts out at (λ next. map lower w ++ next) after to → (v : Leaf) → w ≡ leafOnto v [] → 10 ≡ leafForm v
       → Puts out at (printValue (leafSense v)) after to
@@ -121,6 +124,7 @@ module _ (also w : List ℕ) {out after : List ℕ} {at to : ℕ} where
   uuid-there p (character ps) e q = absurd (omega arith)
   uuid-there p (backtick ps) e q = absurd (omega arith)
   uuid-there p (word form u) e q = record { same = λ next. rw (eq-eqb form 10 (sym q), ← append-nil u, ← e) (p .same next) }
+  uuid-there p (temporal kind u) e q = absurd (omega arith)
 
   pub word-there : Puts out at (λ next. w ++ next) after to → (form : ℕ) → (form ≡ 1 → ⊥) → (form ≡ 2 → ⊥) → (form ≡ 10 → ⊥)
       → (v : Leaf) → w ≡ leafOnto v [] → form ≡ leafForm v → Puts out at (printValue (leafSense v)) after to
@@ -129,3 +133,5 @@ module _ (also w : List ℕ) {out after : List ℕ} {at to : ℕ} where
   word-there p form a b c (character ps) e q = absurd (b q)
   word-there p form a b c (backtick ps) e q = absurd (a q)
   word-there p form a b c (word f u) e q = record { same = λ next. rw (ne-eqb f 10 (λ z. c (q ∙ z)), ← append-nil u, ← e) (p .same next) }
+  word-there p form a b c (temporal kind u) e q =
+      record { same = λ next. ap (λ (l : List ℕ). page out at l) (leaf-append (temporal kind u) next ∙ ap (λ (l : List ℕ). l ++ next) (sym e)) ∙ p .same next }

@@ -12,10 +12,9 @@ use Rattle.paper.specs.Bytes.{byte, all, lengthIn, lf, cr, tab}
 use Rattle.paper.specs.Values.{Piece, direct, escaped, four, braces, pieceOnto, piecesOnto, pieceRule, pieceMeans, piecesMean}
 use Rattle.paper.specs.Canonical.{byteOnto, bytesOnto}
 use Rattle.paper.proofs.Tests.{true-false, split}
-use Rattle.paper.proofs.Lists.{all-head}
+use Rattle.paper.proofs.Lists.{all-head, all-run}
 use Rattle.text.proofs.Stretch.{Stretch}
 use Rattle.values.specs.Plain.{isPlain}
-use Rattle.values.proofs.Runs.{all-run}
 use Rattle.quoting.specs.Page.{page, Puts}
 use Rattle.quoting.proofs.Sequences.{Left}
 use Rattle.quoting.proofs.Spelling.{byte-direct, pieceRun}

@@ -5,14 +5,22 @@ use mathlib.Core.Path.{_≡_, sym, ap, _∙_}
 use mathlib.Core.List.{List, _∷_, _++_}
 use native.Mathlib.Numerals.{add-one}
 use native.Mathlib.Omega.{arith}
-use lib.ListN.{length, getD, drop, length-drop, length-append}
-use lib.Seq.{drop-cons, drop-drop, drop-append-seam}
+use lib.ListN.{length, getD, take, drop, length-drop, length-append, take-append-drop}
+use lib.Seq.{take-all, drop-cons, drop-drop, drop-append-seam}
 use Rattle.paper.specs.Found.{placeIn}
 use Rattle.paper.proofs.Finds.{Tail, whole, past, tail-length, tail-then, tail-drop}
 
 -- what is left at a place inside: its byte, and what is left behind it
 pub here : (s : List ℕ) (i : ℕ) → i < length s → drop i s ≡ getD s i 0 ∷ drop (i + 1) s
 here s i h = rw add-one (drop-cons s i 0 h)
+
+-- the part before a place, the byte that stands there, and what is left behind it
+pub parts-at : (w : List ℕ) (n : ℕ) → n < length w → w ≡ take n w ++ (getD w n 0 ∷ drop (n + 1) w)
+parts-at w n h = sym (take-append-drop n w) ∙ ap (λ (x : List ℕ). take n w ++ x) (here w n h)
+
+-- a part that goes on to the end
+pub part-rest : (w : List ℕ) (i : ℕ) → take (length w - i) (drop i w) ≡ drop i w
+part-rest w i = take-all (length w - i) (drop i w) (omega (arith, length-drop i w))
 
 -- what is left from a place on begins at that place
 pub place-back : (s : List ℕ) (i : ℕ) → i ≤ length s → placeIn s (drop i s) ≡ i

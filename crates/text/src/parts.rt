@@ -1,8 +1,11 @@
-// Parts of a list of bytes: whether two are the same, and whether fixed bytes stand at a place.
-// Document 01, "The grammar": fixed words, marker ends and the byte order mark.
+// Parts of a list of bytes: whether two are the same, whether fixed bytes stand at a place, and where one of some stands first.
+// Document 01, "The grammar": fixed words, marker ends and the byte order mark; document 02, Two.
+use crate::classes::is_one_of;
 ghost use mathlib.Core.Path.{_≡_};
-ghost use lib.ListN.{drop};
-ghost use Rattle.paper.specs.Bytes.{same, startsWith};
+ghost use mathlib.Core.Bool.{not};
+ghost use Prim.Native.Nat.{_+_, _≤_};
+ghost use lib.ListN.{length, drop};
+ghost use Rattle.paper.specs.Bytes.{elem, lengthIn, same, startsWith};
 
 // Are a and b the same bytes?
 pub fn same(a: &[u8], b: &[u8]) -> bool
@@ -38,4 +41,20 @@ pub fn starts_with(s: &[u8], at: usize, part: &[u8]) -> bool
         i += 1;
     }
     true
+}
+
+// Where one of these bytes first stands from `at` on, or the end of s where none does.
+pub fn find(s: &[u8], at: usize, these: &[u8]) -> usize
+    requires { ⌜ at ≤ length (now s) ⌝ }
+    ensures { λ r. ⌜ (r ≡ at + lengthIn (λ b. not (elem b (now (these .entry)))) (drop at (now (s .entry))))
+        × (at ≤ r) × (r ≤ length (now (s .entry))) ⌝ }
+{
+    let mut i = at;
+    while i < s.len() {
+        if is_one_of(s[i], these) {
+            return i;
+        }
+        i += 1;
+    }
+    i
 }

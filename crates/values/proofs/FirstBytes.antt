@@ -17,7 +17,7 @@ use Rattle.paper.proofs.WordKinds.{Kind, boolean, integer, decimal, scientific,
 use Rattle.paper.proofs.WordKinds.{fits, formOf, firstForm, kinds, word-form, byKind, digitOr, hexDash, beginning, kind-first, by-first}
 use Rattle.text.proofs.Places.{here}
 use Rattle.values.specs.Kinds.{numberForm, isNamed, letteredForm, numeralForm}
-use Rattle.values.proofs.Runs.{all-run}
+use Rattle.paper.proofs.Lists.{all-run}
 
 -- ---- tokens
 

@@ -9,12 +9,12 @@ use lib.ListN.{length, drop, length-drop}
 use lib.Seq.{drop-drop, length-take-le}
 use lib.Dec.{eqb}
 use borrow.Author.Tests.{eqb-true, eqb-false, eq-eqb, ne-eqb}
-use Rattle.paper.specs.Bytes.{byte, bytes, isDigit, isHex, all, startsWith, lengthIn, behind}
-use Rattle.paper.specs.Values.{upTo, past, is, hexGroups, isUuid}
+use Rattle.paper.specs.Bytes.{byte, bytes, isDigit, isHex, all, startsWith, lengthIn, behind, upTo, past, is}
+use Rattle.paper.specs.Values.{hexGroups, isUuid}
 use Rattle.paper.proofs.Tests.{split, apart}
-use Rattle.paper.proofs.Lists.{both, front-all, length-in}
+use Rattle.paper.proofs.Lists.{both, front-all, length-in, all-run}
 use Rattle.values.specs.Kinds.{isGroup}
-use Rattle.values.proofs.Runs.{all-run, endsAt, mark-ends, no-mark-ends, up-to-run, up-to-more}
+use Rattle.values.proofs.Runs.{endsAt, mark-ends, no-mark-ends, up-to-run, up-to-more}
 
 dash-apart : (b : ℕ) → isHex b ≡ true → is (byte "-") b ≡ false
 unfolding isHex isDigit

@@ -9,12 +9,12 @@ use lib.ListN.{length, getD, take, drop}
 use lib.Seq.{take-length, length-take-le}
 use lib.Dec.{leb, eqb}
 use borrow.Author.Tests.{leb-false, le-leb, lt-leb, eqb-true, eqb-false, eq-eqb, ne-eqb, not-true}
-use Rattle.paper.specs.Bytes.{byte, bytes, isDigit, all, elem, startsIn, lengthIn}
-use Rattle.paper.specs.Values.{is, areDigits, isCount, unsigned, isInteger}
+use Rattle.paper.specs.Bytes.{byte, bytes, isDigit, all, elem, startsIn, lengthIn, is, areDigits}
+use Rattle.paper.specs.Values.{isCount, unsigned, isInteger}
 use Rattle.paper.proofs.Tests.{split, true-false, either, or-left, or-right}
 use Rattle.paper.proofs.Lists.{both, all-cons, all-weaken, front-all, behind-stops, front-length, length-in}
-use Rattle.text.proofs.Places.{here}
-use Rattle.values.proofs.Runs.{parts-at, part-rest, starts-first}
+use Rattle.text.proofs.Places.{here, part-rest, parts-at}
+use Rattle.values.proofs.Runs.{starts-first}
 use Rattle.values.specs.Kinds.{signLength, countLength, integerLength}
 
 -- ---- digits with no leading zero

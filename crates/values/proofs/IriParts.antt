@@ -12,8 +12,8 @@ use lib.Dec.{leb}
 use borrow.Author.Tests.{le-leb, leb-true, leb-false, ne-eqb}
 use Rattle.paper.specs.Found.{Found, found, fault}
 use Rattle.paper.specs.Bytes.{byte, bytes, within, isUpper, isLower, isDigit, isLetter, isNameByte}
-use Rattle.paper.specs.Bytes.{all, elem, startsIn, startsWith, lengthIn, front, behind, scalar}
-use Rattle.paper.specs.Values.{upTo, onward, is, ucschar, barred, inRanges, isIriScalar, isIriBody, isScheme, isIri}
+use Rattle.paper.specs.Bytes.{all, elem, startsIn, startsWith, lengthIn, front, behind, scalar, upTo, onward, is}
+use Rattle.paper.specs.Values.{ucschar, barred, inRanges, isIriScalar, isIriBody, isScheme, isIri}
 use Rattle.paper.proofs.Tests.{split, apart, or-right, inside, above, byRange}
 use Rattle.paper.proofs.Lists.{both, elem-apart, front-all}
 use Rattle.paper.proofs.Scalars.{row-one, scalar-one, scalar-shorter}

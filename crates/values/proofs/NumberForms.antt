@@ -11,13 +11,12 @@ use lib.Seq.{take-length}
 use lib.Dec.{eqb}
 use borrow.Author.Tests.{ne-eqb}
 use Rattle.paper.specs.Found.{pick}
-use Rattle.paper.specs.Bytes.{byte, isDigit, all, elem, startsIn, lengthIn, front}
-use Rattle.paper.specs.Values.{upTo, onward, past, is, areDigits, isCount, isInteger, isDecimal, isExponent, isScientific, isFraction}
+use Rattle.paper.specs.Bytes.{byte, isDigit, all, elem, startsIn, lengthIn, front, upTo, onward, past, is, areDigits}
+use Rattle.paper.specs.Values.{isCount, isInteger, isDecimal, isExponent, isScientific, isFraction}
 use Rattle.paper.proofs.Tests.{split, true-false, apart, or-left}
 use Rattle.paper.proofs.Lists.{all-head, all-weaken, front-all, front-behind, behind-stops, is-not}
-use Rattle.text.proofs.Places.{here}
+use Rattle.text.proofs.Places.{here, part-rest, parts-at}
 use Rattle.values.specs.Kinds.{integerLength, numberForm, pointForm}
-use Rattle.values.proofs.Runs.{part-rest, parts-at}
 use Rattle.values.proofs.Integers.{inInteger, integer-made, integer-broken, digits-broken, Begun, integers, none-before, whole-none}
 
 -- ---- a word in two parts at the first mark

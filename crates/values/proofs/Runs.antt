@@ -1,18 +1,15 @@
 -- A run of bytes of a class that stands at a place, by where it ends. Over plain lists and any class. Assumes nothing.
-use Prim.Native.Nat.{ℕ, zero, suc, _+_, _-_, _≤_, _<_}
+use Prim.Native.Nat.{ℕ, zero, suc, _-_, _≤_, _<_}
 use mathlib.Core.Path.{_≡_, refl, sym, ap, _∙_}
 use mathlib.Core.Bool.{Bool, true, false, not}
-use mathlib.Core.List.{List, [], _∷_, _++_}
+use mathlib.Core.List.{List, [], _∷_}
 use native.Mathlib.Omega.{arith}
 use lib.Dec.{eqb}
-use borrow.Author.Tests.{eqb-true, eqb-false, eq-eqb, ne-eqb}
-use lib.ListN.{length, getD, take, drop, length-drop, take-append-drop}
-use lib.Seq.{take-all}
-use Rattle.paper.specs.Bytes.{all, startsIn, startsWith, lengthIn, behind}
-use Rattle.paper.specs.Values.{upTo, is}
+use lib.ListN.{length, getD, take, drop, length-drop}
+use Rattle.paper.specs.Bytes.{all, startsIn, startsWith, lengthIn, behind, upTo, is}
 use Rattle.paper.proofs.Tests.{split, true-false}
 use Rattle.paper.proofs.Lists.{all-nil, all-cons}
-use Rattle.text.proofs.Places.{here}
+use Rattle.text.proofs.Places.{part-rest}
 
 module _ (class : ℕ → Bool) where
   -- the first bytes of a run are of the class
@@ -25,16 +22,8 @@ module _ (class : ℕ → Bool) where
       (λ e. all-cons class b (take n l) e (all-front n l (omega (arith, rw (e, lengthIn) at h))))
       (λ e. absurd (omega (arith, rw (e, lengthIn) at h)))
 
--- a part that goes on to the end
-pub part-rest : (w : List ℕ) (i : ℕ) → take (length w - i) (drop i w) ≡ drop i w
-part-rest w i = take-all (length w - i) (drop i w) (omega (arith, length-drop i w))
-
 pub part-size : (w : List ℕ) (i : ℕ) → length (take (length w - i) (drop i w)) ≡ length w - i
 part-size w i = ap length (part-rest w i) ∙ length-drop i w
-
--- the part before a place, the byte that stands there, and what is left behind it
-pub parts-at : (w : List ℕ) (n : ℕ) → n < length w → w ≡ take n w ++ (getD w n 0 ∷ drop (n + 1) w)
-parts-at w n h = sym (take-append-drop n w) ∙ ap (λ (x : List ℕ). take n w ++ x) (here w n h)
 
 -- one fixed byte in front
 pub starts-one : (c : ℕ) (s : List ℕ) → startsWith (c ∷ []) s ≡ startsIn (is c) s
@@ -47,19 +36,6 @@ pub starts-first : (class : ℕ → Bool) (w : List ℕ) → 0 < length w → st
 unfolding startsIn
 starts-first class [] h = absurd (omega arith)
 starts-first class (b ∷ l) h = refl
-
-same-suc : (m n : ℕ) → eqb (suc m) (suc n) ≡ eqb m n
-same-suc m n = split (eqb m n) (λ e. rw (e, eq-eqb (suc m) (suc n) (ap suc (eqb-true m n e))))
-    (λ e. rw (e, ne-eqb (suc m) (suc n) (λ q. eqb-false m n e (omega arith))))
-
--- a list has only bytes of a class where the run of them is as long as the list
-pub all-run : (class : ℕ → Bool) (s : List ℕ) → eqb (lengthIn class s) (length s) ≡ all class s
-unfolding lengthIn all
-all-run class [] = refl
-all-run class (b ∷ l) =
-    split (class b)
-    (λ e. rw (e, lengthIn) (same-suc (lengthIn class l) (length l) ∙ all-run class l))
-    (λ e. rw (e, lengthIn, ne-eqb 0 (suc (length l)) (λ q. omega arith)))
 
 -- ---- up to a mark that is not of the class
 

@@ -6,8 +6,8 @@ use mathlib.Core.List.{List, []}
 use lib.ListN.{drop}
 use lib.Dec.{leb, eqb}
 use Rattle.paper.specs.Found.{pick}
-use Rattle.paper.specs.Bytes.{byte, bytes, within, isDigit, isHex, isNameByte, all, elem, same, startsIn, startsWith, lengthIn}
-use Rattle.paper.specs.Values.{upTo, past, is, isUuid, areDigits, unsigned, isInteger, isDecimal, isExponent, isScientific, isFraction, isIri, listEnders}
+use Rattle.paper.specs.Bytes.{byte, bytes, within, isDigit, isHex, isNameByte, all, elem, same, startsIn, startsWith, lengthIn, upTo, past, is, areDigits}
+use Rattle.paper.specs.Values.{isUuid, unsigned, isInteger, isDecimal, isExponent, isScientific, isFraction, isIri, listEnders}
 use Rattle.values.specs.declared.brackets.Around.{Around}
 
 -- the bytes that end a word, by what stands around it

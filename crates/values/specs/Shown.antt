@@ -8,7 +8,7 @@ use Rattle.paper.specs.declared.Refusal.{Refusal}
 use Rattle.paper.specs.Answer.{numberOf}
 use Rattle.paper.specs.Found.{Found, found, fault, andThen, Turn, manyOf, placeIn}
 use Rattle.paper.specs.Values.{Piece, Leaf, string, backtick}
-use Rattle.paper.specs.ReadingValues.{pieceTurn, backtickTurn}
+use Rattle.paper.specs.ReadingValues.{pieceTurn, backtickTurn, temporalLeaf}
 use Rattle.values.specs.declared.judged.Judged.{Judged}
 
 pub record Shown : Type 0 where
@@ -53,6 +53,10 @@ EscapeAt read s at known r = Judges noForm s at (read (drop at s) (drop (at + kn
 -- the form of every list
 abbrev pub listForm : {A : Type 0} → A → ℕ
 listForm a = 12
+
+-- a time, from its brace on
+abbrev pub timeOf : List ℕ → Found Leaf
+timeOf s = temporalLeaf s (drop 1 s)
 
 -- what stands behind an opening quote: pieces up to the closing one, by these turns
 abbrev pub quotedOf : (ℕ → List ℕ → Turn Piece) → (List Piece → Leaf) → List ℕ → Found Leaf

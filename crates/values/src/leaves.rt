@@ -1,16 +1,19 @@
 // Values that are no lists, by their first byte.
-// Document 01, "The grammar", Values.
+// Document 01, "The grammar", Values; document 02, Two.
 use crate::brackets::Around;
 use crate::judged;
 use crate::judged::Judged;
 use crate::quoted;
 use crate::words;
 use paper::forms;
-ghost use Prim.Native.Nat.{_≤_};
+use text::parts::find;
+use times::kinds;
+use times::kinds::kind;
+ghost use Prim.Native.Nat.{_≤_, _<_};
 ghost use lib.ListN.{length};
 ghost use Rattle.paper.specs.Values.{leafForm};
 ghost use Rattle.paper.specs.ReadingValues.{wordLeaf, leafOf};
-ghost use Rattle.values.specs.Shown.{JudgesAt};
+ghost use Rattle.values.specs.Shown.{JudgesAt, timeOf};
 ghost use Rattle.values.specs.Kinds.{endersOf};
 
 // Reads the value that stands at `at` and is no list itself.
@@ -24,7 +27,27 @@ pub fn read_leaf(s: &[u8], at: usize, around: Around) -> Judged
         b'"' => quoted::string_end(s, at + 1),
         b'\'' => quoted::character_end(s, at + 1),
         b'`' => quoted::backtick_end(s, at + 1),
+        b'{' => read_time(s, at),
         _ => read_word(s, at, around),
+    }
+}
+
+// Reads the time whose brace stands at `at`; it is judged only where a brace closes it.
+fn read_time(s: &[u8], at: usize) -> Judged
+    requires { ⌜ at < length (now s) ⌝ }
+    ensures { λ r. ⌜ JudgesAt leafForm timeOf (now (s .entry)) at r ⌝ }
+{
+    let start = at + 1;
+    let end = find(s, start, b"}");
+    if end == s.len() {
+        return judged::cut(s);
+    }
+    if kind(&s[start..end]) == kinds::NONE {
+        return judged::no_value(at);
+    }
+    Judged::Found {
+        form: forms::TIME,
+        end: end + 1,
     }
 }
 

@@ -1,13 +1,13 @@
 // Numbers: the form of a word that is one.
 // Document 01, "The grammar", Values, Numbers; 001 §12.
 use paper::forms;
+use paper::forms::only_if;
 use text::classes;
 use text::runs;
 use text::runs::Class;
 ghost use mathlib.Core.Path.{_≡_};
 ghost use Prim.Native.Nat.{_≤_};
 ghost use lib.ListN.{length};
-ghost use Rattle.paper.specs.Found.{pick};
 ghost use Rattle.paper.specs.Values.{isCount, isInteger};
 ghost use Rattle.values.specs.Kinds.{signLength, countLength, integerLength, numberForm, pointForm};
 
@@ -102,11 +102,4 @@ fn count_length(w: &[u8]) -> usize
         return 0;
     }
     size
-}
-
-// The form where a word is of its kind, else none.
-pub fn only_if(fits: bool, form: u32) -> u32
-    ensures { λ r. ⌜ r ≡ pick fits form 0 ⌝ }
-{
-    if fits { form } else { forms::NONE }
 }

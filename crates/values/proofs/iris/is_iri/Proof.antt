@@ -8,7 +8,8 @@ use Rattle.paper.specs.Values.{isIriBody}
 use native.Mathlib.Omega.{arith}
 use borrow.Author.Tests.{not-true, not-false}
 use Rattle.text.proofs.Compared.{stands-inside}
-use Rattle.values.proofs.Runs.{part-rest, part-size}
+use Rattle.values.proofs.Runs.{part-size}
+use Rattle.text.proofs.Places.{part-rest}
 use Rattle.values.proofs.IriParts.{iri-empty, iri-no-letter, iri-no-colon, iri-body}
 use Rattle.values.proofs.iris.is_iri.Statement.{statement}
 use Rattle.values.proofs.iris.is_iri.Tie as tie

@@ -1,7 +1,7 @@
 -- Each arm is a law of the first byte.
 use borrow.Author.Needs.{needs}
 use Rattle.values.proofs.Showing.{cut-off}
-use Rattle.values.proofs.LeafReads.{leaf-ends, string-leaf, character-leaf, backtick-leaf, word-leaf}
+use Rattle.values.proofs.LeafReads.{leaf-ends, string-leaf, character-leaf, backtick-leaf, time-leaf, word-leaf}
 use Rattle.values.proofs.leaves.read_leaf.Statement.{statement}
 use Rattle.values.proofs.leaves.read_leaf.Tie as tie
 
@@ -32,6 +32,9 @@ add-backtick-end c = search needs
 backtick-end-requires : tie.Need-backtick-end-requires
 backtick-end-requires c κs = search needs
 
+read-time-requires : tie.Need-read-time-requires
+read-time-requires c κs = search needs
+
 read-word-requires : tie.Need-read-word-requires
 read-word-requires c κs = search needs
 
@@ -53,7 +56,13 @@ returns-4 c =
 returns-5 : tie.Need-returns-5
 returns-5 c =
     let at-if1 = c .before .before .before in
-    word-leaf _ _ _ (at-if1 .if1 .left) _ (c .before .match .rest .0 .0 .1) (c .before .match .rest .0 .1) (c .before .match .rest .1) (c .read-word .ensures)
+    time-leaf _ _ _ (at-if1 .if1 .left) _ (c .before .match .keys4) (c .read-time .ensures)
+
+returns-6 : tie.Need-returns-6
+returns-6 c =
+    let at-if1 = c .before .before .before in
+    let rest = c .before .match .rest in
+    word-leaf _ _ _ (at-if1 .if1 .left) _ (rest .0 .0 .0 .1) (rest .0 .0 .1) (rest .0 .1) (rest .1) (c .read-word .ensures)
 
 pub read-leaf-spec : {M : Type 1} → statement M
 read-leaf-spec =
@@ -68,8 +77,10 @@ read-leaf-spec =
     character-end-requires
     add-backtick-end
     backtick-end-requires
+    read-time-requires
     read-word-requires
     returns-2
     returns-3
     returns-4
-    returns-5)
+    returns-5
+    returns-6)

@@ -5,7 +5,7 @@ use mathlib.Core.Path.{ap, sym, _∙_}
 use native.Mathlib.Omega.{arith}
 use Rattle.paper.specs.Values.{isCount, isInteger}
 use Rattle.values.specs.Kinds.{pointForm}
-use Rattle.values.proofs.Runs.{part-rest}
+use Rattle.text.proofs.Places.{part-rest}
 use Rattle.values.proofs.NumberForms.{number-none, number-integer, number-point, number-exponent, number-fraction, number-other, part-form}
 use Rattle.values.proofs.numbers.number_form.Statement.{statement}
 use Rattle.values.proofs.numbers.number_form.Tie as tie
