@@ -1,39 +1,37 @@
 -- The same bytes, fixed bytes in front, and a byte among others, one byte at a time. Assumes nothing.
 -- A law for each way on or out of the loops of src/parts.rt and of `is_one_of`.
-use Prim.Native.Nat.{ℕ, suc, _+_, _-_, _<_, _≤_}
-use mathlib.Core.Path.{_≡_, refl, ap}
+use Prim.Native.Nat.{ℕ, _+_, _-_, _<_, _≤_}
+use mathlib.Core.Path.{_≡_, sym, ap}
 use mathlib.Core.Bool.{true, false}
-use mathlib.Core.List.{List, [], _∷_}
+use mathlib.Core.List.{List}
 use native.Mathlib.Omega.{arith}
 use lib.ListN.{length, getD, drop, length-drop, length-append, drop-of-length-le}
-use lib.Dec.{eqb}
+use lib.Seq.{drop-length}
 use borrow.Author.Tests.{eq-eqb, ne-eqb}
 use Rattle.paper.proofs.Tests.{split}
-use Rattle.paper.proofs.Lists.{starts-is}
+use Rattle.paper.proofs.Lists.{starts-is, same-is, same-of}
 use Rattle.paper.specs.Bytes.{same, startsWith, elem}
 use Rattle.text.proofs.Places.{here}
 
 -- ---- the same bytes
 
-pub same-length : (s t : List ℕ) → (length s ≡ length t → ⊥) → false ≡ same s t
-unfolding same
-same-length [] [] e = absurd (e refl)
-same-length [] (b ∷ t) e = refl
-same-length (a ∷ s) [] e = refl
-same-length (a ∷ s) (b ∷ t) e = split (eqb a b) (λ q. rw (q, same) (same-length s t (λ k. e (ap suc k)))) (λ q. rw (q, same))
+-- lists that differ, in their lengths or at a place, are not the same
+pub unlike : (s t : List ℕ) → (s ≡ t → ⊥) → false ≡ same s t
+unlike s t n = split (same s t) (λ e. absurd (n (same-is s t e))) (λ e. sym e)
 
-module _ (s t : List ℕ) (i : ℕ) (h : i < length s) (k : i < length t) where
-  pub same-on : getD s i 0 ≡ getD t i 0 → same (drop (i + 1) s) (drop (i + 1) t) ≡ same (drop i s) (drop i t)
-  unfolding same
-  same-on e = rw (here s i h, here t i k, same, eq-eqb _ _ e)
+-- from the ends to the fronts: what is left of both from a place on is equal
+module _ (s t : List ℕ) where
+  pub equal-ends : length s ≡ length t → drop (length s) s ≡ drop (length s) t
+  equal-ends h = rw (drop-length s, h, drop-length t)
 
-  pub same-off : (getD s i 0 ≡ getD t i 0 → ⊥) → false ≡ same (drop i s) (drop i t)
-  unfolding same
-  same-off e = rw (here s i h, here t i k, same, ne-eqb _ _ e)
+  module _ (i : ℕ) (e : drop i s ≡ drop i t) where
+    pub equal-back : 0 < i → i ≤ length s → i ≤ length t → getD s (i - 1) 0 ≡ getD t (i - 1) 0 → drop (i - 1) s ≡ drop (i - 1) t
+    equal-back h k l f =
+        let n : i - 1 + 1 ≡ i = omega arith in
+        rw (here s (i - 1) (omega arith), here t (i - 1) (omega arith), n, f, e)
 
-pub same-out : (s t : List ℕ) (i : ℕ) → length s ≤ i → length t ≤ i → true ≡ same (drop i s) (drop i t)
-unfolding same
-same-out s t i h k = rw (drop-of-length-le s h, drop-of-length-le t k)
+    pub equal-all : i ≤ 0 → true ≡ same s t
+    equal-all h = let z : i ≡ 0 = omega arith in rw (rw z at e) (sym (same-of t))
 
 -- ---- fixed bytes in front
 
