@@ -3,16 +3,15 @@
 use Prim.Native.Nat.{ℕ, suc, _+_, _-_, _≤_, _<_}
 use mathlib.Core.Path.{_≡_, refl, sym, ap, _∙_}
 use mathlib.Core.List.{List, [], _∷_}
-use mathlib.Core.Bool.{Bool, true, false, _&&_, _||_, not, and-true, and-false}
+use mathlib.Core.Bool.{Bool, true, false, _&&_, and-true, and-false}
 use native.Mathlib.Omega.{arith}
 use lib.ListN.{length, getD, drop, length-drop, drop-of-length-le}
 use lib.Seq.{length-take-le, take-all}
 use lib.Dec.{leb, ltb}
-use borrow.Author.Tests.{lt-ltb, le-ltb, lt-leb, leb-true, not-true}
-use Rattle.paper.specs.Bytes.{within, isUpper, isLower, isDigit, isLetter, isNameByte, startsIn, lengthIn}
+use borrow.Author.Tests.{lt-ltb, le-ltb}
+use Rattle.paper.specs.Bytes.{isUpper, isLower, isDigit, isLetter, isNameByte, startsIn, lengthIn}
 use Rattle.paper.specs.Names.{nameLimit, run, fewCapitals, nameRule, isName}
-use Rattle.paper.proofs.Lists.{both}
-use Rattle.paper.proofs.Tests.{split}
+use Rattle.paper.proofs.Tests.{split, above, in-range}
 use Rattle.text.proofs.Places.{here}
 use Rattle.text.proofs.Stretch.{Stretch, front-at, goes-on, stops, cut-off}
 use Rattle.names.specs.declared.Run.{Run}
@@ -24,23 +23,17 @@ upper-name : (b : ℕ) → isUpper b ≡ true → isNameByte b ≡ true
 unfolding isNameByte isLetter
 upper-name b u = rw u
 
--- what names are made of, but for capitals
-pub small : (b : ℕ) → (isLower b || isDigit b) ≡ (isNameByte b && not (isUpper b))
-unfolding isNameByte isLetter isUpper isLower isDigit
-small b =
-    split (within 0x41 0x5A b)
-    (λ u.
-    let h = both (leb 0x41 b) (leb b 0x5A) u in
-    rw (u, lt-leb 0x61 b (omega (arith, leb-true b 0x5A (h .1))), lt-leb b 0x39 (omega (arith, leb-true 0x41 b (h .0))), and-false (leb 0x30 b)))
-    (λ u. rw u (sym (and-true (isLower b || isDigit b))))
+-- a lower case letter is no capital
+pub lower-name : (b : ℕ) → isLower b ≡ true → (isUpper b ≡ false) × (isNameByte b ≡ true)
+unfolding isNameByte isLetter isUpper isLower
+lower-name b l =
+    let u = above 0x41 0x5A b (omega (arith, in-range 0x61 0x7A b l)) in
+    (u, rw (u, l))
 
-pub small-other : (b : ℕ) {o : Bool} → o ≡ (isNameByte b && not (isUpper b)) → o ≡ true → (isUpper b ≡ false) × (isNameByte b ≡ true)
-small-other b e t =
-    let h = both (isNameByte b) (not (isUpper b)) (sym e ∙ t) in
-    (not-true (isUpper b) (h .1), h .0)
-
-pub small-none : (b : ℕ) {o : Bool} → o ≡ (isNameByte b && not (isUpper b)) → o ≡ false → isUpper b ≡ false → isNameByte b ≡ false
-small-none b e f u = sym (and-true (isNameByte b)) ∙ rw u at (sym e ∙ f)
+-- of what is no letter, names have the digits
+pub digit-name : (b : ℕ) → isLower b ≡ false → isUpper b ≡ false → isNameByte b ≡ isDigit b
+unfolding isNameByte isLetter
+digit-name b l u = rw (u, l)
 
 module _ (s : List ℕ) (i : ℕ) (h : i < length s) where
   run-on : isNameByte (getD s i 0) ≡ true → run (drop i s) ≡ getD s i 0 ∷ run (drop (i + 1) s)

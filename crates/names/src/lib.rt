@@ -2,11 +2,10 @@
 // Document 01, "The grammar", Names, and "Sizes".
 use text::classes;
 ghost use mathlib.Core.Path.{_≡_};
-ghost use mathlib.Core.Bool.{_&&_, not};
+ghost use mathlib.Core.Bool.{_&&_};
 ghost use Prim.Native.Nat.{_-_, _≤_};
 ghost use lib.ListN.{length};
 ghost use lib.Dec.{leb};
-ghost use Rattle.paper.specs.Bytes.{isUpper, isNameByte};
 ghost use Rattle.paper.specs.Names.{nameLimit, isConceptName};
 ghost use Rattle.names.specs.Runs.{Measures};
 
@@ -34,6 +33,7 @@ pub fn is_concept_name(name: &[u8]) -> bool
 }
 
 // The run of letters and digits that stands at `at`, measured and judged in one pass.
+// Lower case comes first: most bytes of a name are lower case letters.
 pub fn run_at(s: &[u8], at: usize) -> Run
     requires { ⌜ at ≤ length (now s) ⌝ }
     ensures { λ r. ⌜ Measures (now (s .entry)) at r ⌝ }
@@ -43,28 +43,22 @@ pub fn run_at(s: &[u8], at: usize) -> Run
     let mut i = at;
     while i < s.len() {
         let b = s[i];
-        if is_small(b) {
+        if classes::is_lower(b) {
             capitals = 0;
-        } else {
-            if !classes::is_upper(b) {
-                return judged(at, i, few);
-            }
+        } else if classes::is_upper(b) {
             if capitals == CAPITALS {
                 few = false;
             } else {
                 capitals += 1;
             }
+        } else if classes::is_digit(b) {
+            capitals = 0;
+        } else {
+            return judged(at, i, few);
         }
         i += 1;
     }
     judged(at, i, few)
-}
-
-// Whether the byte is what names are made of, but for capitals: a lower case letter or a digit.
-fn is_small(b: u8) -> bool
-    ensures { λ r. ⌜ r ≡ (isNameByte b && not (isUpper b)) ⌝ }
-{
-    classes::is_lower(b) || classes::is_digit(b)
 }
 
 // The run from `at` to `end`, in which few capitals stand in a row or not, by its length.

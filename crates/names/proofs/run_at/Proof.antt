@@ -6,8 +6,7 @@ use mathlib.Core.Logic.{⊎-elim}
 use native.Mathlib.Omega.{arith}
 use lib.ListN.{length}
 use borrow.Author.Needs.{needs}
-use borrow.Author.Tests.{not-true, not-false}
-use Rattle.names.proofs.Rule.{Judged, judged-begin, judged-capital, judged-third, judged-other, measured-here, measured-cut, small-other, small-none}
+use Rattle.names.proofs.Rule.{Judged, judged-begin, judged-capital, judged-third, judged-other, measured-here, measured-cut, lower-name, digit-name}
 use Rattle.names.proofs.run_at.Statement.{statement}
 use Rattle.names.proofs.run_at.Tie as tie
 
@@ -23,24 +22,28 @@ loop-holds c = judged-begin _ _ (omega arith)
 shared-slice-read-b : tie.Need-shared-slice-read-b Inv-loop μ-loop
 shared-slice-read-b c = search needs
 
-is-small-requires : tie.Need-is-small-requires Inv-loop μ-loop
-is-small-requires c κs = search needs
+is-lower-requires : tie.Need-is-lower-requires Inv-loop μ-loop
+is-lower-requires c κs = search needs
 
 is-upper-requires : tie.Need-is-upper-requires Inv-loop μ-loop
 is-upper-requires c κs = search needs
 
+add-capitals : tie.Need-add-capitals Inv-loop μ-loop
+add-capitals c = omega (arith, c .before .before .before .before .before .before .before .loop .inv .row)
+
+is-digit-requires : tie.Need-is-digit-requires Inv-loop μ-loop
+is-digit-requires c κs = search needs
+
 judged-requires : tie.Need-judged-requires Inv-loop μ-loop
-judged-requires c κs = c .before .before .before .before .before .before .loop .inv .ahead
+judged-requires c κs = c .before .before .before .before .before .before .before .before .loop .inv .ahead
 
 returns : tie.Need-returns Inv-loop μ-loop
 returns c =
-    let turn = c .before .before .before .before .before .before in
-    let other = sym (c .before .before .is-upper .ensures) ∙ not-true _ (c .before .if2 .taken) in
-    let no-byte = small-none _ (c .before .before .before .before .is-small .ensures) (c .before .before .before .if1 .left) other in
+    let turn = c .before .before .before .before .before .before .before .before in
+    let lower = sym (c .before .before .before .before .before .before .is-lower .ensures) ∙ c .before .before .before .before .before .if1 .left in
+    let upper = sym (c .before .before .before .before .is-upper .ensures) ∙ c .before .before .before .if2 .left in
+    let no-byte = digit-name _ lower upper ∙ sym (c .before .before .is-digit .ensures) ∙ c .before .if4 .left in
     measured-here (turn .before .loop .inv) (turn .loop-test .taken) no-byte _ (c .judged .ensures)
-
-add-capitals : tie.Need-add-capitals Inv-loop μ-loop
-add-capitals c = omega (arith, c .before .before .before .before .before .before .before .loop .inv .row)
 
 add-i : tie.Need-add-i Inv-loop μ-loop
 add-i c = omega arith
@@ -53,11 +56,16 @@ loop-again c =
     let turn = c .before .before .before in
     let so-far = turn .before .loop .inv in
     let here = turn .loop-test .taken in
+    let lower = sym (c .before .is-lower .ensures) in
     ⊎-elim
-    (λ w. let small = small-other _ (c .before .is-small .ensures) (w .0 .taken) in rw (w .1, w .2) (judged-other so-far here (small .0) (small .1)))
+    (λ w. let byte = lower-name _ (lower ∙ w .0 .taken) in rw (w .1, w .2) (judged-other so-far here (byte .0) (byte .1)))
     (⊎-elim
-    (λ w. rw (w .4, w .5) (judged-third so-far here (sym (w .1 .ensures) ∙ not-false _ (w .2 .left)) (omega (arith, w .3 .taken))))
-    (λ w. rw (w .4, w .5) (judged-capital so-far here (sym (w .1 .ensures) ∙ not-false _ (w .2 .left)) (omega (arith, w .3 .left, so-far .row)))))
+    (λ w. rw (w .4, w .5) (judged-third so-far here (sym (w .1 .ensures) ∙ w .2 .taken) (omega (arith, w .3 .taken))))
+    (⊎-elim
+    (λ w. rw (w .4, w .5) (judged-capital so-far here (sym (w .1 .ensures) ∙ w .2 .taken) (omega (arith, w .3 .left, so-far .row))))
+    (λ w.
+    let upper = sym (w .1 .ensures) ∙ w .2 .left in
+    rw (w .5, w .6) (judged-other so-far here upper (digit-name _ (lower ∙ w .0 .left) upper ∙ sym (w .3 .ensures) ∙ w .4 .taken)))))
     (c .if1 .came)
 
 judged-requires-2 : tie.Need-judged-requires-2 Inv-loop μ-loop
@@ -74,11 +82,12 @@ run-at-spec =
     μ-loop
     loop-holds
     shared-slice-read-b
-    is-small-requires
+    is-lower-requires
     is-upper-requires
+    add-capitals
+    is-digit-requires
     judged-requires
     returns
-    add-capitals
     add-i
     loop-less
     loop-again
