@@ -26,9 +26,12 @@ pub fn requests(seed: u64, count: usize, longest: usize, kinds: &[&str]) -> Vec<
     lines
 }
 
+/// Requests whose sheets are at most so long have small tables too: the definitions are computed with them.
+const SMALL: usize = 200;
+
 /// The requests about one table, sheet, roll or time, of all kinds.
 fn add_requests(lines: &mut Vec<String>, chance: &mut Chance, longest: usize) {
-    let names = Names::random(chance);
+    let names = if SMALL < longest && chance.one_in(6) { Names::many(chance) } else { Names::random(chance) };
     match chance.below(440) {
         0..=19 => add_table(lines, chance, &names, longest),
         20..=27 => add_limit(lines, chance, longest),
@@ -57,7 +60,7 @@ fn add_requests(lines: &mut Vec<String>, chance: &mut Chance, longest: usize) {
 
 /// A table that is mostly refused, and at times a sheet under it.
 fn add_table(lines: &mut Vec<String>, chance: &mut Chance, names: &Names, longest: usize) {
-    let table = damaged_table(chance, names);
+    let table = if names.are_many() && chance.one_in(2) { repeating_table(chance, names) } else { damaged_table(chance, names) };
     lines.push(format!("table {}", to_hex(&table)));
     if chance.one_in(4) {
         let sheet = any_sheet(chance, names);
@@ -321,6 +324,24 @@ impl Names {
         }
     }
 
+    /// From 2 to 128 names, most of them alike, so that looking one up has to tell it from others that begin and end as it does.
+    fn many(chance: &mut Chance) -> Names {
+        let count = 2 + chance.below(127);
+        let mut names = Vec::new();
+        while names.len() < count {
+            let name = alike(chance);
+            if !names.contains(&name) {
+                names.push(name);
+            }
+        }
+        let content = names.split_off(count / 2);
+        Names { children: names, content }
+    }
+
+    fn are_many(&self) -> bool {
+        self.children.len() > 4
+    }
+
     /// The table's bytes: two sections, each a count byte and names with their length bytes.
     fn table(&self) -> Vec<u8> {
         let mut table = Vec::new();
@@ -333,6 +354,28 @@ impl Names {
         }
         table
     }
+}
+
+/// A Concept's name of 1 to 32 letters and digits, of which few are used.
+fn alike(chance: &mut Chance) -> String {
+    let mut name = chance.pick(&["A", "B", "N"]).to_string();
+    let more = if chance.one_in(2) { chance.below(4) } else { chance.below(32) };
+    for _ in 0..more {
+        name.push_str(chance.pick(&["a", "b", "9"]));
+    }
+    name
+}
+
+/// The table with one of its names in the place of one of them, mostly of another.
+fn repeating_table(chance: &mut Chance, names: &Names) -> Vec<u8> {
+    let mut sections = [names.children.clone(), names.content.clone()];
+    let from = &sections[chance.below(2)];
+    let name = from[chance.below(from.len())].clone();
+    let to = &mut sections[chance.below(2)];
+    let place = chance.below(to.len());
+    to[place] = name;
+    let [children, content] = sections;
+    Names { children, content }.table()
 }
 
 /// A table: as it is, with a byte changed, cut, or with a name that the rule forbids.
@@ -887,7 +930,12 @@ impl<'a> Printer<'a> {
         let name = known[self.chance.below(known.len())].clone();
         let tabs = self.tabs(depth);
         self.put_or_slip("<", &["", "< ", "<<", "</", "<\t"]);
-        self.put_or_slip(&name, &["lab", "LABs", "Other", "4ab", "", "LAb", "Stepss", "L-b"]);
+        if self.names.are_many() && self.slip() {
+            let other = alike(self.chance);
+            self.put(&other);
+        } else {
+            self.put_or_slip(&name, &["lab", "LABs", "Other", "4ab", "", "LAb", "Stepss", "L-b"]);
+        }
         self.traits();
         if self.chance.one_in(4) {
             self.put_or_slip("/>", &["/", "/ >", "//>", "/x"]);
@@ -1104,7 +1152,7 @@ mod tests {
     fn printed_sheets_are_accepted() {
         for seed in 0..2_000 {
             let mut chance = Chance(seed);
-            let names = Names::random(&mut chance);
+            let names = if chance.one_in(6) { Names::many(&mut chance) } else { Names::random(&mut chance) };
             let sheet = Printer::new(&mut chance, &names, false).sheet(8);
             let shown = String::from_utf8_lossy(&sheet).escape_debug().to_string();
             assert_eq!(read_sheet(&names.table(), &sheet, PLENTY).0.number, 0, "{shown}");
