@@ -21,12 +21,13 @@ pub fn write(table: &[u8], sheet: &[u8], cells: &mut [u32], out: &mut [u8]) -> A
     ensures { λ r. ⌜ WritesSheet (now (table .entry)) (now (sheet .entry)) (length (now (cells .entry))) (now (out .entry))
         r (now (out .exit)) (now (cells .exit)) ⌝ }
 {
-    let modes = modes::read(table);
+    let mut index = [0; modes::index::CELLS];
+    let modes = modes::read_into(table, &mut index);
     let Answer::Accepted { place: _, count: _ } = modes else {
         zero_from(cells, 0);
         return modes;
     };
-    let reading = read_under(table, sheet, cells);
+    let reading = read_under(table, sheet, cells, &index);
     let Answer::Accepted { place: _, count } = reading else {
         zero_from(cells, 0);
         return reading;

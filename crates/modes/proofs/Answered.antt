@@ -6,7 +6,7 @@ use mathlib.Core.List.{List}
 use native.Mathlib.Omega.{arith}
 use Rattle.paper.specs.Answer.{Told, accepted, refused, told}
 use Rattle.paper.specs.declared.Answer.{Answer}
-use Rattle.paper.specs.declared.Answer.the-variants.{Refused}
+use Rattle.paper.specs.declared.Answer.the-variants.{Accepted, Refused}
 use Rattle.paper.specs.declared.Refusal.{Refusal}
 use Rattle.paper.specs.Found.{Found, found, fault, placeIn}
 use Rattle.paper.proofs.Told.{number-positive}
@@ -24,6 +24,12 @@ count-told e = ap (λ (x : Told). x .count) e
 -- a refusal of the table is no acceptance
 pub no-acceptance : {X : Type 0} (p n q : ℕ) → accepted p n ≡ refused 1 q → X
 no-acceptance p n q e = let z : _≡_ {A = ℕ} 0 1 = number-told e in absurd (omega arith)
+
+pub table-refused : (a : Answer) (q : ℕ) → told a ≡ refused 1 q → (p n : ℕ) → a ≡ Accepted p n → ⊥
+table-refused a q e p n f = no-acceptance p n q (sym (ap told f) ∙ e)
+
+pub not-both : (a : Answer) (why : Refusal) (q : ℕ) → a ≡ Refused why q → (p n : ℕ) → a ≡ Accepted p n → ⊥
+not-both a why q e p n f = let z : _≡_ {A = ℕ} 0 1 = cc in omega arith
 
 -- what keeps the faults of an inner reading tells its refusal as it stands
 pub passed-on : {A : Type 0} (many : A → ℕ) (t : List ℕ) (outer : Found A → Told)

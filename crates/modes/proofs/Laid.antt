@@ -48,7 +48,7 @@ names-good (suc n) before [] = refl
 names-good (suc n) before (b ∷ s) =
     rw (first-name n before (b ∷ s))
     (by-name b s (λ left q. rw q refl)
-    (λ f q. rw q
+    (λ few f q. rw q
     (split (among before (take b s)) (λ a. rw a refl)
     (λ a. rw a (one-more n b s (tableNames n (before ++ (take b s ∷ [])) (drop b s)) f (names-good n (before ++ (take b s ∷ [])) (drop b s)))))))
 

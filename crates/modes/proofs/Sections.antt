@@ -1,19 +1,19 @@
 -- A section of the table: the names that are left after the first, and each way out of reading a section at a place.
 -- Over plain lists. Assumes nothing.
-use Prim.Native.Nat.{ℕ, zero, suc, _+_, _-_, _≤_, _<_}
+use Prim.Native.Nat.{ℕ, zero, suc, _+_, _-_, _*_, _^_, _≤_, _<_}
 use mathlib.Core.Path.{_≡_, refl, sym, ap, _∙_}
 use mathlib.Core.Bool.{Bool, true, false}
-use mathlib.Core.List.{List, [], _∷_, _++_, append-nil, append-assoc}
+use mathlib.Core.List.{List, [], _∷_, _++_, append-nil, append-assoc, reverse, reverse-append}
 use native.Mathlib.Nat.{zero-add, add-zero, sub-zero}
 use native.Mathlib.Numerals.{sub-one}
 use native.Mathlib.Omega.{arith}
-use lib.ListN.{length, getD, take, drop, length-drop, drop-of-length-le}
+use lib.ListN.{length, getD, take, drop, length-append, length-drop, length-reverse, drop-of-length-le}
 use lib.Seq.{drop-drop}
 use lib.Dec.{leb}
 use borrow.Author.Tests.{le-leb, lt-leb}
 use Rattle.paper.specs.Answer.{accepted, refused, told}
 use Rattle.paper.specs.declared.Answer.{Answer}
-use Rattle.paper.specs.declared.Answer.the-variants.{Refused}
+use Rattle.paper.specs.declared.Answer.the-variants.{Accepted, Refused}
 use Rattle.paper.specs.declared.Refusal.{Refusal}
 use Rattle.paper.specs.Found.{Found, found, fault, andThen, placeIn, pick}
 use Rattle.paper.specs.Bytes.{within}
@@ -21,8 +21,11 @@ use Rattle.paper.specs.Names.{nameLimit, isConceptName, among}
 use Rattle.paper.specs.Modes.{sectionLimit, tableNames, section}
 use Rattle.paper.proofs.Tests.{split}
 use Rattle.text.proofs.Places.{here, place-back}
-use Rattle.modes.specs.Table.{namesOf, sizeOf, Whole, nameAt, one, toldOf}
-use Rattle.modes.proofs.Walk.{names-more, sizes-more}
+use Rattle.modes.specs.Table.{namesOf, sizeOf, Whole, sectionAt, nameAt, one, toldOf}
+use Rattle.modes.specs.Index.{nameCount, keyOf, Stands, Lists, FindsNumber, added, Due, ReadsSection}
+use Rattle.modes.proofs.Walk.{names-more, sizes-more, names-many}
+use Rattle.modes.proofs.Numbers.{listed, unlisted, among-reverse}
+use Rattle.modes.proofs.Chains.{lists-more}
 use Rattle.modes.proofs.Answered.{passed-on}
 use Rattle.modes.proofs.Named.{Named}
 
@@ -142,6 +145,60 @@ module _ (t : List ℕ) (before : List (List ℕ)) (start count : ℕ) where
         = rw (none, place-back t place (so-far .inside)) (ap (accepted place) (omega (arith, so-far .some))) in
         last ∙ so-far .same
 
+-- ---- the index of the names read so far
+
+pub record Listed (t x : List ℕ) (at earlier i place : ℕ) : Type 0 where
+  pub near : place ≤ at + 1 + (1 + nameLimit) * i
+  pub lists : Lists t x (reverse (namesOf earlier (drop 1 t) ++ namesOf i (drop (at + 1) t)))
+
+module _ (t x : List ℕ) (names : List (List ℕ)) (l : Lists t x (reverse names)) (w : List ℕ) (number : ℕ) (f : FindsNumber t x w number) where
+  pub stands-already : 0 < number → true ≡ among names w
+  stands-already h = sym (listed w (reverse names) (omega (arith, f (reverse names) l))) ∙ among-reverse names w
+
+  pub stands-not : number ≤ 0 → false ≡ among names w
+  stands-not h = sym (unlisted w (reverse names) (omega (arith, f (reverse names) l))) ∙ among-reverse names w
+
+module _ (t start : List ℕ) (at earlier : ℕ) (due : Due t at earlier start) where
+  pub listed-none : Listed t start at earlier 0 (at + 1)
+  unfolding namesOf
+  listed-none = record { near = omega arith; lists = rw append-nil (due .lists) }
+
+  module _ (x : List ℕ) (count i place : ℕ) (so-far : Reading t (namesOf earlier (drop 1 t)) (at + 1) count i place) (l : Listed t x at earlier i place)
+      (few : count ≤ sectionLimit) (left : i < count) where
+    abbrev names : List (List ℕ)
+    names = namesOf earlier (drop 1 t) ++ namesOf i (drop (at + 1) t)
+
+    -- the next name has a number and a place that fit their cells
+    pub next-fits : (earlier + (i + 1) ≤ nameCount) × (place < 2 ^ 16)
+    next-fits = (omega (arith, due .few), omega (arith, due .few, due .near, l .near))
+
+    next-number : suc (length (reverse names)) ≡ earlier + (i + 1)
+    next-number =
+        let here = read-whole t (namesOf earlier (drop 1 t)) (at + 1) count i place so-far in
+        omega (
+          arith,
+          length-reverse names,
+          length-append (namesOf earlier (drop 1 t)) (namesOf i (drop (at + 1) t)),
+          due .many,
+          names-many i (drop (at + 1) t) here,
+        )
+
+    module _ (end : ℕ) (name : Named t place end) where
+      abbrev letters : List ℕ
+      letters = take (getD t place 0) (drop (place + 1) t)
+
+      more-names : reverse (namesOf earlier (drop 1 t) ++ namesOf (i + 1) (drop (at + 1) t)) ≡ letters ∷ reverse names
+      more-names = rw (names-more t (at + 1) i place (so-far .ends) (name .inside), ← append-assoc) (reverse-append names (letters ∷ []))
+
+      pub listed-more : Listed t (added x (earlier + (i + 1)) (keyOf (take (end - (place + 1)) (drop (place + 1) t))) place) at earlier (i + 1) end
+      listed-more =
+          let size : end - (place + 1) ≡ getD t place 0 = omega (arith, name .ends) in
+          let stands : Stands t place letters
+          = record { inside = name .inside; fits = omega (arith, name .ends, name .fits); is = refl } in
+          let more : Lists t (added x (suc (length (reverse names))) (keyOf letters) place) (letters ∷ reverse names)
+          = lists-more t x letters (reverse names) place (l .lists) (omega (arith, next-number, next-fits .0)) stands in
+          record { near = omega (arith, name .ends, name .short, l .near); lists = rw (more-names, size, ← next-number) more }
+
 -- ---- a section at a place, by its count
 
 pub section-size : (before : List (List ℕ)) (n : ℕ) (s : List ℕ) → n ≤ sectionLimit → section before (n ∷ s) ≡ tableNames n before s
@@ -160,3 +217,17 @@ module _ (t : List ℕ) (before : List (List ℕ)) (at : ℕ) (h : at < length t
   pub section-names : getD t at 0 ≤ sectionLimit
       → toldOf length t (tableNames (getD t at 0) before (drop (at + 1) t)) ≡ toldOf length t (section before (drop at t))
   section-names l = rw (here t at h, section-size before (getD t at 0) (drop (at + 1) t) l)
+
+-- ---- the answer of a section
+
+module _ {t x : List ℕ} {at earlier : ℕ} {r : Answer} (told-is : told r ≡ toldOf length t (sectionAt t earlier at)) where
+  -- a refusal says nothing of the index
+  pub section-refused : ((place count : ℕ) → r ≡ Accepted place count → ⊥) → ReadsSection t at earlier r x
+  section-refused never = record { answer = told-is; near = λ p n e. absurd (never p n e); lists = λ p n e. absurd (never p n e) }
+
+  pub section-accepted : (place count : ℕ) → r ≡ Accepted place count → Listed t x at earlier count place → ReadsSection t at earlier r x
+  section-accepted place count a l = record {
+    answer = told-is;
+    near = λ p n e. let z : Accepted place count ≡ Accepted p n = sym a ∙ e in let q : place ≡ p = cc in let m : count ≡ n = cc in omega (arith, l .near);
+    lists = λ p n e. let z : Accepted place count ≡ Accepted p n = sym a ∙ e in let m : count ≡ n = cc in rw m at (l .lists);
+  }

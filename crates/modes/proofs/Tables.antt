@@ -1,33 +1,31 @@
--- A whole table: its reading from those of its sections, what an acceptance says, and the mode of a name.
+-- A whole table: its reading from those of its sections, and the index that is made on the way.
 -- Over plain lists. Assumes nothing.
-use Prim.Native.Nat.{ℕ, _+_, _≤_, _<_}
+use Prim.Native.Nat.{ℕ, _+_, _*_, _≤_, _<_}
 use mathlib.Core.Path.{_≡_, refl, sym, ap, _∙_}
-use mathlib.Core.Bool.{true, false}
-use mathlib.Core.List.{List, []}
+use mathlib.Core.List.{List, [], _++_, reverse}
 use native.Mathlib.Omega.{arith}
 use lib.ListN.{length, getD, drop, length-drop, drop-of-length-le}
 use lib.Seq.{drop-drop}
 use Rattle.paper.specs.Answer.{Told, accepted, refused, told}
 use Rattle.paper.specs.declared.Answer.{Answer}
 use Rattle.paper.specs.declared.Answer.the-variants.{Accepted, Refused}
-use Rattle.paper.specs.declared.Mode.the-variants.{Children, Content, Absent}
 use Rattle.paper.specs.declared.Refusal.{Refusal}
 use Rattle.paper.specs.Found.{Found, found, fault, andThen, placeIn}
-use Rattle.paper.specs.Names.{among}
-use Rattle.paper.specs.Modes.{Modes, sectionLimit, section, wholly, modeTable, readTable, modeOf}
+use Rattle.paper.specs.Names.{nameLimit}
+use Rattle.paper.specs.Modes.{Modes, sectionLimit, section, wholly, modeTable, readTable}
 use Rattle.text.proofs.Places.{here}
-use Rattle.modes.specs.declared.Search.the-variants.{Here, Past}
-use Rattle.modes.specs.Table.{namesOf, sizeOf, Whole, searched, toldOf, modesOf, Valid}
-use Rattle.modes.proofs.Answered.{number-told, place-told, count-told, no-acceptance, passed-on}
-use Rattle.modes.proofs.Walk.{stands, absent}
-use Rattle.modes.proofs.Laid.{Good, Section, section-good, middle, with-second, Laid, table-good, laid}
+use Rattle.modes.specs.Table.{namesOf, sizeOf, Whole, toldOf, modesOf}
+use Rattle.modes.specs.Promises.{ReadsTable}
+use Rattle.modes.specs.Index.{Lists, Empty, Due, Indexed, ReadsInto}
+use Rattle.modes.proofs.Chains.{lists-none}
+use Rattle.modes.proofs.Answered.{place-told, count-told, no-acceptance, passed-on}
+use Rattle.modes.proofs.Laid.{Good, Section, section-good, with-second}
 
 -- ---- a section that was accepted
 
 pub record Read (t : List ℕ) (before : List (List ℕ)) (at place count : ℕ) : Type 0 where
   pub inside : place ≤ length t
   pub few : count ≤ sectionLimit
-  pub whole : Whole count (drop (at + 1) t)
   pub many : length (namesOf count (drop (at + 1) t)) ≡ count
   pub same : section before (drop at t) ≡ found (namesOf count (drop (at + 1) t)) (drop place t)
 
@@ -45,7 +43,6 @@ module _ (t : List ℕ) (before : List (List ℕ)) (at place count : ℕ) where
       record {
         inside = omega (arith, g .inside, length-drop (at + 1) t);
         few = omega (arith, g .few);
-        whole = w;
         many = sym (ap length are) ∙ sym (count-told e);
         same = q ∙ rw (are, rest, ends);
       }
@@ -59,6 +56,10 @@ module _ (t : List ℕ) (before : List (List ℕ)) (at place count : ℕ) where
       go (fault k left) q g e = no-acceptance place count _ (rw g at e)
 
 -- ---- a table from its sections
+
+modes-found : (t : List ℕ) (m : Modes) (left : List ℕ) → modeTable t ≡ found m left → modesOf t ≡ m
+unfolding modesOf
+modes-found t m left q = rw (modesOf, q)
 
 abbrev told-table : List ℕ → Found Modes → Told
 told-table t x = elim x [ found m left ↦ accepted (length t) (length (m .children) + length (m .content)) | fault k left ↦ refused k (placeIn t left) ]
@@ -105,67 +106,29 @@ module _ (t : List ℕ) where
           let e : end ≡ length t = omega (arith, rest .inside) in
           rw (second, rest .same, drop-of-length-le t h, first .many, rest .many, e)
 
--- ---- an acceptance says that the table is in order
+      table-found : length t ≤ end
+          → modeTable t ≡ found (record { children = namesOf children (drop 1 t); content = namesOf content (drop (place + 1) t) }) []
+      unfolding modeTable wholly namesOf
+      table-found h = rw (first .same, rest .same, drop-of-length-le t h)
 
-pub modes-found : (t : List ℕ) (m : Modes) (left : List ℕ) → modeTable t ≡ found m left → modesOf t ≡ m
-unfolding modesOf
-modes-found t m left q = rw (modesOf, q)
+      -- the index that lists the names of both sections is the table's
+      pub table-indexed : (x : List ℕ) → length t ≤ end
+          → Lists t x (reverse (namesOf children (drop 1 t) ++ namesOf content (drop (place + 1) t))) → Indexed t x
+      table-indexed x h l =
+          let m = modes-found t _ [] (table-found h) in
+          record { valid = rw (m, table-found h); lists = rw m l }
 
-pub valid : (t : List ℕ) (a : Answer) → told a ≡ readTable t → told a .number ≡ 0 → Valid t
-valid t a e z = go (modeTable t) refl (table-good t)
-  where
-    go : (x : Found Modes) → modeTable t ≡ x → Good (Laid t) x → Valid t
-    go (found m left) q g = rw (modes-found t m left q, q, g .whole)
-    go (fault k left) q g =
-        let n : told a .number ≡ k = number-told (e ∙ by-table t ∙ ap (told-table t) q) in
-        absurd (omega (arith, g))
+-- ---- the index while a table is read
 
-pub accepted-valid : (t : List ℕ) (a : Answer) (p n : ℕ) → told a ≡ readTable t → a ≡ Accepted p n → Valid t
-accepted-valid t a p n e r = valid t a e (rw r)
+pub first-due : (t x : List ℕ) → Empty x → Due t 0 0 x
+unfolding namesOf
+first-due t x e = record { inside = omega arith; near = omega arith; few = omega arith; many = refl; lists = lists-none t x e }
 
--- ---- the mode of a name, from searches in the two sections
+pub second-due : (t x : List ℕ) (place children : ℕ) → Read t (namesOf 0 (drop 1 t)) 0 place children → place ≤ 0 + 1 + (1 + nameLimit) * children
+    → Lists t x (reverse (namesOf 0 (drop 1 t) ++ namesOf children (drop (0 + 1) t))) → Due t place children x
+unfolding namesOf
+second-due t x place children first n l = record { inside = first .inside; near = omega arith; few = first .few; many = first .many; lists = l }
 
-module _ (m : Modes) (w : List ℕ) where
-  in-children : among (m .children) w ≡ true → Children ≡ modeOf m w
-  unfolding modeOf
-  in-children e = rw (modeOf, e)
-
-  in-content : among (m .children) w ≡ false → among (m .content) w ≡ true → Content ≡ modeOf m w
-  unfolding modeOf
-  in-content e f = rw (modeOf, e, f)
-
-  in-neither : among (m .children) w ≡ false → among (m .content) w ≡ false → Absent ≡ modeOf m w
-  unfolding modeOf
-  in-neither e f = rw (modeOf, e, f)
-
-module _ (t w : List ℕ) (v : Valid t) where
-  pub count-inside : 0 < length t
-  count-inside = laid t v .first .inside
-
-  pub children-whole : Whole (getD t 0 0) (drop 1 t)
-  children-whole = laid t v .first .behind .whole
-
-  pub mode-children : Here ≡ searched 1 (getD t 0 0) (drop 1 t) w → Children ≡ modeOf (modesOf t) w
-  mode-children e = in-children (modesOf t) w (rw (laid t v .first .behind .are) (stands 1 _ _ w e))
-
-  module _ (place : ℕ) (e : Past place ≡ searched 1 (getD t 0 0) (drop 1 t) w) where
-    no-child : among (modesOf t .children) w ≡ false
-    no-child = rw (laid t v .first .behind .are) (absent 1 _ _ w place e .0)
-
-    place-is : place ≡ middle t
-    place-is = absent 1 _ _ w place e .1
-
-    pub content-inside : place < length t
-    content-inside = rw place-is (laid t v .second .inside)
-
-    pub content-whole : Whole (getD t place 0) (drop (place + 1) t)
-    content-whole = rw place-is (laid t v .second .behind .whole)
-
-    content-are : modesOf t .content ≡ namesOf (getD t place 0) (drop (place + 1) t)
-    content-are = rw place-is (laid t v .second .behind .are)
-
-    pub mode-content : Here ≡ searched (place + 1) (getD t place 0) (drop (place + 1) t) w → Content ≡ modeOf (modesOf t) w
-    mode-content f = in-content (modesOf t) w no-child (rw content-are (stands (place + 1) _ _ w f))
-
-    pub mode-absent : (p : ℕ) → Past p ≡ searched (place + 1) (getD t place 0) (drop (place + 1) t) w → Absent ≡ modeOf (modesOf t) w
-    mode-absent p f = in-neither (modesOf t) w no-child (rw content-are (absent (place + 1) _ _ w p f .0))
+-- a refusal says nothing of the index
+pub into-refused : (t x : List ℕ) (r : Answer) → ReadsTable t r → ((place count : ℕ) → r ≡ Accepted place count → ⊥) → ReadsInto t r x
+into-refused t x r e never = record { answer = e; indexed = λ p n f. absurd (never p n f) }

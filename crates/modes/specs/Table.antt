@@ -3,16 +3,14 @@
 use Prim.Native.Nat.{ℕ, zero, suc, _+_, _≤_}
 use mathlib.Core.Path.{_≡_}
 use mathlib.Core.Bool.{true, false}
-use mathlib.Core.List.{List, [], _∷_, _++_}
+use mathlib.Core.List.{List, [], _∷_}
 use lib.ListN.{length, take, drop}
 use lib.Dec.{leb}
 use Rattle.paper.specs.Answer.{Told, accepted, refused}
-use Rattle.paper.specs.Found.{Found, found, fault, placeIn, pick}
+use Rattle.paper.specs.Found.{Found, found, fault, placeIn}
 use Rattle.paper.specs.Bytes.{within}
-use Rattle.paper.specs.Names.{nameLimit, isConceptName, among}
+use Rattle.paper.specs.Names.{nameLimit, isConceptName}
 use Rattle.paper.specs.Modes.{Modes, section, modeTable}
-use Rattle.modes.specs.declared.Search.{Search}
-use Rattle.modes.specs.declared.Search.the-variants.{Here, Past}
 
 -- so many names from the front, each a length byte and its letters, unchecked
 unfoldable pub namesOf : ℕ → List ℕ → List (List ℕ)
@@ -29,14 +27,6 @@ sizeOf (suc n) (size ∷ s) = suc (size + sizeOf n (drop size s))
 -- they are all there
 abbrev pub Whole : ℕ → List ℕ → Type 0
 Whole n s = sizeOf n s ≤ length s
-
--- a search for a name among so many, the list standing at a place
-abbrev pub searched : ℕ → ℕ → List ℕ → List ℕ → Search
-searched at n s w = pick (among (namesOf n s) w) Here (Past (at + sizeOf n s))
-
--- the names that a name may not repeat: the first so many of the table, and so many that stand from a place on
-abbrev pub namesBefore : List ℕ → ℕ → ℕ → ℕ → List (List ℕ)
-namesBefore t earlier start n = namesOf earlier (drop 1 t) ++ namesOf n (drop start t)
 
 -- the section at a place, behind the first so many names of the table
 abbrev pub sectionAt : List ℕ → ℕ → ℕ → Found (List (List ℕ))

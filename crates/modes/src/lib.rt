@@ -1,32 +1,38 @@
 // The mode table: whether it is in order, and what it says of a Concept's name.
 // Document 01, "The mode table", and refusal 1.
+pub mod index;
+
+use index::CELLS;
+use index::Index;
 use paper::Answer;
 use paper::Mode;
 use paper::Refusal;
-use text::parts;
 ghost use mathlib.Core.Path.{_≡_};
 ghost use Prim.Native.Nat.{_≤_};
 ghost use lib.ListN.{length, drop};
 ghost use Rattle.paper.specs.Answer.{told, refused};
-ghost use Rattle.paper.specs.Names.{among};
 ghost use Rattle.paper.specs.Modes.{modeOf};
 ghost use Rattle.modes.specs.Promises.{ReadsTable};
-ghost use Rattle.modes.specs.Table.{Whole, namesBefore, sectionAt, searched, nameAt, one, toldOf, Valid, modesOf};
+ghost use Rattle.modes.specs.Table.{nameAt, one, toldOf, modesOf};
+ghost use Rattle.modes.specs.Index.{Empty, Due, ReadsSection, Indexed, ReadsInto};
 
 // A section has at most so many names.
 const SECTION_LIMIT: usize = 64;
-
-// What a search among names finds: the name, or the place past them.
-enum Search {
-    Here,
-    Past(usize),
-}
 
 // Reads a table: an acceptance has its length and the names of both sections.
 pub fn read(table: &[u8]) -> Answer
     ensures { λ r. ⌜ ReadsTable (now (table .entry)) r ⌝ }
 {
-    let first = read_section(table, 0, 0);
+    let mut index = [0; CELLS];
+    read_into(table, &mut index)
+}
+
+// Reads a table as `read` does, and lists its names in an index that is empty.
+pub fn read_into(table: &[u8], index: &mut Index) -> Answer
+    requires { ⌜ Empty (now index) ⌝ }
+    ensures { λ r. ⌜ ReadsInto (now (table .entry)) r (now (index .exit)) ⌝ }
+{
+    let first = read_section(table, 0, 0, index);
     let Answer::Accepted {
         place: middle,
         count: children,
@@ -34,7 +40,7 @@ pub fn read(table: &[u8]) -> Answer
     else {
         return first;
     };
-    let second = read_section(table, middle, children);
+    let second = read_section(table, middle, children, index);
     let Answer::Accepted {
         place: end,
         count: content,
@@ -51,27 +57,26 @@ pub fn read(table: &[u8]) -> Answer
     }
 }
 
-// What a table that `read` accepts says of a name.
-pub fn mode_of(table: &[u8], name: &[u8]) -> Mode
-    requires { ⌜ Valid (now table) ⌝ }
+// What a table says of a name, by its index. The first names are in children mode, and the table's first byte says how many they are.
+pub fn mode_of(table: &[u8], index: &Index, name: &[u8]) -> Mode
+    requires { ⌜ Indexed (now table) (now index) ⌝ }
     ensures { λ r. ⌜ r ≡ modeOf (modesOf (now (table .entry))) (now (name .entry)) ⌝ }
 {
-    let children = table[0] as usize;
-    let Search::Past(middle) = find(table, 1, children, name) else {
+    let number = index::find(table, index, index::key(name), name);
+    if number == 0 {
+        return Mode::Absent;
+    }
+    if number <= table[0] as usize {
         return Mode::Children;
-    };
-    let content = table[middle] as usize;
-    let Search::Past(_) = find(table, middle + 1, content, name) else {
-        return Mode::Content;
-    };
-    Mode::Absent
+    }
+    Mode::Content
 }
 
-// Reads the section at `at`, whose names may not be among the first `earlier` names of the table. An acceptance has the
-// place past the section and how many names it has.
-fn read_section(table: &[u8], at: usize, earlier: usize) -> Answer
-    requires { ⌜ (at ≤ length (now table)) × Whole earlier (drop 1 (now table)) ⌝ }
-    ensures { λ r. ⌜ told r ≡ toldOf length (now (table .entry)) (sectionAt (now (table .entry)) earlier at) ⌝ }
+// Reads the section at `at`, behind the first `earlier` names of the table, and lists its names in the index; none of them may be listed
+// already. An acceptance has the place past the section and how many names it has.
+fn read_section(table: &[u8], at: usize, earlier: usize, index: &mut Index) -> Answer
+    requires { ⌜ Due (now table) at earlier (now index) ⌝ }
+    ensures { λ r. ⌜ ReadsSection (now (table .entry)) at earlier r (now (index .exit)) ⌝ }
 {
     if at == table.len() {
         return refuse(at);
@@ -80,8 +85,7 @@ fn read_section(table: &[u8], at: usize, earlier: usize) -> Answer
     if SECTION_LIMIT < count {
         return refuse(at);
     }
-    let start = at + 1;
-    let mut place = start;
+    let mut place = at + 1;
     let mut i = 0;
     while i < count {
         let answer = read_name(table, place);
@@ -89,11 +93,14 @@ fn read_section(table: &[u8], at: usize, earlier: usize) -> Answer
             return answer;
         };
         let letters = place + 1;
-        if stands_earlier(table, earlier, start, i, &table[letters..end]) {
+        let name = &table[letters..end];
+        let key = index::key(name);
+        if 0 < index::find(table, index, key, name) {
             return refuse(letters);
         }
-        place = end;
         i += 1;
+        index::add(index, earlier + i, key, place);
+        place = end;
     }
     Answer::Accepted { place, count }
 }
@@ -122,39 +129,6 @@ fn read_name(table: &[u8], at: usize) -> Answer
         place: end,
         count: 1,
     }
-}
-
-// Whether the name is among the first `earlier` names of the table or the `count` names that stand from `start` on.
-fn stands_earlier(table: &[u8], earlier: usize, start: usize, count: usize, name: &[u8]) -> bool
-    requires { ⌜ Whole earlier (drop 1 (now table)) × Whole count (drop start (now table)) ⌝ }
-    ensures { λ r. ⌜ r ≡ among (namesBefore (now (table .entry)) earlier start count) (now (name .entry)) ⌝ }
-{
-    let Search::Past(_) = find(table, 1, earlier, name) else {
-        return true;
-    };
-    let Search::Past(_) = find(table, start, count, name) else {
-        return true;
-    };
-    false
-}
-
-// Looks for the name among the `count` names that stand from `start` on.
-fn find(table: &[u8], start: usize, count: usize, name: &[u8]) -> Search
-    requires { ⌜ Whole count (drop start (now table)) ⌝ }
-    ensures { λ r. ⌜ r ≡ searched start count (drop start (now (table .entry))) (now (name .entry)) ⌝ }
-{
-    let mut at = start;
-    let mut left = count;
-    while 0 < left {
-        let letters = at + 1;
-        let end = letters + table[at] as usize;
-        if parts::same(&table[letters..end], name) {
-            return Search::Here;
-        }
-        at = end;
-        left -= 1;
-    }
-    Search::Past(at)
 }
 
 // The table is refused at a place.

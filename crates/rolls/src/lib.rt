@@ -35,12 +35,13 @@ pub fn add(table: &[u8], sheet: &[u8], roll: &mut [u8], n: usize, cells: &mut [u
     ensures { λ r. ⌜ AddsSheet (now (table .entry)) (now (sheet .entry)) (now (roll .entry)) n (length (now (cells .entry))) r
         (now (roll .exit)) (now (cells .exit)) ⌝ }
 {
-    let modes = modes::read(table);
+    let mut index = [0; modes::index::CELLS];
+    let modes = modes::read_into(table, &mut index);
     let Answer::Accepted { place: _, count: _ } = modes else {
         zero_from(cells, 0);
         return modes;
     };
-    let reading = read_under(table, sheet, cells);
+    let reading = read_under(table, sheet, cells, &index);
     let Answer::Accepted { place: _, count } = reading else {
         zero_from(cells, 0);
         return reading;

@@ -8,6 +8,7 @@ use crate::records::Record;
 use crate::records::put;
 use crate::records::room;
 use lines::part::Part;
+use modes::index::Index;
 use paper::Answer;
 use paper::Refusal;
 use sheets::read_rest;
@@ -17,7 +18,7 @@ ghost use Prim.Native.Nat.{_^_, _≤_, _<_};
 ghost use lib.ListN.{length};
 ghost use Rattle.paper.specs.Answer.{told};
 ghost use Rattle.paper.specs.Roll.{rollLimit, partsOf};
-ghost use Rattle.modes.specs.Table.{Valid};
+ghost use Rattle.modes.specs.Index.{Indexed};
 ghost use Rattle.rolls.specs.Boundaries.{Begins};
 ghost use Rattle.rolls.specs.Records.{recordIn, layRecords, unreadOf, recordsIn};
 ghost use Rattle.rolls.specs.Listing.{FindsSheets, Spans, ReadsRecord, AllFound, Lists};
@@ -34,7 +35,8 @@ pub fn list(table: &[u8], roll: &[u8], records: &mut [u32], cells: &mut [u32]) -
             place: LIMIT,
         };
     }
-    let modes = modes::read(table);
+    let mut index = [0; modes::index::CELLS];
+    let modes = modes::read_into(table, &mut index);
     let Answer::Accepted { .. } = modes else {
         return modes;
     };
@@ -49,7 +51,7 @@ pub fn list(table: &[u8], roll: &[u8], records: &mut [u32], cells: &mut [u32]) -
     let Answer::Accepted { count, .. } = found else {
         return found;
     };
-    read_sheets(table, roll, records, count, cells);
+    read_sheets(table, roll, records, count, cells, &index);
     found
 }
 
@@ -91,21 +93,35 @@ fn found_at(start: usize, end: usize) -> Record
 }
 
 // Reads each sheet that was found, in order.
-fn read_sheets(table: &[u8], roll: &[u8], records: &mut [u32], count: usize, cells: &mut [u32])
-    requires { ⌜ Valid (now table) × AllFound (now roll) (now records) count ⌝ }
+fn read_sheets(
+    table: &[u8],
+    roll: &[u8],
+    records: &mut [u32],
+    count: usize,
+    cells: &mut [u32],
+    index: &Index,
+)
+    requires { ⌜ Indexed (now table) (now index) × AllFound (now roll) (now records) count ⌝ }
     ensures { λ _. ⌜ now (records .exit) ≡ layRecords (now (records .entry)) 0
         (recordsIn (now (table .entry)) (length (now (cells .entry))) (partsOf (now (roll .entry)))) ⌝ }
 {
     let mut n = 0;
     while n < count {
-        read_sheet(table, roll, records, n, cells);
+        read_sheet(table, roll, records, n, cells, index);
         n += 1;
     }
 }
 
 // Reads the sheet of record number `n` by itself, and puts its answer into the record.
-fn read_sheet(table: &[u8], roll: &[u8], records: &mut [u32], n: usize, cells: &mut [u32])
-    requires { ⌜ Valid (now table) × Spans (now roll) (now records) n ⌝ }
+fn read_sheet(
+    table: &[u8],
+    roll: &[u8],
+    records: &mut [u32],
+    n: usize,
+    cells: &mut [u32],
+    index: &Index,
+)
+    requires { ⌜ Indexed (now table) (now index) × Spans (now roll) (now records) n ⌝ }
     ensures { λ _. ⌜ ReadsRecord (now (table .entry)) (now (roll .entry)) (length (now (cells .entry))) (now (records .entry)) n
         (now (records .exit)) ⌝ }
 {
@@ -114,7 +130,7 @@ fn read_sheet(table: &[u8], roll: &[u8], records: &mut [u32], n: usize, cells: &
     let end = records[at + 1];
     let from = start as usize;
     let to = end as usize;
-    let answer = read_under(table, &roll[from..to], cells);
+    let answer = read_under(table, &roll[from..to], cells, index);
     put(
         records,
         n,

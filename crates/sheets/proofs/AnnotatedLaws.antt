@@ -37,8 +37,8 @@ onward m deeper room notes line =
     found (record { notes = notes; tabs = lengthIn isTab line; concept = c }) left)
 
 -- annotations that are read from a place to the start of a line, and entered
-pub record NotesAt (table s : List ℕ) (at : ℕ) (cells : List ℕ) (slot : Slot) (mid : List ℕ) (line made : ℕ) : Type 0 where
-  pub stands : Ready table s at cells slot
+pub record NotesAt (table index s : List ℕ) (at : ℕ) (cells : List ℕ) (slot : Slot) (mid : List ℕ) (line made : ℕ) : Type 0 where
+  pub stands : Ready table index s at cells slot
   pub it : List Annotation
   pub finds : annotations (slot .room - slot .next) (drop at s) ≡ found it (drop line s)
   pub covers : drop at s ≡ annotationsOnto it (drop line s)
@@ -48,7 +48,7 @@ pub record NotesAt (table s : List ℕ) (at : ℕ) (cells : List ℕ) (slot : Sl
   pub inside : line ≤ length s
   pub laid : mid ≡ lay cells (slot .next) (annotationEntries (slot .parent) at it)
 
-module _ {table s : List ℕ} {at : ℕ} {cells : List ℕ} {slot : Slot} (h : Ready table s at cells slot) {notes : Part} {mid : List ℕ}
+module _ {table index s : List ℕ} {at : ℕ} {cells : List ℕ} {slot : Slot} (h : Ready table index s at cells slot) {notes : Part} {mid : List ℕ}
     (n : MakesNotes s at cells slot notes mid) where
   pub notes-refused : (deeper : ℕ) {why : Refusal} {place : ℕ} → notes ≡ Refused why place → ReadsAnnotated table s at deeper cells slot notes mid
   notes-refused deeper {why} {place} q =
@@ -56,7 +56,7 @@ module _ {table s : List ℕ} {at : ℕ} {cells : List ℕ} {slot : Slot} (h : R
       makes-passed _ _ _ _ _ _ _ notes mid length length (λ x. andThen x (onward (modesOf table) deeper room)) (λ k left. refl)
       (annotations room (drop at s)) why place (n .says) q refl
 
-  pub notes-at : {line made own : ℕ} → notes ≡ Read line made own → NotesAt table s at cells slot mid line made
+  pub notes-at : {line made own : ℕ} → notes ≡ Read line made own → NotesAt table index s at cells slot mid line made
   notes-at {line} {made} {own} q =
       let room = slot .room - slot .next in
       let f =
@@ -75,12 +75,12 @@ module _ {table s : List ℕ} {at : ℕ} {cells : List ℕ} {slot : Slot} (h : R
       }
 
 -- the Concept behind them, whose tabs end at a mark
-module _ {table s : List ℕ} {at : ℕ} {cells : List ℕ} {slot : Slot} {mid : List ℕ} {line made : ℕ} (n : NotesAt table s at cells slot mid line made)
+module _ {table index s : List ℕ} {at : ℕ} {cells : List ℕ} {slot : Slot} {mid : List ℕ} {line made : ℕ} (n : NotesAt table index s at cells slot mid line made)
     {mark : ℕ} (run : Stretch isTab s line mark) {next : Slot} (lends : next ≡ slotAfter slot made) where
   abbrev room : ℕ
   room = slot .room - slot .next
 
-  pub concept-stands : length mid ≡ length cells → Ready table s mark mid next
+  pub concept-stands : length mid ≡ length cells → Ready table index s mark mid next
   concept-stands e = stands-on (n .stands) (run .2) (fits-after made (n .stands .fits) e (n .few) lends)
 
   module _ (deeper : ℕ) {r : Part} {after : List ℕ} (k : ReadsConcept table s mark (mark - line) deeper mid next r after) where

@@ -66,7 +66,7 @@ pub record BodyAt (s : List ℕ) (at : ℕ) (cells : List ℕ) (slot : Slot) (m 
   pub inside : mark ≤ length s
   pub laid : after ≡ lay cells (slot .next) (bodyEntries (slot .parent) (slot .next) (at + length (blankOnto rest [])) it)
 
-module _ {table s : List ℕ} {at : ℕ} {cells : List ℕ} {slot : Slot} (h : Ready table s at cells slot) (m : Modes) (deeper : ℕ) where
+module _ {table index s : List ℕ} {at : ℕ} {cells : List ℕ} {slot : Slot} (h : Ready table index s at cells slot) (m : Modes) (deeper : ℕ) where
   abbrev room : ℕ
   room = slot .room - slot .next
 

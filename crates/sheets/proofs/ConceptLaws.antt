@@ -41,7 +41,7 @@ use Rattle.sheets.proofs.Marked.{formOf, after, concept-marked, endingO
 
 -- ---- what follows a marker of a form that ends at a place
 
-module _ {table s : List ℕ} {at : ℕ} {cells : List ℕ} {slot : Slot} (h : Ready table s at cells slot) (deeper tabs form : ℕ) (k : Marker) where
+module _ {table index s : List ℕ} {at : ℕ} {cells : List ℕ} {slot : Slot} (h : Ready table index s at cells slot) (deeper tabs form : ℕ) (k : Marker) where
   abbrev Inside : Part → List ℕ → Type 0
   Inside r last = InsideAt s at tabs cells slot (insideOf form (modesOf table) deeper (slot .room - slot .next) tabs k (drop at s)) r last
 
@@ -118,25 +118,25 @@ entry-is parent at tabs c form count to end f n t e = rw (f, n, t, e)
 
 -- ---- a Concept whose "<" is due at a place
 
-pub marker-refused : {table s : List ℕ} {at : ℕ} {cells : List ℕ} {slot : Slot} → Ready table s at cells slot
+pub marker-refused : {table index s : List ℕ} {at : ℕ} {cells : List ℕ} {slot : Slot} → Ready table index s at cells slot
     → {deeper : ℕ} {o : Opening} {mid : List ℕ} → ReadsOpening table s at deeper cells slot o mid
     → (tabs : ℕ) {why : Refusal} {place : ℕ} → o ≡ Refused why place → {r : Part} → r ≡ Part.Refused why place
     → ReadsConcept table s at tabs deeper cells slot r mid
-marker-refused {table} {s} {at} {cells} {slot} h {deeper} {o} {mid} opens tabs {why} {place} q {r} e =
+marker-refused {table} {index} {s} {at} {cells} {slot} h {deeper} {o} {mid} opens tabs {why} {place} q {r} e =
     let room = slot .room - slot .next in
     makes-passed _ _ _ _ _ _ _ r mid madeBy traitsIn (λ x. andThen x (after (modesOf table) deeper room tabs)) (λ n left. refl)
     (opening (modesOf table) bounds deeper room (drop at s)) why place (ap seen (e ∙ sym (ap partOf q)) ∙ opens .makes .says) e
     (concept-marked (modesOf table) deeper room tabs (drop at s))
 
 -- its marker was read
-pub record MarkerAt (table s : List ℕ) (at : ℕ) (cells : List ℕ) (slot : Slot) (deeper : ℕ) (mid : List ℕ) (form to end made own : ℕ) (inside : Nesting) : Type 0 where
-  pub stands : Ready table s at cells slot
+pub record MarkerAt (table index s : List ℕ) (at : ℕ) (cells : List ℕ) (slot : Slot) (deeper : ℕ) (mid : List ℕ) (form to end made own : ℕ) (inside : Nesting) : Type 0 where
+  pub stands : Ready table index s at cells slot
   pub answer : Opening
   pub opens : ReadsOpening table s at deeper cells slot answer mid
   pub told : answer ≡ Opened form to end made own inside
 
-module _ {table s : List ℕ} {at : ℕ} {cells : List ℕ} {slot : Slot} {deeper : ℕ} {mid : List ℕ} {form to end made own : ℕ} {inside : Nesting}
-    (known : MarkerAt table s at cells slot deeper mid form to end made own inside) where
+module _ {table index s : List ℕ} {at : ℕ} {cells : List ℕ} {slot : Slot} {deeper : ℕ} {mid : List ℕ} {form to end made own : ℕ} {inside : Nesting}
+    (known : MarkerAt table index s at cells slot deeper mid form to end made own inside) where
   abbrev room : ℕ
   room = slot .room - slot .next
 
@@ -201,7 +201,7 @@ module _ {table s : List ℕ} {at : ℕ} {cells : List ℕ} {slot : Slot} {deepe
     lends : next ≡ slotAfter (slotUnder slot) made
     lends = goes-on ∙ ap (λ (x : Slot). slotAfter x made) goes-under
 
-    pub lent-stands : length mid ≡ length cells → Ready table s end mid next
+    pub lent-stands : length mid ≡ length cells → Ready table index s end mid next
     lent-stands held = rw lends (stands-on (known .stands) (marker .inside) (fits-on (known .stands .fits) held refl (marker-ahead .4)))
 
     module _ (tabs : ℕ) {b : Part} {left : List ℕ} (body : ReadsInside table s end form tabs (at + 1) to (inside .left) mid next b left) where

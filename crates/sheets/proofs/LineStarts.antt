@@ -84,9 +84,9 @@ module _ {s : List ℕ} {at mark : ℕ} (line : Behind (byte "<") s at mark) whe
       when-false (isBlankLine (drop at s)) _ _ not-blank ∙ ap (behindTabs (annotatedOf m bounds deeper room (drop at s))) only-tabs
 
   -- what its Concept makes, the Concept with no annotations makes
-  module _ {table cells : List ℕ} {slot : Slot} (h : Ready table s at cells slot) (deeper : ℕ) {r : Part} {after : List ℕ}
+  module _ {table index cells : List ℕ} {slot : Slot} (h : Ready table index s at cells slot) (deeper : ℕ) {r : Part} {after : List ℕ}
       (one : ReadsConcept table s mark (mark - at) deeper cells slot r after) where
-    none : NotesAt table s at cells slot cells at 0
+    none : NotesAt table index s at cells slot cells at 0
     unfolding annotationsOnto annotationEntries
     none = record {
       stands = h;

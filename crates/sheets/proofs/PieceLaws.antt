@@ -97,7 +97,7 @@ annotatedLine x = andThen x (λ a left. andThen (lineRest left) (λ rest end. fo
 abbrev pub behindTabs : Found Annotated → Found ℕ → Found BodyPiece
 behindTabs x tabs = andThen tabs (λ n mark. annotatedLine x)
 
-module _ {table s : List ℕ} {at : ℕ} {cells : List ℕ} {slot : Slot} (h : Ready table s at cells slot) (deeper : ℕ) where
+module _ {table index s : List ℕ} {at : ℕ} {cells : List ℕ} {slot : Slot} (h : Ready table index s at cells slot) (deeper : ℕ) where
   abbrev room : ℕ
   room = slot .room - slot .next
 

@@ -31,6 +31,7 @@ use Rattle.text.proofs.Places.{place-back}
 use Rattle.text.specs.Steps.{checkedOf, checked}
 use Rattle.text.specs.declared.utf8.Checked.{Checked}
 use Rattle.modes.specs.Table.{Valid, modesOf}
+use Rattle.modes.specs.Index.{Indexed}
 use Rattle.modes.proofs.Answered.{number-told}
 use Rattle.entries.specs.Laid.{lay}
 use Rattle.entries.proofs.Laying.{lay-none, lay-filled}
@@ -215,11 +216,11 @@ module _ (m : Modes) (s cells : List ℕ) where
         (root .laid ∙ ap (lay cells 0) (sym (of .are)))
 
 -- the root is read with the room that the cells have
-pub root-stands : (table s cells : List ℕ) (first room : ℕ) → Valid table → length s ≤ sheetLimit → first ≤ length s → room ≡ roomOf (length cells)
-    → Ready table s first cells (record { next = 0; room = room; parent = noParent })
-root-stands table s cells first room v l h e =
+pub root-stands : (table index s cells : List ℕ) (first room : ℕ) → Indexed table index → length s ≤ sheetLimit → first ≤ length s → room ≡ roomOf (length cells)
+    → Ready table index s first cells (record { next = 0; room = room; parent = noParent })
+root-stands table index s cells first room x l h e =
     record {
-      valid = v;
+      indexed = x;
       in-sheet = record { within = l; inside = h };
       fits = record { held = omega arith; few = omega arith; inside = omega arith };
     }

@@ -7,6 +7,6 @@ use Rattle.entries.specs.declared.Slot.{Slot}
 use Rattle.sheets.specs.Concepts.{Ready}
 
 -- another place of the sheet, and a slot that fits
-pub stands-on : {table s lent cells : List ℕ} {at end : ℕ} {slot next : Slot} → Ready table s at lent slot → end ≤ length s → Fits cells next
-    → Ready table s end cells next
-stands-on h inside fits = record { valid = h .valid; in-sheet = record { within = h .in-sheet .within; inside = inside }; fits = fits }
+pub stands-on : {table index s lent cells : List ℕ} {at end : ℕ} {slot next : Slot} → Ready table index s at lent slot → end ≤ length s → Fits cells next
+    → Ready table index s end cells next
+stands-on h inside fits = record { indexed = h .indexed; in-sheet = record { within = h .in-sheet .within; inside = inside }; fits = fits }

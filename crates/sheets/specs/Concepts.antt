@@ -14,15 +14,16 @@ use Rattle.paper.specs.Tree.{Marker, Concept, selfClosed, children, content, Bo
 use Rattle.paper.specs.Grammar.{blankOnto, annotationsOnto}
 use Rattle.paper.specs.Entries.{Entry, annotationEntries, conceptSize, conceptEntry, insideEntries, bodySize, bodyCount, bodyEntries}
 use Rattle.paper.specs.Reading.{isTab, lineRest, contentOf, conceptOf, blockOf, bodyOf, annotatedOf, pieceOf, bounds}
-use Rattle.modes.specs.Table.{Valid, modesOf}
+use Rattle.modes.specs.Table.{modesOf}
+use Rattle.modes.specs.Index.{Indexed}
 use Rattle.entries.specs.Laid.{lay, Fits}
 use Rattle.entries.specs.declared.Slot.{Slot}
 use Rattle.lines.specs.Parts.{Seen, seen, seenOf, Makes, In, part, contentEntries}
 use Rattle.lines.specs.declared.part.Part.{Part}
 
--- a place of a sheet that is read under a valid table, and a slot of the cells
-pub record Ready (table s : List ℕ) (at : ℕ) (cells : List ℕ) (slot : Slot) : Type 0 where
-  pub valid : Valid table
+-- a place of a sheet that is read under a table with its index, and a slot of the cells
+pub record Ready (table index s : List ℕ) (at : ℕ) (cells : List ℕ) (slot : Slot) : Type 0 where
+  pub indexed : Indexed table index
   pub in-sheet : In s at
   pub fits : Fits cells slot
 

@@ -15,6 +15,7 @@ use lines::part::Part;
 use lines::part::line_rest;
 use lines::part::past;
 use lines::part::refused;
+use modes::index::Index;
 use paper::forms;
 use paper::kinds;
 use text::nesting::Nesting;
@@ -37,12 +38,13 @@ fn read_concept(
     nesting: Nesting,
     cells: &mut [u32],
     slot: Slot,
+    index: &Index,
 ) -> Part
-    requires { ⌜ Ready (now table) (now s) at (now cells) slot ⌝ }
+    requires { ⌜ Ready (now table) (now index) (now s) at (now cells) slot ⌝ }
     ensures { λ r.
         ⌜ ReadsConcept (now (table .entry)) (now (s .entry)) at tabs (nesting .left) (now (cells .entry)) slot r (now (cells .exit)) ⌝ }
 {
-    match read_opening(table, s, at, nesting, cells, slot) {
+    match read_opening(table, s, at, nesting, cells, slot, index) {
         Opening::Refused { refusal, place } => refused(refusal, place),
         Opening::Opened {
             form,
@@ -53,7 +55,19 @@ fn read_concept(
             inside,
         } => {
             let next = slot.under().after(made);
-            let body = read_inside(table, s, end, form, tabs, at + 1, to, inside, cells, next);
+            let body = read_inside(
+                table,
+                s,
+                end,
+                form,
+                tabs,
+                at + 1,
+                to,
+                inside,
+                cells,
+                next,
+                index,
+            );
             end_concept(body, form, at, to, made, own, cells, slot)
         }
     }
@@ -115,15 +129,16 @@ fn read_inside(
     nesting: Nesting,
     cells: &mut [u32],
     slot: Slot,
+    index: &Index,
 ) -> Part
-    requires { ⌜ Ready (now table) (now s) at (now cells) slot × (from ≤ to) × (to ≤ length (now s)) ⌝ }
+    requires { ⌜ Ready (now table) (now index) (now s) at (now cells) slot × (from ≤ to) × (to ≤ length (now s)) ⌝ }
     ensures { λ r.
         ⌜ ReadsInside (now (table .entry)) (now (s .entry)) at form tabs from to (nesting .left) (now (cells .entry)) slot r
         (now (cells .exit)) ⌝ }
 {
     match form {
         forms::SELF_CLOSED => past(at),
-        forms::CHILDREN => read_block(table, s, at, from, to, nesting, cells, slot),
+        forms::CHILDREN => read_block(table, s, at, from, to, nesting, cells, slot, index),
         _ => read_content(s, at, tabs, from, to, cells, slot),
     }
 }
@@ -138,8 +153,9 @@ fn read_block(
     nesting: Nesting,
     cells: &mut [u32],
     slot: Slot,
+    index: &Index,
 ) -> Part
-    requires { ⌜ Ready (now table) (now s) at (now cells) slot × (from ≤ to) × (to ≤ length (now s)) ⌝ }
+    requires { ⌜ Ready (now table) (now index) (now s) at (now cells) slot × (from ≤ to) × (to ≤ length (now s)) ⌝ }
     ensures { λ r.
         ⌜ ReadsBlock (now (table .entry)) (now (s .entry)) at from to (nesting .left) (now (cells .entry)) slot r (now (cells .exit)) ⌝ }
 {
@@ -147,7 +163,7 @@ fn read_block(
     let Part::Read { end: start, .. } = rest else {
         return rest;
     };
-    let body = read_children(table, s, start, nesting, cells, slot);
+    let body = read_children(table, s, start, nesting, cells, slot, index);
     let Part::Read {
         end: mark,
         made,
@@ -171,8 +187,9 @@ fn read_children(
     nesting: Nesting,
     cells: &mut [u32],
     slot: Slot,
+    index: &Index,
 ) -> Part
-    requires { ⌜ Ready (now table) (now s) at (now cells) slot ⌝ }
+    requires { ⌜ Ready (now table) (now index) (now s) at (now cells) slot ⌝ }
     ensures { λ r.
         ⌜ ReadsChildren (now (table .entry)) (now (s .entry)) at (nesting .left) (now (cells .entry)) slot r (now (cells .exit)) ⌝ }
 {
@@ -188,7 +205,7 @@ fn read_children(
                 own,
             };
         }
-        let piece = read_piece(table, s, i, mark, nesting, cells, slot.after(made));
+        let piece = read_piece(table, s, i, mark, nesting, cells, slot.after(made), index);
         let Part::Read {
             end,
             made: more,
@@ -213,13 +230,14 @@ fn read_piece(
     nesting: Nesting,
     cells: &mut [u32],
     slot: Slot,
+    index: &Index,
 ) -> Part
-    requires { ⌜ Ready (now table) (now s) at (now cells) slot × Tabbed (now s) at mark ⌝ }
+    requires { ⌜ Ready (now table) (now index) (now s) at (now cells) slot × Tabbed (now s) at mark ⌝ }
     ensures { λ r.
         ⌜ ReadsPiece (now (table .entry)) (now (s .entry)) at (nesting .left) (now (cells .entry)) slot r (now (cells .exit)) ⌝ }
 {
     if starts_with(s, mark, b"<") {
-        let concept = read_concept(table, s, mark, mark - at, nesting, cells, slot);
+        let concept = read_concept(table, s, mark, mark - at, nesting, cells, slot, index);
         return end_line(s, concept);
     }
     if starts_with(s, mark, b"\n") {
@@ -232,7 +250,7 @@ fn read_piece(
     let Part::Read { .. } = tabs else {
         return tabs;
     };
-    let concept = read_annotated(table, s, at, nesting, cells, slot);
+    let concept = read_annotated(table, s, at, nesting, cells, slot, index);
     end_line(s, concept)
 }
 
@@ -263,8 +281,9 @@ pub fn read_annotated(
     nesting: Nesting,
     cells: &mut [u32],
     slot: Slot,
+    index: &Index,
 ) -> Part
-    requires { ⌜ Ready (now table) (now s) at (now cells) slot ⌝ }
+    requires { ⌜ Ready (now table) (now index) (now s) at (now cells) slot ⌝ }
     ensures { λ r.
         ⌜ ReadsAnnotated (now (table .entry)) (now (s .entry)) at (nesting .left) (now (cells .entry)) slot r (now (cells .exit)) ⌝ }
 {
@@ -286,6 +305,7 @@ pub fn read_annotated(
         nesting,
         cells,
         slot.after(made),
+        index,
     );
     let Part::Read {
         end,

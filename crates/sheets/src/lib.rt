@@ -15,6 +15,7 @@ use lines::blank::blank_lines;
 use lines::blank::last_blanks;
 use lines::blank::tabs_only;
 use lines::part::Part;
+use modes::index::Index;
 use paper::Answer;
 use paper::Refusal;
 use text::nesting::Nesting;
@@ -26,7 +27,7 @@ ghost use Prim.Native.Nat.{_≤_};
 ghost use lib.ListN.{length, drop};
 ghost use Rattle.paper.specs.Answer.{told};
 ghost use Rattle.paper.specs.Limits.{sheetLimit};
-ghost use Rattle.modes.specs.Table.{Valid};
+ghost use Rattle.modes.specs.Index.{Indexed};
 ghost use Rattle.lines.specs.Parts.{seen, passed};
 ghost use Rattle.sheets.specs.Promises.{ReadsSheet, Views, ViewAnswers};
 ghost use Rattle.sheets.specs.Sheets.{ReadsUnder, ReadsTree, behindRoot, spanOf};
@@ -36,20 +37,21 @@ ghost use Rattle.sheets.specs.Sheets.{ReadsUnder, ReadsTree, behindRoot,
 pub fn read(table: &[u8], sheet: &[u8], cells: &mut [u32]) -> Answer
     ensures { λ r. ⌜ ReadsSheet (now (table .entry)) (now (sheet .entry)) (length (now (cells .entry))) r (now (cells .exit)) ⌝ }
 {
-    let modes = modes::read(table);
+    let mut index = [0; modes::index::CELLS];
+    let modes = modes::read_into(table, &mut index);
     let Answer::Accepted { .. } = modes else {
         zero_from(cells, 0);
         return modes;
     };
-    let answer = read_under(table, sheet, cells);
+    let answer = read_under(table, sheet, cells, &index);
     zero_from(cells, answer.count() * CELLS);
     answer
 }
 
-// Reads a sheet under a table that `modes::read` accepts. It zeroes no cell: those behind the entries are as they were, and what a refusal
-// leaves is not told.
-pub fn read_under(table: &[u8], sheet: &[u8], cells: &mut [u32]) -> Answer
-    requires { ⌜ Valid (now table) ⌝ }
+// Reads a sheet under a table that `modes::read_into` accepts, with its index. It zeroes no cell: those behind the entries are as they
+// were, and what a refusal leaves is not told.
+pub fn read_under(table: &[u8], sheet: &[u8], cells: &mut [u32], index: &Index) -> Answer
+    requires { ⌜ Indexed (now table) (now index) ⌝ }
     ensures { λ r. ⌜ ReadsUnder (now (table .entry)) (now (sheet .entry)) (now (cells .entry)) (told r) (now (cells .exit)) ⌝ }
 {
     if Cursor::is_too_long(sheet) {
@@ -63,7 +65,7 @@ pub fn read_under(table: &[u8], sheet: &[u8], cells: &mut [u32]) -> Answer
             refusal: Refusal::Bytes,
             place,
         },
-        Checked::Sound => match read_tree(table, sheet, cells) {
+        Checked::Sound => match read_tree(table, sheet, cells, index) {
             Part::Refused { refusal, place } => Answer::Refused { refusal, place },
             Part::Read { end, made, .. } => Answer::Accepted {
                 place: end,
@@ -74,8 +76,8 @@ pub fn read_under(table: &[u8], sheet: &[u8], cells: &mut [u32]) -> Answer
 }
 
 // Reads the root with its annotations and the blank lines around them, and enters it from the first cell on.
-fn read_tree(table: &[u8], s: &[u8], cells: &mut [u32]) -> Part
-    requires { ⌜ Valid (now table) × (length (now s) ≤ sheetLimit) ⌝ }
+fn read_tree(table: &[u8], s: &[u8], cells: &mut [u32], index: &Index) -> Part
+    requires { ⌜ Indexed (now table) (now index) × (length (now s) ≤ sheetLimit) ⌝ }
     ensures { λ r. ⌜ ReadsTree (now (table .entry)) (now (s .entry)) (now (cells .entry)) r (now (cells .exit)) ⌝ }
 {
     let blanks = blank_lines(s, 0);
@@ -98,6 +100,7 @@ fn read_tree(table: &[u8], s: &[u8], cells: &mut [u32]) -> Part
         Nesting::new(Nesting::CONCEPTS),
         cells,
         slot,
+        index,
     );
     let Part::Read { end, made, own } = root else {
         return root;

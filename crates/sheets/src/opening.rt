@@ -8,6 +8,7 @@ use lines::part::Part;
 use lines::part::Whose;
 use lines::part::byte_due;
 use lines::part::name_end;
+use modes::index::Index;
 use modes::mode_of;
 use paper::Mode;
 use paper::Refusal;
@@ -22,7 +23,7 @@ ghost use Prim.Native.Nat.{suc, _+_, _≤_, _<_};
 ghost use lib.ListN.{length, drop};
 ghost use Rattle.paper.specs.Bytes.{isWhite, lengthIn};
 ghost use Rattle.paper.specs.Reading.{head, bounds};
-ghost use Rattle.modes.specs.Table.{Valid};
+ghost use Rattle.modes.specs.Index.{Indexed};
 ghost use Rattle.entries.specs.Laid.{Fits};
 ghost use Rattle.lines.specs.Parts.{seen, passed, In};
 ghost use Rattle.sheets.specs.Opening.{ReadsOpening, ReadsNamed, ReadsMarker};
@@ -52,14 +53,15 @@ pub fn read_opening(
     nesting: Nesting,
     cells: &mut [u32],
     slot: Slot,
+    index: &Index,
 ) -> Opening
-    requires { ⌜ Valid (now table) × In (now s) at × Fits (now cells) slot ⌝ }
+    requires { ⌜ Indexed (now table) (now index) × In (now s) at × Fits (now cells) slot ⌝ }
     ensures { λ r.
         ⌜ ReadsOpening (now (table .entry)) (now (s .entry)) at (nesting .left) (now (cells .entry)) slot r (now (cells .exit)) ⌝ }
 {
     match read_head(s, at) {
         Part::Refused { refusal, place } => Opening::Refused { refusal, place },
-        Part::Read { end: to, .. } => read_named(table, s, at, to, nesting, cells, slot),
+        Part::Read { end: to, .. } => read_named(table, s, at, to, nesting, cells, slot, index),
     }
 }
 
@@ -84,8 +86,9 @@ fn read_named(
     nesting: Nesting,
     cells: &mut [u32],
     slot: Slot,
+    index: &Index,
 ) -> Opening
-    requires { ⌜ Valid (now table) × In (now s) to × (at < to) × Fits (now cells) slot ⌝ }
+    requires { ⌜ Indexed (now table) (now index) × In (now s) to × (at < to) × Fits (now cells) slot ⌝ }
     ensures { λ r.
         ⌜ ReadsNamed (now (table .entry)) (now (s .entry)) at to (nesting .left) (now (cells .entry)) slot r (now (cells .exit)) ⌝ }
 {
@@ -93,7 +96,7 @@ fn read_named(
     let Deeper::Inside(inside) = nesting.step() else {
         return unopened(Refusal::TooDeep, at);
     };
-    match mode_of(table, &s[start..to]) {
+    match mode_of(table, index, &s[start..to]) {
         Mode::Absent => unopened(Refusal::Unlisted, start),
         Mode::Children => read_marker(s, start, to, forms::CHILDREN, inside, cells, slot),
         Mode::Content => read_marker(s, start, to, forms::CONTENT, inside, cells, slot),

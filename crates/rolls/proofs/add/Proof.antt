@@ -7,7 +7,7 @@ use native.Mathlib.Omega.{arith}
 use lib.ListN.{length, take, replicate}
 use lib.Seq.{length-take-le}
 use Rattle.paper.specs.Entries.{entryCells}
-use Rattle.modes.proofs.Tables.{accepted-valid}
+use Rattle.modes.proofs.Chains.{fresh}
 use Rattle.sheets.proofs.SheetLaws.{all-zero, table-refused, sheet-done}
 use Rattle.layout.proofs.WriteLaws.{refused-passed, none-counted, cells-inside, Read, tree-read}
 use Rattle.rolls.proofs.AddLaws.{refused-added, sheet-added}
@@ -22,33 +22,33 @@ abbrev size : tie.After-known-told → ℕ
 size c = c .before .reading .given .0 .1 .0 * entryCells
 
 abbrev top : tie.After-known-told → tie.Start
-top c = c .before .before .before .before .before .before .before .before .before .before .before .before .before .before
+top c = c .before .before .before .before .before .before .before .before .before .before .before .before .before .before .before .before
 
 inside : (c : tie.After-known-told) → size c ≤ length (mid c)
 inside c =
     let at-read-under = c .before .before .before .before .before in
-    let at-enum-told = at-read-under .before .before in
-    let at-read = at-enum-told .before .before in
-    let top = at-read .before .before .before .before .before in
+    let at-enum-told = at-read-under .before .before .before in
+    let at-read-into = at-enum-told .before .before in
+    let top = at-read-into .before .before .before .before .before .before in
     cells-inside (top .args .table .now) (top .args .sheet .now) (top .args .cells .now) (at-read-under .read-under .last .1 .1 .0)
     (top .args .roll .now) (at-read-under .read-under .result) _ _
-    (accepted-valid _ _ _ _ (at-read .read .ensures) (at-enum-told .enum-told .given .1)) (at-read-under .read-under .ensures)
+    (at-read-into .read-into .ensures .indexed _ _ (at-enum-told .enum-told .given .1) .valid) (at-read-under .read-under .ensures)
     (at-read-under .read-under .kept .1 .1 .0) (c .before .reading .given .1)
 
 -- the tree that the sheet reads to
 read : (c : tie.After-known-told) → Read (top c .args .table .now) (top c .args .sheet .now) (length (top c .args .cells .now)) (take (size c) (mid c))
 read c =
     let at-read-under = c .before .before .before .before .before in
-    let at-enum-told = at-read-under .before .before in
-    let at-read = at-enum-told .before .before in
-    let top = at-read .before .before .before .before .before in
+    let at-enum-told = at-read-under .before .before .before in
+    let at-read-into = at-enum-told .before .before in
+    let top = at-read-into .before .before .before .before .before .before in
     tree-read (top .args .table .now) (top .args .sheet .now) (top .args .cells .now) (at-read-under .read-under .last .1 .1 .0)
     (top .args .roll .now) (at-read-under .read-under .result) _ _
-    (accepted-valid _ _ _ _ (at-read .read .ensures) (at-enum-told .enum-told .given .1)) (at-read-under .read-under .ensures)
+    (at-read-into .read-into .ensures .indexed _ _ (at-enum-told .enum-told .given .1) .valid) (at-read-under .read-under .ensures)
     (at-read-under .read-under .kept .1 .1 .0) (c .before .reading .given .1)
 
-read-requires : tie.Need-read-requires
-read-requires c κs = search needs
+read-into-requires : tie.Need-read-into-requires
+read-into-requires c κs = fresh
 
 enum-told : tie.Need-enum-told
 enum-told c = search needs
@@ -66,15 +66,15 @@ returns : tie.Need-returns
 returns c =
     let at-zero-from = c .before .before in
     let at-enum-told2 = at-zero-from .before .before in
-    let at-read = at-enum-told2 .before .before in
-    let top = at-read .before .before .before .before .before in
+    let at-read-into = at-enum-told2 .before .before in
+    let top = at-read-into .before .before .before .before .before .before in
     refused-added (top .args .table .now) (top .args .sheet .now) (top .args .roll .now) (top .args .n) _ _ _
-    (refused-passed (top .args .table .now) (top .args .sheet .now) _ (at-read .read .result) _ _ (at-enum-told2 .enum-told2 .given .1) _
-    (table-refused (top .args .table .now) (top .args .sheet .now) (top .args .cells .now) (at-read .read .result) _ _ (at-read .read .ensures)
+    (refused-passed (top .args .table .now) (top .args .sheet .now) _ (at-read-into .read-into .result) _ _ (at-enum-told2 .enum-told2 .given .1) _
+    (table-refused (top .args .table .now) (top .args .sheet .now) (top .args .cells .now) (at-read-into .read-into .result) _ _ (at-read-into .read-into .ensures .answer)
     (at-enum-told2 .enum-told2 .given .1) _ (at-zero-from .zero-from .ensures)))
 
 read-under-requires : tie.Need-read-under-requires
-read-under-requires c κs = accepted-valid _ _ _ _ (c .before .before .before .read .ensures) (c .before .enum-told .given .1)
+read-under-requires c κs = c .before .before .before .before .read-into .ensures .indexed _ _ (c .before .before .enum-told .given .1)
 
 enum-known-reading : tie.Need-enum-known-reading
 enum-known-reading c = search needs
@@ -93,14 +93,14 @@ returns-2 c =
     let at-zero-from2 = c .before .before in
     let at-enum-told3 = at-zero-from2 .before .before in
     let at-read-under = at-enum-told3 .before .before .before .before in
-    let at-enum-told = at-read-under .before .before in
-    let at-read = at-enum-told .before .before in
-    let top = at-read .before .before .before .before .before in
+    let at-enum-told = at-read-under .before .before .before in
+    let at-read-into = at-enum-told .before .before in
+    let top = at-read-into .before .before .before .before .before .before in
     refused-added (top .args .table .now) (top .args .sheet .now) (top .args .roll .now) (top .args .n) _ _ _
     (refused-passed (top .args .table .now) (top .args .sheet .now) _ (at-read-under .read-under .result) _ _ (at-enum-told3 .enum-told3 .given .1) _
     (sheet-done (top .args .table .now) (top .args .sheet .now) (top .args .cells .now) (at-read-under .read-under .result) _ 0
     (at-read-under .read-under .ensures) (at-read-under .read-under .kept .1 .1 .0) (none-counted _ _ _ (at-enum-told3 .enum-told3 .given .1)) _
-    (accepted-valid _ _ _ _ (at-read .read .ensures) (at-enum-told .enum-told .given .1)) (at-zero-from2 .zero-from2 .ensures)))
+    (at-read-into .read-into .ensures .indexed _ _ (at-enum-told .enum-told .given .1) .valid) (at-zero-from2 .zero-from2 .ensures)))
 
 mul-end : tie.Need-mul-end
 mul-end c = omega (arith, inside c)
@@ -139,7 +139,7 @@ pub add-spec : {M : Type 1} → statement M
 add-spec =
     tie.close
     (tie.spec
-    read-requires
+    read-into-requires
     enum-told
     enum-told-2
     zero-from-requires

@@ -4,7 +4,7 @@ use native.Mathlib.Omega.{arith}
 use lib.ListN.{length}
 use Rattle.paper.specs.Entries.{entryCells}
 use borrow.Author.Needs.{needs}
-use Rattle.modes.proofs.Tables.{accepted-valid}
+use Rattle.modes.proofs.Chains.{fresh}
 use Rattle.sheets.proofs.SheetLaws.{table-refused, count-fits, sheet-done}
 use Rattle.sheets.proofs.read.Statement.{statement}
 use Rattle.sheets.proofs.read.Tie as tie
@@ -13,12 +13,12 @@ use Rattle.sheets.proofs.read.Tie as tie
 fits : (c : tie.After-count) → c .count .result * entryCells ≤ length (c .before .before .before .before .read-under .last .1 .1 .0)
 fits c =
     let at-read-under = c .before .before .before .before in
-    let top = at-read-under .before .before .before .before .before .before .before .before in
+    let top = at-read-under .before .before .before .before .before .before .before .before .before .before in
     count-fits (top .args .table .now) (top .args .sheet .now) (top .args .cells .now) (at-read-under .read-under .result) _ (c .count .result)
     (at-read-under .read-under .ensures) (at-read-under .read-under .kept .1 .1 .0) (c .count .ensures)
 
-read-requires : tie.Need-read-requires
-read-requires c κs = search needs
+read-into-requires : tie.Need-read-into-requires
+read-into-requires c κs = fresh
 
 enum-told : tie.Need-enum-told
 enum-told c = search needs
@@ -34,12 +34,12 @@ same-length c = search needs
 
 returns : tie.Need-returns
 returns c =
-    table-refused _ _ (c .before .before .before .before .before .before .before .before .before .before .args .cells .now) _ _ _
-    (c .before .before .before .before .before .before .read .ensures) (c .before .before .before .before .enum-told2 .given .1) _
+    table-refused _ _ (c .before .before .before .before .before .before .before .before .before .before .before .args .cells .now) _ _ _
+    (c .before .before .before .before .before .before .read-into .ensures .answer) (c .before .before .before .before .enum-told2 .given .1) _
     (c .before .before .zero-from .ensures)
 
 read-under-requires : tie.Need-read-under-requires
-read-under-requires c κs = accepted-valid _ _ _ _ (c .before .before .before .read .ensures) (c .before .enum-told .given .1)
+read-under-requires c κs = c .before .before .before .before .read-into .ensures .indexed _ _ (c .before .before .enum-told .given .1)
 
 count-requires : tie.Need-count-requires
 count-requires c κs = search needs
@@ -57,17 +57,17 @@ returns-2 : tie.Need-returns-2
 returns-2 c =
     let at-zero-from = c .before .before in
     let at-read-under = at-zero-from .before .before .before .before .before in
-    let top = at-read-under .before .before .before .before .before .before .before .before in
+    let top = at-read-under .before .before .before .before .before .before .before .before .before .before in
     sheet-done (top .args .table .now) (top .args .sheet .now) (top .args .cells .now) (at-read-under .read-under .result) _ (at-zero-from .before .count .result)
     (at-read-under .read-under .ensures) (at-read-under .read-under .kept .1 .1 .0) (at-zero-from .before .count .ensures) _
-    (accepted-valid _ _ _ _ (at-read-under .before .before .before .before .read .ensures) (at-read-under .before .before .enum-told .given .1))
+    (at-read-under .before .before .before .before .before .read-into .ensures .indexed _ _ (at-read-under .before .before .before .enum-told .given .1) .valid)
     (at-zero-from .zero-from2 .ensures)
 
 pub read-spec : {M : Type 1} → statement M
 read-spec =
     tie.close
     (tie.spec
-    read-requires
+    read-into-requires
     enum-told
     enum-told-2
     zero-from-requires

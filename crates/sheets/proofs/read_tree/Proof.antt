@@ -62,7 +62,7 @@ new-requires c κs = search needs
 read-annotated-requires : tie.Need-read-annotated-requires
 read-annotated-requires c κs =
     let top = c .before .before .before .before .before .before .before .before .before .before .before .before .before in
-    root-stands _ _ _ _ _ (top .pre .0) (top .pre .1) (leads (c .before .before .before) .inside) (c .before .before .room .ensures)
+    root-stands _ _ _ _ _ _ (top .pre .0) (top .pre .1) (leads (c .before .before .before) .inside) (c .before .before .room .ensures)
 
 enum-known-root : tie.Need-enum-known-root
 enum-known-root c = search needs

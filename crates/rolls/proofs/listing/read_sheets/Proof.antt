@@ -9,11 +9,11 @@ use Rattle.rolls.proofs.listing.read_sheets.Statement.{statement}
 use Rattle.rolls.proofs.listing.read_sheets.Tie as tie
 
 abbrev Inv-loop : tie.InvT-loop
-Inv-loop table roll records₀ count cells₀ n₀ records cells n =
+Inv-loop table roll records₀ count cells₀ index n₀ records cells n =
     ReadTo table roll (length cells₀) records₀ records count n × (length cells ≡ length cells₀)
 
 abbrev μ-loop : tie.MeasureT-loop
-μ-loop table roll records₀ count cells₀ n₀ records cells n = count - n
+μ-loop table roll records₀ count cells₀ index n₀ records cells n = count - n
 
 loop-holds : tie.Need-loop-holds Inv-loop μ-loop
 loop-holds c = (none-read _ _ _ _ _ (c .before .before .before .before .pre .1), refl)

@@ -58,87 +58,87 @@ use Rattle.sheets.proofs.concepts.+read_annotated+read_block+read_child
 
 -- ---- the measures, and what each function asks and learns
 
-abbrev μ-read-annotated : Measures 3 read-annotated-kinds.ps ℕ
+abbrev μ-read-annotated : Measures 4 read-annotated-kinds.ps ℕ
 μ-read-annotated κs a = 6 * (length (a .1 .0 .now) - a .1 .1 .0) + 1
 
-abbrev μ-read-block : Measures 3 read-block-kinds.ps ℕ
+abbrev μ-read-block : Measures 4 read-block-kinds.ps ℕ
 μ-read-block κs a = 6 * (length (a .1 .0 .now) - a .1 .1 .0) + 4
 
-abbrev μ-read-children : Measures 3 read-children-kinds.ps ℕ
+abbrev μ-read-children : Measures 4 read-children-kinds.ps ℕ
 μ-read-children κs a = 6 * (length (a .1 .0 .now) - a .1 .1 .0) + 3
 
-abbrev μ-read-concept : Measures 3 read-concept-kinds.ps ℕ
+abbrev μ-read-concept : Measures 4 read-concept-kinds.ps ℕ
 μ-read-concept κs a = 6 * (length (a .1 .0 .now) - a .1 .1 .0)
 
-abbrev μ-read-inside : Measures 3 read-inside-kinds.ps ℕ
+abbrev μ-read-inside : Measures 4 read-inside-kinds.ps ℕ
 μ-read-inside κs a = 6 * (length (a .1 .0 .now) - a .1 .1 .0) + 5
 
-abbrev μ-read-piece : Measures 3 read-piece-kinds.ps ℕ
+abbrev μ-read-piece : Measures 4 read-piece-kinds.ps ℕ
 μ-read-piece κs a = 6 * (length (a .1 .0 .now) - a .1 .1 .0) + 2
 
-abbrev read-annotated-at : ℕ → In 3 read-annotated-kinds.ps
+abbrev read-annotated-at : ℕ → In 4 read-annotated-kinds.ps
 read-annotated-at t =
     and
-    3
+    4
     read-annotated-kinds.ps
-    (is 3 read-annotated-kinds.ps μ-read-annotated t)
+    (is 4 read-annotated-kinds.ps μ-read-annotated t)
     read-annotated.Pre
 
-abbrev read-annotated-below : ℕ → In 3 read-annotated-kinds.ps
+abbrev read-annotated-below : ℕ → In 4 read-annotated-kinds.ps
 read-annotated-below t =
     and
-    3
+    4
     read-annotated-kinds.ps
-    (falls 3 read-annotated-kinds.ps _<_ μ-read-annotated t)
+    (falls 4 read-annotated-kinds.ps _<_ μ-read-annotated t)
     read-annotated.Pre
 
-abbrev read-block-at : ℕ → In 3 read-block-kinds.ps
+abbrev read-block-at : ℕ → In 4 read-block-kinds.ps
 read-block-at t =
-    and 3 read-block-kinds.ps (is 3 read-block-kinds.ps μ-read-block t) read-block.Pre
+    and 4 read-block-kinds.ps (is 4 read-block-kinds.ps μ-read-block t) read-block.Pre
 
-abbrev read-block-below : ℕ → In 3 read-block-kinds.ps
+abbrev read-block-below : ℕ → In 4 read-block-kinds.ps
 read-block-below t =
-    and 3 read-block-kinds.ps (falls 3 read-block-kinds.ps _<_ μ-read-block t) read-block.Pre
+    and 4 read-block-kinds.ps (falls 4 read-block-kinds.ps _<_ μ-read-block t) read-block.Pre
 
-abbrev read-children-at : ℕ → In 3 read-children-kinds.ps
+abbrev read-children-at : ℕ → In 4 read-children-kinds.ps
 read-children-at t =
-    and 3 read-children-kinds.ps (is 3 read-children-kinds.ps μ-read-children t) read-children.Pre
+    and 4 read-children-kinds.ps (is 4 read-children-kinds.ps μ-read-children t) read-children.Pre
 
-abbrev read-children-below : ℕ → In 3 read-children-kinds.ps
+abbrev read-children-below : ℕ → In 4 read-children-kinds.ps
 read-children-below t =
     and
-    3
+    4
     read-children-kinds.ps
-    (falls 3 read-children-kinds.ps _<_ μ-read-children t)
+    (falls 4 read-children-kinds.ps _<_ μ-read-children t)
     read-children.Pre
 
-abbrev read-concept-at : ℕ → In 3 read-concept-kinds.ps
+abbrev read-concept-at : ℕ → In 4 read-concept-kinds.ps
 read-concept-at t =
-    and 3 read-concept-kinds.ps (is 3 read-concept-kinds.ps μ-read-concept t) read-concept.Pre
+    and 4 read-concept-kinds.ps (is 4 read-concept-kinds.ps μ-read-concept t) read-concept.Pre
 
-abbrev read-concept-below : ℕ → In 3 read-concept-kinds.ps
+abbrev read-concept-below : ℕ → In 4 read-concept-kinds.ps
 read-concept-below t =
     and
-    3
+    4
     read-concept-kinds.ps
-    (falls 3 read-concept-kinds.ps _<_ μ-read-concept t)
+    (falls 4 read-concept-kinds.ps _<_ μ-read-concept t)
     read-concept.Pre
 
-abbrev read-inside-at : ℕ → In 3 read-inside-kinds.ps
+abbrev read-inside-at : ℕ → In 4 read-inside-kinds.ps
 read-inside-at t =
-    and 3 read-inside-kinds.ps (is 3 read-inside-kinds.ps μ-read-inside t) read-inside.Pre
+    and 4 read-inside-kinds.ps (is 4 read-inside-kinds.ps μ-read-inside t) read-inside.Pre
 
-abbrev read-inside-below : ℕ → In 3 read-inside-kinds.ps
+abbrev read-inside-below : ℕ → In 4 read-inside-kinds.ps
 read-inside-below t =
-    and 3 read-inside-kinds.ps (falls 3 read-inside-kinds.ps _<_ μ-read-inside t) read-inside.Pre
+    and 4 read-inside-kinds.ps (falls 4 read-inside-kinds.ps _<_ μ-read-inside t) read-inside.Pre
 
-abbrev read-piece-at : ℕ → In 3 read-piece-kinds.ps
+abbrev read-piece-at : ℕ → In 4 read-piece-kinds.ps
 read-piece-at t =
-    and 3 read-piece-kinds.ps (is 3 read-piece-kinds.ps μ-read-piece t) read-piece.Pre
+    and 4 read-piece-kinds.ps (is 4 read-piece-kinds.ps μ-read-piece t) read-piece.Pre
 
-abbrev read-piece-below : ℕ → In 3 read-piece-kinds.ps
+abbrev read-piece-below : ℕ → In 4 read-piece-kinds.ps
 read-piece-below t =
-    and 3 read-piece-kinds.ps (falls 3 read-piece-kinds.ps _<_ μ-read-piece t) read-piece.Pre
+    and 4 read-piece-kinds.ps (falls 4 read-piece-kinds.ps _<_ μ-read-piece t) read-piece.Pre
 
 abbrev read-annotated-calls : ℕ → read-annotated-lts.Claims
 read-annotated-calls t =
@@ -210,8 +210,8 @@ read-piece-calls t = (
 -- the annotations are read
 annotated-notes : (t : ℕ) (c : read-annotated-lts.After-notes (read-annotated-calls t) (read-annotated-at t) read-annotated.Post)
     → let start = c .before .before .before .before .before .before .before .before .before .args in
-    annotated.NotesAt (start .table .now) (start .s .now) (start .at) (start .cells .now) (start .slot) (c .before .before .before .before .read-all .last .1 .1 .0)
-    (c .notes .given .0 .0) (c .notes .given .0 .1 .0)
+    annotated.NotesAt (start .table .now) (start .index .now) (start .s .now) (start .at) (start .cells .now) (start .slot)
+    (c .before .before .before .before .read-all .last .1 .1 .0) (c .notes .given .0 .0) (c .notes .given .0 .1 .0)
 annotated-notes t c =
     annotated.notes-at (c .before .before .before .before .before .before .before .before .before .pre .1) (c .before .before .before .before .read-all .ensures)
     (c .notes .given .1)
@@ -270,8 +270,8 @@ read-annotated-returns-2 t c =
     annotated.concept-refused (annotated-notes t (at-read-concept .before .before .before .before .before)) (at-read-concept .before .before .before .end .ensures)
     (at-read-concept .before .after .ensures) _ (at-read-concept .read-concept .ensures) (c .enum-told2 .given .1)
 
-read-annotated-add-t17 : (t : ℕ) → read-annotated-lts.Need-add-t17 (read-annotated-calls t) (read-annotated-at t) read-annotated.Post
-read-annotated-add-t17 t c =
+read-annotated-add-t18 : (t : ℕ) → read-annotated-lts.Need-add-t18 (read-annotated-calls t) (read-annotated-at t) read-annotated.Post
+read-annotated-add-t18 t c =
     let at-read-concept = c .before .before .before .before .before in
     let notes = annotated-notes t (at-read-concept .before .before .before .before .before) in
     omega (
@@ -281,8 +281,8 @@ read-annotated-add-t17 t c =
       notes .stands .fits .few,
     )
 
-read-annotated-add-t21 : (t : ℕ) → read-annotated-lts.Need-add-t21 (read-annotated-calls t) (read-annotated-at t) read-annotated.Post
-read-annotated-add-t21 t c =
+read-annotated-add-t22 : (t : ℕ) → read-annotated-lts.Need-add-t22 (read-annotated-calls t) (read-annotated-at t) read-annotated.Post
+read-annotated-add-t22 t c =
     let notes =
     annotated-notes t (c .before .before .before .before .before .before .before .before .before .before) in omega (arith, notes .few, notes .stands .fits .few)
 
@@ -377,10 +377,10 @@ read-block-returns-4 t c =
 -- ---- read_children: what the pieces from `i` on make, those from `at` on make; what is left of the slice falls
 
 abbrev read-children-Inv-loop : read-children-lts.InvT-loop
-read-children-Inv-loop table s at nesting cells₀ slot i₀ made₀ own₀ fixed cells i made own = Pieces table s at (nesting .left) cells₀ slot cells i made own
+read-children-Inv-loop table s at nesting cells₀ slot index i₀ made₀ own₀ fixed cells i made own = Pieces table s at (nesting .left) cells₀ slot cells i made own
 
 abbrev read-children-μ-loop : read-children-lts.MeasureT-loop
-read-children-μ-loop table s at nesting cells₀ slot i₀ made₀ own₀ fixed cells i made own = length s - i
+read-children-μ-loop table s at nesting cells₀ slot index i₀ made₀ own₀ fixed cells i made own = length s - i
 
 -- a piece that is read ends further on, and leaves room
 children-ahead : (t : ℕ) (c : read-children-lts.After-piece (read-children-calls t) (read-children-at t) read-children.Post read-children-Inv-loop read-children-μ-loop)
@@ -488,7 +488,7 @@ read-children-loop-again t c =
 concept-marker : (t : ℕ) (c : read-concept-lts.After-form (read-concept-calls t) (read-concept-at t) read-concept.Post)
     → let start = c .before .before .before .before .before .before .before .before .before .args in
     let read = c .form .given .0 in
-    MarkerAt (start .table .now) (start .s .now) (start .at) (start .cells .now) (start .slot) (start .nesting .left)
+    MarkerAt (start .table .now) (start .index .now) (start .s .now) (start .at) (start .cells .now) (start .slot) (start .nesting .left)
     (c .before .before .before .before .read-opening .last .1 .1 .1 .1 .0) (read .0) (read .1 .0) (read .1 .1 .0) (read .1 .1 .1 .0) (read .1 .1 .1 .1 .0)
     (read .1 .1 .1 .1 .1 .0)
 concept-marker t c =
@@ -501,7 +501,7 @@ concept-marker t c =
 
 read-concept-read-opening-requires : (t : ℕ) → read-concept-lts.Need-read-opening-requires (read-concept-calls t) (read-concept-at t) read-concept.Post
 read-concept-read-opening-requires t c κs =
-    (c .before .before .before .before .pre .1 .valid, c .before .before .before .before .pre .1 .in-sheet, c .before .before .before .before .pre .1 .fits)
+    (c .before .before .before .before .pre .1 .indexed, c .before .before .before .before .pre .1 .in-sheet, c .before .before .before .before .pre .1 .fits)
 
 read-concept-enum-known-refusal : (t : ℕ) → read-concept-lts.Need-enum-known-refusal (read-concept-calls t) (read-concept-at t) read-concept.Post
 read-concept-enum-known-refusal t c = search needs
@@ -746,8 +746,8 @@ pub +read-annotated+read-block+read-children+read-concept+read-inside+read-piece
     (read-annotated-enum-told-2 t)
     (read-annotated-same-length-2 t)
     (read-annotated-returns-2 t)
-    (read-annotated-add-t17 t)
-    (read-annotated-add-t21 t)
+    (read-annotated-add-t18 t)
+    (read-annotated-add-t22 t)
     (read-annotated-same-length-3 t)
     (read-annotated-returns-3 t))
     (λ t. read-block-lts.spec (read-block-calls t)
