@@ -1,9 +1,10 @@
 /* Does one thing with a sheet or a roll, many times over: the program that tests/speed counts instructions of.
  *
- *     speed read|write|add|roll|each TABLE INPUT LENT TIMES
+ *     speed read|write|add|roll|each|table TABLE INPUT LENT TIMES
  *
  * TABLE and INPUT are files, LENT says how many entry cells are lent. INPUT is a sheet, which is read, or its form is written, or added to
- * a roll; or it is a roll, which is read, or each of its sheets is read by itself. That is done TIMES times, each time into the same rooms.
+ * a roll; or it is a roll, which is read, or each of its sheets is read by itself; or only TABLE is read. That is done TIMES times, each
+ * time into the same rooms.
  * The last answer is printed: number, place and count.
  */
 #include "cdx.h"
@@ -45,10 +46,15 @@ static void read_each(void)
         cdx_sheet(table, table_len, input + record[CDX_SHEET_START], record[CDX_SHEET_END] - record[CDX_SHEET_START], cells, lent, answer);
 }
 
+static void read_table(void)
+{
+    cdx_table(table, table_len, answer);
+}
+
 static const struct {
     const char *name;
     void (*run)(void);
-} tasks[] = {{"read", read_sheet}, {"write", write_form}, {"add", add_form}, {"roll", read_roll}, {"each", read_each}};
+} tasks[] = {{"read", read_sheet}, {"write", write_form}, {"add", add_form}, {"roll", read_roll}, {"each", read_each}, {"table", read_table}};
 
 /* Puts a file into the room of an input, as far as both go, and gives its length. */
 static size_t load(const char *path, uint8_t *room, size_t size)
@@ -69,7 +75,7 @@ int main(int argc, char **argv)
     while (task < count && (argc != 6 || strcmp(argv[1], tasks[task].name) != 0))
         task++;
     if (task == count) {
-        fprintf(stderr, "usage: speed read|write|add|roll|each TABLE INPUT LENT TIMES\n");
+        fprintf(stderr, "usage: speed read|write|add|roll|each|table TABLE INPUT LENT TIMES\n");
         return 2;
     }
     table_len = load(argv[2], table, sizeof table);
