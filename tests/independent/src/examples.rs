@@ -43,9 +43,15 @@ fn value_refused(value: &str, number: u32, place: usize) {
     refused(format!("<Lab n={value}"), number, place);
 }
 
+/// No kind fits the value at place 7, which `place` shows.
+#[track_caller]
+fn value_no_kind_at(value: &str, place: usize) {
+    value_refused(&format!("{value} />"), 6, place);
+}
+
 #[track_caller]
 fn value_no_kind(value: &str) {
-    value_refused(&format!("{value} />"), 6, 7);
+    value_no_kind_at(value, 7);
 }
 
 #[track_caller]
@@ -206,16 +212,16 @@ fn readings_16_to_19() {
     refused("<Lab n=04", 9, 9);
     refused("<Lab n=", 9, 7);
     refused("<Lab n=1/", 9, 9);
-    // 17
+    // 17; request Four has moved the places of 6, here and in 18
     for cut in ["\"\\uD8", "\"\\u{110000", "\"\\u{D800"] {
         value_refused(cut, 9, 7 + cut.len());
     }
     for whole in ["\"\\uD800", "\"\\u{}", "\"\\u{1234567", "\"\\ug", "\"\\q"] {
-        value_refused(whole, 6, 7);
+        value_refused(whole, 6, 8);
     }
     // 18
-    value_refused("'ab", 6, 7);
-    value_refused("''", 6, 7);
+    value_refused("'ab", 6, 9);
+    value_refused("''", 6, 8);
     value_refused("'a", 9, 9);
     // 19
     refused("[a\\", 9, 3);
@@ -364,11 +370,11 @@ fn readings_38_and_39() {
     refused("<Lab n=>", 6, 7);
     refused("<Lab n=/>", 6, 7);
     refused("<Lab n= />", 6, 7);
-    // 39
-    for list in ["[ ]", "[ 1]", "[1 ]", "[1 ,2]", "[1,]", "[,1]", "[\"a\"b]", "[1>"] {
-        value_no_kind(list);
+    // 39; request Four has moved the places
+    for (list, place) in [("[ ]", 8), ("[ 1]", 8), ("[1 ]", 9), ("[1 ,2]", 9), ("[1,]", 10), ("[,1]", 8), ("[\"a\"b]", 11), ("[1>", 9)] {
+        value_no_kind_at(list, place);
     }
-    value_refused("[1 ", 6, 7);
+    value_refused("[1 ", 6, 9);
     value_refused("[1", 9, 9);
     value_refused("[1,", 9, 10);
     value_refused("[1, ", 9, 11);
@@ -379,7 +385,7 @@ fn readings_40_and_41() {
     value_form("[x:[a]", 12);
     value_refused("[x:[a]] />", 7, 13);
     // 41
-    value_refused("[04,[[[[[[[[[", 6, 7);
+    value_refused("[04,[[[[[[[[[", 6, 8);
     value_refused("[[[[[[[[[?", 10, 15);
     value_refused("[[[[[[[[[", 10, 15);
 }
@@ -431,9 +437,9 @@ fn readings_43_to_45() {
     // 44
     written("\"\t\"", "\"\\t\"");
     written("'\t'", "'\\t'");
-    value_no_kind("\"\\uD83D\\uDE00\"");
+    value_no_kind_at("\"\\uD83D\\uDE00\"", 8);
     written("\"\\u{000041}\"", "\"A\"");
-    value_no_kind("\"\\u{0000041}\"");
+    value_no_kind_at("\"\\u{0000041}\"", 8);
     // 45
     written("`a\\\\`b`", "\"a\\\\`b\"");
     written("` a\r\n\t b\u{A0} `", "\"a b\u{A0}\"");
@@ -600,7 +606,7 @@ fn request_one() {
 fn taken_out(first: u32, last: u32) {
     for letter in (first..=last).filter_map(char::from_u32) {
         value_no_kind(&format!("x:{letter}"));
-        value_no_kind(&format!("[x:a{letter}b]"));
+        value_no_kind_at(&format!("[x:a{letter}b]"), 8);
         value_form(&format!("\"x:{letter}\""), 1);
         value_form(&format!("`x:{letter}`"), 1);
         value_form(&format!("'{letter}'"), 2);
@@ -638,7 +644,7 @@ fn time_of_kind(value: &str, kind: usize) {
 fn no_time(value: &str) {
     assert_eq!(time_answer(value.as_bytes()), 0, "{value}");
     value_no_kind(value);
-    value_no_kind(&format!("[1,{value}]"));
+    value_no_kind_at(&format!("[1,{value}]"), 10);
 }
 
 #[test]
@@ -649,7 +655,7 @@ fn request_two_reading_4() {
     refused("<Lab n={x", 9, 9);
     refused("<Lab n={", 9, 8);
     refused("<Lab n=[1,{now]/>", 9, 17);
-    refused("<Lab n=[04,{now]/>", 6, 7);
+    refused("<Lab n=[04,{now]/>", 6, 8);
     refused("<Lab n={{now}} />", 6, 7);
     refused("<Lab n={now\r\n} />", 6, 7);
     refused("<Lab n={now\r} />", 3, 11);
@@ -658,7 +664,7 @@ fn request_two_reading_4() {
 #[test]
 fn request_two_reading_5() {
     refused("<Lab n={now}x />", 7, 12);
-    refused("<Lab n=[{now}x] />", 6, 7);
+    refused("<Lab n=[{now}x] />", 6, 13);
     accepted("<Lab n={now}/>");
     refused("<Lab n=x:{now} />", 6, 7);
     accepted("<Lab n={now}>\n</Lab>");
@@ -667,8 +673,8 @@ fn request_two_reading_5() {
     refused("<Lab n={now}m=1 />", 7, 12);
     refused("<Lab n={now}", 9, 12);
     refused("<Lab n=[{now}", 9, 13);
-    refused("<Lab n=[{now} ] />", 6, 7);
-    refused("<Lab n=[{now}{now}] />", 6, 7);
+    refused("<Lab n=[{now} ] />", 6, 13);
+    refused("<Lab n=[{now}{now}] />", 6, 13);
     refused("<Lab n=1{now} />", 6, 7);
     refused("<Lab n=x:{now", 9, 13);
 }
@@ -731,7 +737,8 @@ fn request_two_reading_9() {
 
 #[test]
 fn request_two_reading_10() {
-    refused("<Lab n=[{now},{noon}] />", 6, 7);
+    // request Four has moved the place from 7
+    refused("<Lab n=[{now},{noon}] />", 6, 14);
     refused_with("<Lab n={now}?", 8, 11, 5);
     refused_with("<Lab n={no}?", 8, 6, 7);
     refused_with("<Lab n={no", 8, 9, 10);
@@ -771,4 +778,117 @@ fn request_two_time_answers() {
         assert_eq!(time_answer(value.as_bytes()), 0, "{value}");
     }
     assert_eq!(time_answer(b"{\xFF}"), 0);
+}
+
+// ---- Request Four; the numbers are those of READINGS-02.md
+
+/// A value that no kind fits, at fault behind so many of its bytes: as a trait's whole value, in a list, in two, and behind other items.
+#[track_caller]
+fn at_fault(value: &str, behind: usize) {
+    for before in ["", "[", "[[", "[1,", "[[],\t\"[\\\\\", [{now}, x:y, 'a',\r\n"] {
+        let inside = if before.is_empty() { "" } else { "]" };
+        value_refused(&format!("{before}{value}{inside} />"), 6, 7 + before.len() + behind);
+    }
+}
+
+#[test]
+fn request_four() {
+    // the backslash of a bad escape
+    at_fault("\"boot\\q\"", 5);
+    at_fault("\"\\n\\'\"", 3);
+    at_fault("'\\\"'", 1);
+    // the line end that cuts a string or character
+    at_fault("\"boot\n\"", 5);
+    at_fault("'\r\n'", 1);
+    // the second scalar of a character, or the closing quote of an empty one
+    at_fault("'ab'", 2);
+    at_fault("'\u{e9}b'", 3);
+    at_fault("''", 1);
+    // the first byte of a bad word, the opening brace of a bad time
+    at_fault("04", 0);
+    at_fault("{noon}", 0);
+    // where a comma or the closing bracket was due
+    at_fault("[1 2]", 2);
+    at_fault("[1;2]", 1);
+    at_fault("[\"a\"'b']", 4);
+    value_no_kind("04");
+}
+
+#[test]
+fn request_four_reading_12() {
+    refused("<Lab n=>", 6, 7);
+    refused("<Lab n=[,1] />", 6, 8);
+    refused("<Lab n=[1, ] />", 6, 11);
+    refused("<Lab n=[ 1] />", 6, 8);
+    refused("<Lab n=[1,\r\n\t] />", 6, 13);
+    refused("<Lab n=[1,,2] />", 6, 10);
+    refused("<Lab n=[1,>", 6, 10);
+    refused("<Lab n=[1, />", 6, 11);
+}
+
+#[test]
+fn request_four_reading_13() {
+    refused("<Lab n=\"a\\\n", 6, 9);
+    refused("<Lab n=\"\\u00\n", 6, 8);
+    refused("<Lab n=\"a\r\n", 6, 9);
+    refused("<Lab n=[1\r\n] />", 6, 9);
+    refused("<Lab n=\"a\\\r\n", 6, 9);
+    refused("<Lab n=\"\\u{0\r\n", 6, 8);
+}
+
+#[test]
+fn request_four_reading_14() {
+    refused("<Lab n='ab' />", 6, 9);
+    refused("<Lab n='' />", 6, 8);
+    refused("<Lab n=''' />", 6, 8);
+    refused("<Lab n='\n", 6, 8);
+    refused("<Lab n='a\n", 6, 9);
+    refused("<Lab n='a\\n' />", 6, 9);
+    refused("<Lab n='a\\q' />", 6, 9);
+    refused("<Lab n='\\na' />", 6, 10);
+    refused("<Lab n='\\qb' />", 6, 8);
+    refused("<Lab n='\u{1F600}\u{1F600}' />", 6, 12);
+    refused("<Lab n='\\u{1F600}b", 6, 17);
+}
+
+#[test]
+fn request_four_reading_15() {
+    refused("<Lab n=[1,x:\"a] />", 6, 10);
+    refused("<Lab n=-04 />", 6, 7);
+    refused("<Lab n=x:y\\z />", 6, 7);
+    refused("<Lab n=[x:y, 12a, 1] />", 6, 13);
+}
+
+#[test]
+fn request_four_reading_16() {
+    refused("<Lab n=[1 ] />", 6, 9);
+    refused("<Lab n=[\"a\"b] />", 6, 11);
+    refused("<Lab n=[1>", 6, 9);
+    refused("<Lab n=[1/>", 6, 9);
+    refused("<Lab n=[[1]2] />", 6, 11);
+    refused("<Lab n=[[1],[2,04]] />", 6, 15);
+    refused("<Lab n=[1,{ now}] />", 6, 10);
+    refused("<Lab n=[[1]", 9, 11);
+    refused("<Lab n=[[]>", 6, 10);
+    refused("<Lab n=[[]]]", 7, 11);
+}
+
+#[test]
+fn request_four_reading_17() {
+    refused("<Lab n=\"\\u{110000}\" />", 6, 8);
+    refused("<Lab n=\"\\uD83D", 6, 8);
+    refused("<Lab n=[1,[[[[[[[[2", 10, 17);
+    refused_with("<Lab n=[1,04] />", 8, 6, 10);
+    refused_with("<Lab n=[1, 4] />", 24, 11, 11);
+    refused_with("<Lab n=[4 ", 0, 11, 1);
+}
+
+/// Whoever passes the place on passes this one: a writing, an adding and a roll's record.
+#[test]
+fn request_four_is_passed_on() {
+    let sheet = "<Lab n=[1,\"a\\q\"] />\n";
+    let refusal = Answer { number: 6, place: 12, count: 0 };
+    assert_eq!(write_form(TABLE, sheet.as_bytes(), ALL, 16_384), (refusal, Vec::new()));
+    adds(sheet, b"<Lab />\n", 60, 8, Err((6, 12)));
+    records(format!("<Lab/>\n{sheet}<Lab/>\n"), &[[0, 7, 0, 7, 1], [7, 27, 6, 12, 0], [27, 34, 0, 7, 1]]);
 }

@@ -32,7 +32,7 @@ const SMALL: usize = 200;
 /// The requests about one table, sheet, roll or time, of all kinds.
 fn add_requests(lines: &mut Vec<String>, chance: &mut Chance, longest: usize) {
     let names = if SMALL < longest && chance.one_in(6) { Names::many(chance) } else { Names::random(chance) };
-    match chance.below(440) {
+    match chance.below(520) {
         0..=19 => add_table(lines, chance, &names, longest),
         20..=27 => add_limit(lines, chance, longest),
         28 => add_cuts(lines, chance, &names, longest),
@@ -51,6 +51,10 @@ fn add_requests(lines: &mut Vec<String>, chance: &mut Chance, longest: usize) {
         130..=189 => add_roll(lines, chance, &names, longest),
         190..=249 => add_adding(lines, chance, &names, longest),
         250..=329 => add_time(lines, chance, longest),
+        330..=409 => {
+            let sheet = one_fault(chance);
+            add_sheet(lines, chance, &Names::papers().table(), &sheet, longest);
+        }
         _ => {
             let sheet = any_sheet(chance, &names);
             add_sheet(lines, chance, &names.table(), &sheet, longest);
@@ -733,6 +737,92 @@ const FAULTY_TIMES: [&str; 118] = [
     "{\"}\"}", "{{now}}", "{\u{662}024-01-01}",
 ];
 
+// ---- Faults inside values
+
+/// A sheet with a value that has a fault inside: in lists, between other items, behind other bytes of a string; at times cut.
+fn one_fault(chance: &mut Chance) -> Vec<u8> {
+    let lists = if chance.one_in(8) { chance.below(LISTS_DEEP + 2) } else { chance.below(4) };
+    let mut value = String::new();
+    for _ in 0..lists {
+        value.push('[');
+        for _ in 0..chance.below(3) {
+            value.push_str(&good_item(chance));
+            value.push_str(chance.pick(&ITEM_ENDS));
+        }
+    }
+    value.push_str(&faulty_value(chance));
+    for _ in 0..lists {
+        for _ in 0..chance.below(2) {
+            value.push_str(chance.pick(&ITEM_ENDS));
+            value.push_str(&good_item(chance));
+        }
+        value.push(']');
+    }
+    let around = [
+        ("<Lab n=", " />"),
+        ("<Lab n=", "/>"),
+        ("<Lab n=", ">\n</Lab>"),
+        ("<Lab a=\"\\n\" b=[1, 2]\r\n\tn=", " m=04 />"),
+        ("[a]\n\t<Lab>\n<Steps n=", ">\n\tx\n</Steps>\n</Lab>"),
+    ];
+    let (before, behind) = around[chance.below(around.len())];
+    let sheet = format!("{before}{value}{behind}").into_bytes();
+    let length = if chance.one_in(8) { chance.below(sheet.len() + 1) } else { sheet.len() };
+    sheet[..length].to_vec()
+}
+
+/// What may stand between two items.
+const ITEM_ENDS: [&str; 5] = [",", ",", ", ", ",\n\t", ",\r\n"];
+
+/// A value that may stand in a list, seldom one itself.
+fn good_item(chance: &mut Chance) -> String {
+    let names = Names::papers();
+    let mut printer = Printer::new(chance, &names, false);
+    printer.value(1, true);
+    String::from_utf8(printer.text).expect("values are text")
+}
+
+/// What mostly is no value: a word, a time, a string, a character or a list with a fault.
+fn faulty_value(chance: &mut Chance) -> String {
+    match chance.below(6) {
+        0 | 1 => chance.pick(&FAULTY_VALUES).to_string(),
+        2 => nearly_time(chance),
+        3 => faulty_string(chance),
+        4 => faulty_character(chance),
+        _ => {
+            let due = chance.pick(&["", " ", ";", ":", " ,", "\n", "\r\n,", ",,", ", ,", ">", "/>", "\"", "{", "[", "=", "\\", "\u{e9}"]);
+            format!("[{}{due}{}]", good_item(chance), good_item(chance))
+        }
+    }
+}
+
+/// A string with a bad escape or a line end somewhere.
+fn faulty_string(chance: &mut Chance) -> String {
+    let good =
+        ["a", "boot 7", "\\n", "\\\\", "\\\"", "\\u0041", "\\u{1F600}", "\u{e9}", "\u{1F600}", "'", "\t", "[", ",", "0123456789abcdef"];
+    let faults = [
+        "\\q", "\\'", "\\\n", "\\\r\n", "\n", "\r\n", "\\u00\n", "\\ug", "\\u12", "\\uD800", "\\uDFFF", "\\u{}", "\\u{110000}",
+        "\\u{D800}", "\\u{1234567}", "\\u{0", "\\U0041", "\\ ", "\\x41", "\\\u{e9}",
+    ];
+    let fault = chance.below(6);
+    let mut string = String::from("\"");
+    for piece in 0..6 {
+        string.push_str(if piece == fault { chance.pick(&faults) } else { chance.pick(&good) });
+    }
+    string + "\""
+}
+
+/// A character of none, two or three scalars, or with a bad escape or a line end.
+fn faulty_character(chance: &mut Chance) -> String {
+    let scalars = [
+        "a", "\"", "\u{e9}", "\u{1F600}", "\t", "\\n", "\\'", "\\u0041", "\\u{10ffff}", "\\q", "\\\"", "\\uD800", "\\u{}", "\n", "\r\n",
+        "\\\n",
+    ];
+    let count = *chance.pick(&[&0, &1, &2, &2, &2, &3]);
+    let inside: String = (0..count).map(|_| chance.pick(&scalars)).collect();
+    format!("'{inside}'")
+}
+
 // ---- Damage
 
 /// The bytes with one to three of them changed, inserted or removed.
@@ -1031,12 +1121,8 @@ impl<'a> Printer<'a> {
     /// A value of a random kind. A word is kept from running into the byte behind it by the caller's white space.
     fn value(&mut self, lists: usize, in_list: bool) {
         if self.slip() {
-            if self.chance.one_in(3) {
-                let time = nearly_time(self.chance);
-                self.put(&time);
-            } else {
-                self.put_one_of(&FAULTY_VALUES);
-            }
+            let value = faulty_value(self.chance);
+            self.put(&value);
             return;
         }
         match self.chance.below(12) {

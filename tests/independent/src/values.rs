@@ -1,5 +1,6 @@
 //! Reads one value of a trait or a list: where its spelling ends, of which kind it is, what it spells.
-//! Follows document 01, "Values", with 001 §12 (numbers), §14 (IRIs), §19 (lists), and §18 (times) as request Two asks for it.
+//! Follows document 01, "Values", with 001 §12 (numbers), §14 (IRIs), §19 (lists), and §18 (times) as request Two asks for it; the place of 6
+//! is that of request Four.
 
 use crate::reader::{Refusal, Span};
 use crate::times::kind_of_body;
@@ -56,9 +57,9 @@ impl Kind {
     }
 }
 
-/// Why a value is not read: refusals 6, 9 and 10, before their places are known.
+/// Why a value is not read: refusals 6, 9 and 10.
 enum Fault {
-    NoKindFits,
+    NoKindFits { at: usize },
     InputEnds,
     TooDeep { bracket: usize },
 }
@@ -66,10 +67,10 @@ enum Fault {
 /// A scalar or a whole value, and the place just past it.
 type Past<T> = Result<(T, usize), Fault>;
 
-/// Reads the whole value of a trait, which begins at `start`. 6 is placed at the whole value, 9 at the input's end.
+/// Reads the whole value of a trait, which begins at `start`. 6 is placed where request Four says, 9 at the input's end.
 pub fn read_value(sheet: &[u8], start: usize) -> Result<Value, Refusal> {
     value(sheet, start, LISTS_DEEP, false).map_err(|fault| match fault {
-        Fault::NoKindFits => Refusal { number: 6, place: start },
+        Fault::NoKindFits { at } => Refusal { number: 6, place: at },
         Fault::InputEnds => Refusal { number: 9, place: sheet.len() },
         Fault::TooDeep { bracket } => Refusal { number: 10, place: bracket },
     })
@@ -104,13 +105,14 @@ fn scalar(sheet: &[u8], at: usize) -> (char, usize) {
     (text.chars().next().expect("one scalar"), at + length)
 }
 
+/// A string. A line end that cuts it is at fault itself.
 fn string(sheet: &[u8], start: usize) -> Past<Kind> {
     let mut text = String::new();
     let mut at = start + 1;
     loop {
         let (one, past) = match byte(sheet, at)? {
             b'"' => return Ok((Kind::String(text), at + 1)),
-            b'\n' | b'\r' => return Err(Fault::NoKindFits),
+            b'\n' | b'\r' => return Err(Fault::NoKindFits { at }),
             b'\\' => escape(sheet, at, b'"')?,
             _ => scalar(sheet, at),
         };
@@ -119,57 +121,63 @@ fn string(sheet: &[u8], start: usize) -> Past<Kind> {
     }
 }
 
+/// A character. At fault is the closing quote of an empty one, the line end that cuts it, or its second scalar, an escape too.
 fn character(sheet: &[u8], start: usize) -> Past<Kind> {
-    let (one, past) = match byte(sheet, start + 1)? {
-        b'\'' | b'\n' | b'\r' => return Err(Fault::NoKindFits),
-        b'\\' => escape(sheet, start + 1, b'\'')?,
-        _ => scalar(sheet, start + 1),
+    let first = start + 1;
+    let (one, past) = match byte(sheet, first)? {
+        b'\'' | b'\n' | b'\r' => return Err(Fault::NoKindFits { at: first }),
+        b'\\' => escape(sheet, first, b'\'')?,
+        _ => scalar(sheet, first),
     };
     match byte(sheet, past)? {
         b'\'' => Ok((Kind::Character(one), past + 1)),
-        _ => Err(Fault::NoKindFits),
+        _ => Err(Fault::NoKindFits { at: past }),
     }
 }
 
-/// An escape whose backslash stands at `at`; `quote` is the quote that may be escaped.
+/// An escape whose backslash stands at `at`, where it is at fault if it is bad; `quote` is the quote that may be escaped.
 fn escape(sheet: &[u8], at: usize, quote: u8) -> Past<char> {
     match byte(sheet, at + 1)? {
         b'\\' => Ok(('\\', at + 2)),
         b'n' => Ok(('\n', at + 2)),
         b'r' => Ok(('\r', at + 2)),
         b't' => Ok(('\t', at + 2)),
-        b'u' if byte(sheet, at + 2)? == b'{' => escape_in_braces(sheet, at + 3),
-        b'u' => escape_of_four(sheet, at + 2),
+        b'u' if byte(sheet, at + 2)? == b'{' => escape_in_braces(sheet, at),
+        b'u' => escape_of_four(sheet, at),
         other if other == quote => Ok((quote as char, at + 2)),
-        _ => Err(Fault::NoKindFits),
+        _ => Err(Fault::NoKindFits { at }),
     }
 }
 
 /// `\uXXXX`, judged at its fourth digit.
-fn escape_of_four(sheet: &[u8], digits: usize) -> Past<char> {
+fn escape_of_four(sheet: &[u8], backslash: usize) -> Past<char> {
+    let bad = || Fault::NoKindFits { at: backslash };
+    let digits = backslash + 2;
     let mut number = 0;
     for at in digits..digits + 4 {
-        number = number * 16 + hex_digit(byte(sheet, at)?).ok_or(Fault::NoKindFits)?;
+        number = number * 16 + hex_digit(byte(sheet, at)?).ok_or_else(bad)?;
     }
-    Ok((char::from_u32(number).ok_or(Fault::NoKindFits)?, digits + 4))
+    Ok((char::from_u32(number).ok_or_else(bad)?, digits + 4))
 }
 
 /// `\u{..}` with 1 to 6 digits, judged at its brace or at the first byte that cannot stand there.
-fn escape_in_braces(sheet: &[u8], digits: usize) -> Past<char> {
+fn escape_in_braces(sheet: &[u8], backslash: usize) -> Past<char> {
+    let bad = || Fault::NoKindFits { at: backslash };
+    let digits = backslash + 3;
     let mut number = 0;
     let mut at = digits;
     while byte(sheet, at)? != b'}' {
-        let digit = hex_digit(sheet[at]).ok_or(Fault::NoKindFits)?;
+        let digit = hex_digit(sheet[at]).ok_or_else(bad)?;
         if at == digits + 6 {
-            return Err(Fault::NoKindFits);
+            return Err(bad());
         }
         number = number * 16 + digit;
         at += 1;
     }
     if at == digits {
-        return Err(Fault::NoKindFits);
+        return Err(bad());
     }
-    Ok((char::from_u32(number).ok_or(Fault::NoKindFits)?, at + 1))
+    Ok((char::from_u32(number).ok_or_else(bad)?, at + 1))
 }
 
 fn hex_digit(byte: u8) -> Option<u32> {
@@ -199,7 +207,7 @@ pub fn spaces_joined(text: &str) -> String {
     pieces.join(" ")
 }
 
-/// A list: no items, or values split by "," and optional white space (001 §19).
+/// A list: no items, or values split by "," and optional white space (001 §19). A byte that stands where a comma or "]" was due is at fault.
 fn list(sheet: &[u8], start: usize, lists: usize) -> Past<Kind> {
     if lists == 0 {
         return Err(Fault::TooDeep { bracket: start });
@@ -216,18 +224,18 @@ fn list(sheet: &[u8], start: usize, lists: usize) -> Past<Kind> {
         match byte(sheet, at)? {
             b']' => return Ok((Kind::List(items), at + 1)),
             b',' => at = past_white_space(sheet, at + 1),
-            _ => return Err(Fault::NoKindFits),
+            _ => return Err(Fault::NoKindFits { at }),
         }
     }
 }
 
-/// A time in braces is read up to the first "}", whatever stands before it, and only then judged.
+/// A time in braces is read up to the first "}", whatever stands before it, and only then judged; a bad one is at fault at its "{".
 fn temporal(sheet: &[u8], start: usize) -> Past<Kind> {
     let mut at = start + 1;
     while byte(sheet, at)? != b'}' {
         at += 1;
     }
-    kind_of_body(&sheet[start + 1..at]).ok_or(Fault::NoKindFits)?;
+    kind_of_body(&sheet[start + 1..at]).ok_or(Fault::NoKindFits { at: start })?;
     Ok((Kind::Temporal, at + 1))
 }
 
@@ -243,14 +251,15 @@ fn past_white_space(sheet: &[u8], mut at: usize) -> usize {
     at
 }
 
-/// A word is judged only at its end, so one that runs to the end of input is cut, whatever it spells so far.
+/// A word is judged only at its end, so one that runs to the end of input is cut, whatever it spells so far. A bad one is at fault at its
+/// first byte, an empty one where it was due.
 fn word(sheet: &[u8], start: usize, in_list: bool) -> Past<Kind> {
     let mut at = start;
     while !ends_word(sheet, at, in_list) {
         at += 1;
     }
     byte(sheet, at)?;
-    let kind = kind_of_word(&sheet[start..at]).ok_or(Fault::NoKindFits)?;
+    let kind = kind_of_word(&sheet[start..at]).ok_or(Fault::NoKindFits { at: start })?;
     Ok((kind, at))
 }
 
