@@ -19,7 +19,7 @@ use Rattle.paper.specs.Tree.{Trait, Marker, blank, Ending, block, self, 
 use Rattle.paper.specs.Grammar.{tabsOnto, inMode}
 use Rattle.paper.specs.Entries.{itemEntries, traitSize, bodySize}
 use Rattle.paper.specs.ReadingValues.{insideOf, itself, judged, fourDigits, bracedDigits, escape, pieceTurn, closeCharacter, characterOf}
-use Rattle.paper.specs.ReadingValues.{backtickTurn, wordLength, wordOf, leafOf, valueOf, moreOf, itemAnd, wholeValue, temporalOf}
+use Rattle.paper.specs.ReadingValues.{backtickTurn, wordLength, wordOf, leafOf, valueOf, moreOf, itemAnd, temporalOf}
 use Rattle.paper.specs.Reading.{Bounds, lineEnd, lineRest, isBlankLine, blankTurn, blankLines, isTab, noSpace, tabsOnly, nameOf, name, due, makes}
 use Rattle.paper.specs.Reading.{textOf, escapeOf, annotation, annotationTurn, annotations}
 use Rattle.paper.specs.Reading.{enters, trait, traitDue, traitTurn, ending, Opened, opened, admitted, head, opening, closing}
@@ -36,7 +36,7 @@ use Rattle.paper.proofs.Pieces.{byInside, turn-closes, turn-escapes, tu
 use Rattle.paper.proofs.Leaves.{byFirst, character-closes, character-breaks, character-escapes, character-itself, character-broken}
 use Rattle.paper.proofs.Leaves.{leaf-string, leaf-character, leaf-backtick, leaf-word, leaf-temporal, temporal-none, temporal-there}
 use Rattle.paper.proofs.ReadValues.{ReadValue, value-reads, value-of-deep, value-of-leaf, value-of-empty, value-of-list, more-of-end}
-use Rattle.paper.proofs.ReadValues.{more-of-close, more-of-comma, more-of-other, whole-found, whole-fault}
+use Rattle.paper.proofs.ReadValues.{more-of-close, more-of-comma, more-of-other}
 use Rattle.paper.proofs.Markers.{trait-shorter}
 use Rattle.paper.proofs.Concepts.{ReadOpening, opening-reads, ReadPiece, piece-reads}
 use Rattle.paper.proofs.Fuel.{marker-shorter, concept-of, block-of, body-of}
@@ -302,14 +302,6 @@ mutual
   more-ends (suc n) lists [] h = rw (more-of-end lists) cut
   more-ends (suc n) lists (b ∷ l) h = behind-ends n (λ m l k. value-ends n m listEnders l k) (λ m l k. more-ends n m l k) lists b l (omega arith)
 
-whole-ends : (lists : ℕ) (s : List ℕ) → Ends (wholeValue lists s)
-whole-ends lists s = go (valueOf lists [] s) refl (value-ends (suc (length s)) lists [] s (omega arith))
-  where
-    go : (x : Found Value) → valueOf lists [] s ≡ x → Ends x → Ends (wholeValue lists s)
-    go (found v left) e finds = rw (whole-found lists s v left e) finds
-    go (fault n left) e cut = rw (whole-fault lists s 9 [] e) cut
-    go (fault n left) e (other f) = rw (whole-fault lists s n left e) (other f)
-
 -- ---- markers
 
 enters-ends : (room : ℕ) (named valued : List ℕ) (t : Trait) (left : List ℕ) → Ends (enters room named valued t left)
@@ -328,7 +320,7 @@ unfolding trait
 trait-ends by room white s =
     then (name (isName isLower (by .names)) s) (name-ends _ s)
     (λ w left. then (due (byte "=") left) (due-ends (byte "=") left)
-    (λ b valued. then (wholeValue (by .lists) valued) (whole-ends (by .lists) valued) (λ v left. enters-ends room s valued _ left)))
+    (λ b valued. then (valueOf (by .lists) [] valued) (value-ends (suc (length valued)) (by .lists) [] valued (omega arith)) (λ v left. enters-ends room s valued _ left)))
 
 traits-end : (by : Bounds) (room : ℕ) (s : List ℕ) → Ends (manyOf traitSize (traitTurn by) room s)
 unfolding traitTurn traitDue

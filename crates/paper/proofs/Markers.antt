@@ -16,7 +16,7 @@ use Rattle.paper.specs.Tree.{Trait, Marker, Ending, block, self}
 use Rattle.paper.specs.Grammar.{traitOnto, traitsOnto, endingOnto, closingOnto, traitRule, slashLast, opensBlock}
 use Rattle.paper.specs.Limits.{traitFits}
 use Rattle.paper.specs.Entries.{itemEntries, traitSize, traitsSize}
-use Rattle.paper.specs.ReadingValues.{wholeValue}
+use Rattle.paper.specs.ReadingValues.{valueOf}
 use Rattle.paper.specs.Reading.{Bounds, name, due, enters, trait, traitDue, traitTurn, ending, Opened, opened, closing}
 use Rattle.paper.proofs.Tests.{split, true-false, apart}
 use Rattle.paper.proofs.Lists.{both, and, all-head, front-all, front-behind, front-of, behind-of, same-is, same-of}
@@ -24,7 +24,7 @@ use Rattle.paper.proofs.Finds.{Tail, whole, past, tail-length, tail-the
 use Rattle.paper.proofs.Runs.{many-reads, Shorter, turns-shorter, run-more, run-over}
 use Rattle.paper.proofs.Lines.{fault-end, rule-name, ReadName, name-reads, name-complete, due-reads, due-complete}
 use Rattle.paper.proofs.Leaves.{Follows}
-use Rattle.paper.proofs.ReadValues.{ReadValue, whole-reads, whole-complete}
+use Rattle.paper.proofs.ReadValues.{ReadValue, value-reads, value-back}
 
 -- ---- one trait
 
@@ -73,8 +73,8 @@ unfolding trait
 trait-reads by room white s =
     reads-on s (λ w left. ReadName (isName isLower (by .names)) s w left) _ _ (name (isName isLower (by .names)) s) (name-reads (isName isLower (by .names)) s)
     (λ w mid u n. reads-on s (λ b left. mid ≡ byte "=" ∷ left) _ _ (due (byte "=") mid) (reads-in u _ (due (byte "=") mid) (due-reads (byte "=") mid))
-    (λ b valued u d. reads-on s (λ v left. ReadValue (by .lists) [] valued v left) _ _ (wholeValue (by .lists) valued)
-    (reads-in u _ (wholeValue (by .lists) valued) (whole-reads (by .lists) valued))
+    (λ b valued u d. reads-on s (λ v left. ReadValue (by .lists) [] valued v left) _ _ (valueOf (by .lists) [] valued)
+    (reads-in u _ (valueOf (by .lists) [] valued) (value-reads (suc (length valued)) (by .lists) [] valued))
     (λ v left x r. reads-as s _ _ (enters room s valued (record { white = white; name = w; value = v }) left) (enters-reads s room s valued (record {
       white = white;
       name = w;
@@ -313,7 +313,7 @@ trait-complete by room t next r w f k =
     rw (
       name-complete (isName isLower (by .names)) (t .name) (byte "=") (valueOnto (t .value) next) (n .0) (n .1) (and (p .2) (q .0)) refl,
       due-complete (byte "=") (valueOnto (t .value) next),
-      whole-complete (by .lists) (t .value) next (p .3) (leb-true (listDepth (t .value)) (by .lists) (q .1)) k,
+      value-back (t .value) (by .lists) [] next (p .3) (leb-true (listDepth (t .value)) (by .lists) (q .1)) k,
     )
     (enters-complete room (t .name ++ (byte "=" ∷ valueOnto (t .value) next)) (valueOnto (t .value) next) t next f)
 

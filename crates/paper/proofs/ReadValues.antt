@@ -7,11 +7,11 @@ use native.Mathlib.Omega.{arith}
 use lib.ListN.{length, drop, length-append}
 use lib.Dec.{eqb}
 use borrow.Author.Tests.{eqb-true}
-use Rattle.paper.specs.Found.{Found, found, fault, andThen, pick}
+use Rattle.paper.specs.Found.{Found, found, fault, andThen}
 use Rattle.paper.specs.Bytes.{byte, bytes, isWhite, isBlank, isLineEnd, all, elem, startsIn, startsWith, front, behind, lengthIn, space, tab, lf, cr, is}
 use Rattle.paper.specs.Values.{isEnder, endsWord, listEnders, Leaf, leafOnto, leafRule, Value, leaf, emptyList, list, More, close, comma, valueOnto, moreOnto}
 use Rattle.paper.specs.Values.{spelling, valueRule, moreRule, valueInSlash, listDepth, moreDepth}
-use Rattle.paper.specs.ReadingValues.{valueOf, moreOf, itemAnd, leafOf, value, items, wholeValue}
+use Rattle.paper.specs.ReadingValues.{valueOf, moreOf, itemAnd, leafOf, value, items}
 use Rattle.paper.specs.Canonical.{valueSense}
 use Rattle.paper.proofs.Tests.{split, true-false, apart, or-left, or-right}
 use Rattle.paper.proofs.Finds.{whole, past, tail-drop, tail-length, faults, Reads, reads-in, reads-map, reads-two, two-same}
@@ -318,25 +318,6 @@ module _ (lists : ℕ) where
   pub more-of-other : (b : ℕ) (l : List ℕ) → eqb b (byte "]") ≡ false → eqb b (byte ",") ≡ false → moreOf lists (b ∷ l) ≡ fault 6 (b ∷ l)
   more-of-other b l e f = items-other (suc (length l)) lists l b e f
 
--- ---- a trait's whole value
-
--- as the value is, but a 6 is at the first byte
-module _ (lists : ℕ) (s : List ℕ) where
-  pub whole-found : (v : Value) (left : List ℕ) → valueOf lists [] s ≡ found v left → wholeValue lists s ≡ found v left
-  unfolding wholeValue
-  whole-found v left e = rw (e, wholeValue)
-
-  pub whole-fault : (n : ℕ) (left : List ℕ) → valueOf lists [] s ≡ fault n left → wholeValue lists s ≡ fault n (pick (eqb n 6) s left)
-  unfolding wholeValue
-  whole-fault n left e = rw (e, wholeValue)
-
-  pub whole-reads : Reads s (ReadValue lists [] s) (wholeValue lists s)
-  whole-reads = go (valueOf lists [] s) refl (value-reads (suc (length s)) lists [] s)
-    where
-      go : (x : Found Value) → valueOf lists [] s ≡ x → Reads s (ReadValue lists [] s) x → Reads s (ReadValue lists [] s) (wholeValue lists s)
-      go (found v left) e h = rw (whole-found v left e, Reads) h
-      go (fault n left) e h = rw (whole-fault n left e, Reads) (split (eqb n 6) (λ f. rw f (faults n (h .least, h .most) whole)) (λ f. rw f h))
-
 -- ---- a spelt value is read back
 
 no-list : (also : List ℕ) (v : Leaf) (next : List ℕ) → leafRule also v ≡ true → startsWith (bytes "[") (leafOnto v next) ≡ false
@@ -387,10 +368,6 @@ pub value-complete : (fuel lists : ℕ) (also : List ℕ) (v : Value) (next : Li
     → length (valueOnto v next) < fuel → value fuel lists also (valueOnto v next) ≡ found v next
 value-complete fuel lists also v next r d f h =
     value-fuel fuel (suc (length (valueOnto v next))) lists also (valueOnto v next) h (omega arith) ∙ value-back v lists also next r d f
-
-pub whole-complete : (lists : ℕ) (v : Value) (next : List ℕ) → valueRule [] v ≡ true → listDepth v ≤ lists → Follows [] (valueInSlash v) next
-    → wholeValue lists (valueOnto v next) ≡ found v next
-whole-complete lists v next r d f = whole-found lists (valueOnto v next) v next (value-back v lists [] next r d f)
 
 -- ---- a spelling is that of one value
 

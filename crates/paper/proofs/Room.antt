@@ -17,7 +17,7 @@ use Rattle.paper.specs.Tree.{Trait, Marker, Ending, block, self, Concept
 use Rattle.paper.specs.Grammar.{inMode}
 use Rattle.paper.specs.Limits.{sheetLimit, conceptLimit}
 use Rattle.paper.specs.Entries.{itemEntries, traitSize, bodySize}
-use Rattle.paper.specs.ReadingValues.{wholeValue}
+use Rattle.paper.specs.ReadingValues.{valueOf}
 use Rattle.paper.specs.Reading.{Bounds, bounds, blankLines, isBlankLine, isTab, tabsOnly, lineRest, name, due, makes, textOf, annotation, annotationTurn}
 use Rattle.paper.specs.Reading.{annotations, enters, trait, traitDue, traitTurn, Opened, opened, admitted, head, opening, contentOf, roomIn, insideBy, annotatedBy}
 use Rattle.paper.specs.Reading.{pieceBy, isClosing, concept, childrenOf, body, conceptOf, sheetTree, sheetOf}
@@ -134,7 +134,7 @@ within-opened by room wide w s l =
     one room wide white s l =
         within-on (name (isName isLower (by .names)) s) _ _
         (λ v left. within-on (due (byte "=") left) _ _
-        (λ b valued. within-on (wholeValue (by .lists) valued) _ _ (λ x left. within-enters room wide s valued _ left l)))
+        (λ b valued. within-on (valueOf (by .lists) [] valued) _ _ (λ x left. within-enters room wide s valued _ left l)))
 
     due-one : (room wide : ℕ) (s white rest : List ℕ) → room ≤ wide → Turns (traitDue by room s white rest) (traitDue by wide s white rest)
     due-one room wide s white [] l = inl refl

@@ -117,7 +117,7 @@ cases =
     }
     ∷ refusedCase "<Lab n={1900-02-29} />" (refused 6 7) ∷ refusedCase "<Lab n={now />\n}" (refused 6 7)
     ∷ refusedCase "<Lab n={ x />\n</Lab>\n" (refused 9 21) ∷ refusedCase "<Lab n={now}x />" (refused 7 12)
-    ∷ refusedCase "<Lab n=[{now}x] />" (refused 6 7) ∷ refusedCase "<Lab n=x:{now} />" (refused 6 7)
+    ∷ refusedCase "<Lab n=[{now}x] />" (refused 6 13) ∷ refusedCase "<Lab n=x:{now} />" (refused 6 7)
     ∷ record {
       sheet = "<Lab n=[{now},{P1DT2.5H}] />";
       lent = 32;
@@ -127,6 +127,14 @@ cases =
           ∷ 3 ∷ 13 ∷ 1 ∷ 0 ∷ 8 ∷ 8 ∷ 8 ∷ 13 ∷ 3 ∷ 13 ∷ 1 ∷ 0 ∷ 14 ∷ 14 ∷ 14 ∷ 24 ∷ [];
       form = "<Lab n=[{now}, {P1DT2.5H}] />\n";
     }
+    -- request Four: a bad escape, a line end, a second scalar and none, a word, a time, and where a comma or "]" was due: in a trait, then inside two lists
+    ∷ refusedCase "<Lab n=\"a\\q\" />" (refused 6 9) ∷ refusedCase "<Lab n=\"a\n" (refused 6 9) ∷ refusedCase "<Lab n='a\n" (refused 6 9)
+    ∷ refusedCase "<Lab n='ab' />" (refused 6 9) ∷ refusedCase "<Lab n='' />" (refused 6 8) ∷ refusedCase "<Lab n=-04 />" (refused 6 7)
+    ∷ refusedCase "<Lab n={noon} />" (refused 6 7) ∷ refusedCase "<Lab n=[1 ] />" (refused 6 9)
+    ∷ refusedCase "<Lab n=[[1],[2,\"a\\q\"]] />" (refused 6 17) ∷ refusedCase "<Lab n=[[1],[2,\"a\n" (refused 6 17)
+    ∷ refusedCase "<Lab n=[[1],[2,'a\n" (refused 6 17) ∷ refusedCase "<Lab n=[[1],[2,'ab']] />" (refused 6 17)
+    ∷ refusedCase "<Lab n=[[1],[2,'']] />" (refused 6 16) ∷ refusedCase "<Lab n=[[1],[2,04]] />" (refused 6 15)
+    ∷ refusedCase "<Lab n=[[1],[2,{noon}]] />" (refused 6 15) ∷ refusedCase "<Lab n=[[1],[2 ]] />" (refused 6 14)
     ∷ []
 
 pub starred : map seen cases ≡ map due cases
@@ -155,7 +163,7 @@ unfolding table cases formOf seen many
     ReadingValues.judged ReadingValues.fourDigits ReadingValues.bracedDigits ReadingValues.escape
     ReadingValues.insideOf ReadingValues.pieceTurn ReadingValues.closeCharacter ReadingValues.characterOf
     ReadingValues.backtickTurn ReadingValues.wordLength ReadingValues.wordOf ReadingValues.temporalOf ReadingValues.firstOf
-    ReadingValues.leafOf ReadingValues.value ReadingValues.wholeValue
+    ReadingValues.leafOf ReadingValues.value
     Reading.lineEnd Reading.blankTurn Reading.noSpace Reading.nameOf Reading.due Reading.makes Reading.textOf
     Reading.annotation Reading.annotationTurn Reading.enters Reading.trait Reading.traitDue Reading.traitTurn
     Reading.ending Reading.opened Reading.admitted Reading.closing Reading.atLineEnd Reading.closesLine

@@ -17,7 +17,7 @@ use Rattle.paper.specs.Tree.{BodyPiece, blankPiece, elementPiece, before
 use Rattle.paper.specs.Grammar.{tabsOnto, closingOnto, inMode}
 use Rattle.paper.specs.Limits.{sheetLimit, entryLimit, conceptLimit, listLimit}
 use Rattle.paper.specs.Entries.{entryCells, itemEntries, traitSize, traitsSize, bodySize, entries, filled}
-use Rattle.paper.specs.ReadingValues.{wholeValue}
+use Rattle.paper.specs.ReadingValues.{valueOf}
 
 -- how long names and how deep lists may be
 pub record Bounds : Type 0 where
@@ -130,7 +130,7 @@ enters room named valued t left =
 
 unfoldable pub trait : Bounds → ℕ → List ℕ → List ℕ → Found Trait
 trait by room white s =
-    andThen (name (isName isLower (by .names)) s) (λ w left. andThen (due (byte "=") left) (λ b valued. andThen (wholeValue (by .lists) valued) (λ v left.
+    andThen (name (isName isLower (by .names)) s) (λ w left. andThen (due (byte "=") left) (λ b valued. andThen (valueOf (by .lists) [] valued) (λ v left.
     enters room s valued (record { white = white; name = w; value = v }) left)))
 
 -- behind the name or a value: another trait after white space, or the end of the marker

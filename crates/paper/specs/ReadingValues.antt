@@ -1,5 +1,5 @@
 -- Reading a value from the front of a list: its tree and what is left, or the fault met first.
--- Document 01, "The grammar", Values, and refusals 6, 9 and 10 of "Refusal numbers" and "Order"; document 02, Two.
+-- Document 01, "The grammar", Values, and refusals 9 and 10 of "Refusal numbers" and "Order"; document 02, Two, and Four: the place of a 6.
 use Prim.Native.Nat.{ℕ, zero, suc}
 use mathlib.Core.Bool.{true, false}
 use mathlib.Core.List.{List, [], _∷_, map}
@@ -137,7 +137,7 @@ leafOf also (b ∷ l) =
       | other ↦ wordLeaf also (b ∷ l)
     ]
 
--- a value where so many lists are still allowed; the place of a 6 is that of the inner fault. The fuel is above the length
+-- a value where so many lists are still allowed; a fault of an item is that of its list, place and all. The fuel is above the length
 unfoldable mutual
   pub value : ℕ → ℕ → List ℕ → List ℕ → Found Value
   value zero lists also s = fault 9 s
@@ -176,7 +176,3 @@ moreOf lists s = items (suc (length s)) lists s
 
 abbrev pub itemAnd : {A : Type 0} → ℕ → (Value → More → A) → List ℕ → Found A
 itemAnd lists make s = andThen (valueOf lists listEnders s) (λ v left. andThen (moreOf lists left) (λ more end. found (make v more) end))
-
--- a trait's whole value: a 6 is at its first byte
-unfoldable pub wholeValue : ℕ → List ℕ → Found Value
-wholeValue lists s = elim (valueOf lists [] s) [ found v left ↦ found v left | fault n left ↦ fault n (pick (eqb n 6) s left) ]

@@ -15,14 +15,14 @@ use Rattle.paper.specs.Found.{Found, found, fault, andThen, placeIn}
 use Rattle.paper.specs.Limits.{sheetLimit, entryLimit, listLimit}
 use Rattle.paper.specs.Values.{Value, leaf, emptyList, list, More, close, comma, valueOnto, moreOnto, valueForm}
 use Rattle.paper.specs.Tree.{Trait}
-use Rattle.paper.specs.ReadingValues.{wholeValue}
+use Rattle.paper.specs.ReadingValues.{valueOf}
 use Rattle.paper.specs.Entries.{Entry, valueWidth, itemsOf, itemSize, itemEntry, itemEntries, moreEntries, traitSize}
 use Rattle.paper.specs.Reading.{enters, name, due, trait, bounds}
 use Rattle.paper.specs.Bytes.{byte}
 use Rattle.paper.specs.Names.{isTraitName}
 use Rattle.paper.proofs.Tests.{upTo}
 use Rattle.paper.proofs.Sizes.{item-size}
-use Rattle.paper.proofs.ReadValues.{ReadValue, value-length, whole-reads}
+use Rattle.paper.proofs.ReadValues.{ReadValue, value-length, value-reads}
 use Rattle.paper.proofs.Markers.{enters-complete}
 use Rattle.text.proofs.Places.{place-back}
 use Rattle.entries.specs.Laid.{lay, slotUnder, Fits}
@@ -93,14 +93,14 @@ formless y = record { number = y .number; place = y .place; made = 0; own = 0 }
 pub record ValueAt (s : List ℕ) (at : ℕ) : Type 0 where
   pub it : Value
   pub end : ℕ
-  pub whole : wholeValue listLimit (drop at s) ≡ found it (drop end s)
+  pub whole : valueOf listLimit [] (drop at s) ≡ found it (drop end s)
   pub wide : end ≡ at + valueWidth it
   pub inside : end ≤ length s
 
-module _ {s : List ℕ} {at : ℕ} {value : Judged} (h : Judges valueForm s at (wholeValue listLimit (drop at s)) value) where
+module _ {s : List ℕ} {at : ℕ} {value : Judged} (h : Judges valueForm s at (valueOf listLimit [] (drop at s)) value) where
   pub value-at : (form end : ℕ) → value ≡ Judged.Found form end → ValueAt s at
   value-at form end q =
-      let f = stands h (ReadValue listLimit [] (drop at s)) (whole-reads listLimit (drop at s)) form end q in
+      let f = stands h (ReadValue listLimit [] (drop at s)) (value-reads (suc (length (drop at s))) listLimit [] (drop at s)) form end q in
       record {
         it = f .it;
         end = end;
@@ -110,8 +110,8 @@ module _ {s : List ℕ} {at : ℕ} {value : Judged} (h : Judges valueForm s at (
       }
 
   -- a value's refusal as that of a part
-  value-passed : {why : Refusal} {place : ℕ} → value ≡ Judged.Refused why place → seen (Refused why place) ≡ passed s (wholeValue listLimit (drop at s))
-  value-passed {why} {place} q = ap (λ (y : Judged). formless (shown y)) (sym q) ∙ ap formless (h .same) ∙ go (wholeValue listLimit (drop at s))
+  value-passed : {why : Refusal} {place : ℕ} → value ≡ Judged.Refused why place → seen (Refused why place) ≡ passed s (valueOf listLimit [] (drop at s))
+  value-passed {why} {place} q = ap (λ (y : Judged). formless (shown y)) (sym q) ∙ ap formless (h .same) ∙ go (valueOf listLimit [] (drop at s))
     where
       go : (x : Found Value) → formless (shownOf valueForm s x) ≡ passed s x
       go (found v left) = refl
@@ -166,10 +166,10 @@ module _ {s : List ℕ} {from to : ℕ} (place : In s (to + 1)) (between : from 
   abbrev of-value : Found Value → Found Trait
   of-value x = andThen x (λ v left. enters (leftOf slot) (drop from s) (drop (to + 1) s) (record { white = white; name = w; value = v }) left)
 
-  pub trait-refused : {value : Judged} → Judges valueForm s (to + 1) (wholeValue listLimit (drop (to + 1) s)) value → {why : Refusal} {at : ℕ}
+  pub trait-refused : {value : Judged} → Judges valueForm s (to + 1) (valueOf listLimit [] (drop (to + 1) s)) value → {why : Refusal} {at : ℕ}
       → value ≡ Judged.Refused why at → {r : Part} → r ≡ Refused why at → Made r cells
   trait-refused h {why} {at} q {r} e = makes-passed _ _ _ _ _ _ _ r cells (λ v. 0) (λ v. 0) of-value (λ k left. refl)
-      (wholeValue listLimit (drop (to + 1) s)) why at (ap seen e ∙ value-passed h q) e refl
+      (valueOf listLimit [] (drop (to + 1) s)) why at (ap seen e ∙ value-passed h q) e refl
 
   module _ (value : ValueAt s (to + 1)) {o : Bool} (asked : o ≡ leb (slot .room) (slot .next)) where
     abbrev it : Trait
@@ -183,11 +183,11 @@ module _ {s : List ℕ} {from to : ℕ} (place : In s (to + 1)) (between : from 
         (by-value ∙ no-room _ _ _ it _ (omega (arith, leb-true (slot .room) (slot .next) (sym asked ∙ t))))
 
     module _ (f : o ≡ false) {under : Slot} (u : under ≡ slotUnder slot) {items : Entered} {mid : List ℕ}
-        (h : Enters s (to + 1) cells under (wholeValue listLimit (drop (to + 1) s)) items mid) where
+        (h : Enters s (to + 1) cells under (valueOf listLimit [] (drop (to + 1) s)) items mid) where
       one-left : leftOf slot ≡ suc (leftOf (slotUnder slot))
       one-left = omega (arith, leb-false (slot .room) (slot .next) (sym asked ∙ f))
 
-      entered : Enters s (to + 1) cells (slotUnder slot) (wholeValue listLimit (drop (to + 1) s)) items mid
+      entered : Enters s (to + 1) cells (slotUnder slot) (valueOf listLimit [] (drop (to + 1) s)) items mid
       entered = rw u at h
 
       -- an item has no entry left

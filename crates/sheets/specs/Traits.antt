@@ -2,13 +2,13 @@
 -- Document 01, "The grammar", Markers, "Sizes" and "Entries".
 use Prim.Native.Nat.{ℕ, _+_, _-_}
 use mathlib.Core.Path.{_≡_}
-use mathlib.Core.List.{List, _∷_}
+use mathlib.Core.List.{List, [], _∷_}
 use lib.ListN.{length, drop}
 use Rattle.paper.specs.Found.{Found, andThen, manyOf}
 use Rattle.paper.specs.Limits.{listLimit}
 use Rattle.paper.specs.Values.{valueForm}
 use Rattle.paper.specs.Tree.{Trait}
-use Rattle.paper.specs.ReadingValues.{wholeValue}
+use Rattle.paper.specs.ReadingValues.{valueOf}
 use Rattle.paper.specs.Entries.{Entry, valueWidth, itemsOf, itemEntries, traitSize, traitsSize, traitEntries}
 use Rattle.paper.specs.Reading.{bounds, enters, trait, traitTurn}
 use Rattle.entries.specs.declared.Slot.{Slot}
@@ -22,7 +22,7 @@ traitsOf room s = manyOf traitSize (traitTurn bounds) room s
 
 -- a trait from its value on, which is due in front of s; `named` is the list from its name on
 abbrev pub valueIn : ℕ → List ℕ → List ℕ → List ℕ → List ℕ → Found Trait
-valueIn room named white w s = andThen (wholeValue listLimit s) (λ v left. enters room named s (record { white = white; name = w; value = v }) left)
+valueIn room named white w s = andThen (valueOf listLimit [] s) (λ v left. enters room named s (record { white = white; name = w; value = v }) left)
 
 -- the entries of a trait whose name starts at `at`: its own, and those of its items
 abbrev pub oneTrait : ℕ → ℕ → ℕ → Trait → List Entry

@@ -10,14 +10,14 @@ use Rattle.paper.specs.declared.Refusal.the-variants.{TooDeep}
 use Rattle.paper.specs.Found.{Found, found, fault, andThen, placeIn}
 use Rattle.paper.specs.Bytes.{byte, bytes, isWhite, lengthIn, front, behind, startsWith}
 use Rattle.paper.specs.Values.{listEnders, Leaf, leafForm, Value, leaf, emptyList, list, valueForm, More, close, comma}
-use Rattle.paper.specs.ReadingValues.{leafOf, valueOf, moreOf, itemAnd, wholeValue}
+use Rattle.paper.specs.ReadingValues.{leafOf, valueOf, moreOf, itemAnd}
 use Rattle.paper.specs.Entries.{Entry, unnamed, valueWidth, itemsOf, moreItems, itemSize, moreSize, itemEntry, itemEntries, moreEntries}
 use Rattle.paper.specs.Answer.{numberOf}
 use Rattle.paper.proofs.Told.{number-positive}
 use Rattle.paper.proofs.Tests.{upTo}
 use Rattle.paper.proofs.Lists.{length-in}
 use Rattle.paper.proofs.Finds.{Reads}
-use Rattle.paper.proofs.ReadValues.{ReadValue, value-reads, value-length, value-of-leaf, more-of-comma, whole-found, whole-fault}
+use Rattle.paper.proofs.ReadValues.{ReadValue, value-reads, value-length, value-of-leaf, more-of-comma}
 use Rattle.paper.proofs.Sizes.{item-size}
 use Rattle.text.proofs.Places.{left-at}
 use Rattle.text.proofs.Stretch.{Stretch, behind-at}
@@ -28,7 +28,7 @@ use Rattle.values.specs.declared.judged.Judged.{Judged}
 use Rattle.values.specs.declared.entering.Entered.{Entered}
 use Rattle.values.specs.declared.entering.Entered.the-variants.{Items, Full}
 use Rattle.values.specs.Entering.{withoutItems, leftOf, firstOver, entriesFrom, sizeFrom}
-use Rattle.values.specs.Entering.{Ahead, Enters, EntersValue, EntersWhole, EntersFrom, EntersItems}
+use Rattle.values.specs.Entering.{Ahead, Enters, EntersValue, EntersFrom, EntersItems}
 use Rattle.values.specs.Shown.{Shown, foundAt, refusedAt, shown, shownOf, Judges}
 use Rattle.values.proofs.Showing.{fails}
 use Rattle.values.proofs.ListLaws.{byte-at, Opened, leaf-value, deep-value, empty-found, empty-value, list-found}
@@ -334,12 +334,15 @@ module _ (s : List ℕ) (at lists : ℕ) (also cells : List ℕ) (slot : Slot) w
       go (found u end) v left q = let k : leaf u ≡ v = cc in rw (← k) (bare-leaf u)
       go (fault n end) v left q = let z : _≡_ {A = ℕ} 0 1 = cc in absurd (omega arith)
 
+  pub read-enters : (read : Judged) → startsWith (bytes "[") (drop at s) ≡ false → Judges valueForm s at (valueOf lists also (drop at s)) read
+      → (r : Entered) → r ≡ withoutItems read → EntersValue lists also s at cells slot r cells
+  read-enters read e h r q =
+      let x = valueOf lists also (drop at s) in
+      rw q (bare-ahead x read h (leftOf slot), bare-enters x read h (leaf-bare e))
+
   pub leaf-enters : (read : Judged) → startsWith (bytes "[") (drop at s) ≡ false → Judges leafForm s at (leafOf also (drop at s)) read
       → (r : Entered) → r ≡ withoutItems read → EntersValue lists also s at cells slot r cells
-  leaf-enters read e h r q =
-      let x = valueOf lists also (drop at s) in
-      let k = leaf-value s at lists also read e h in
-      rw q (bare-ahead x read k (leftOf slot), bare-enters x read k (leaf-bare e))
+  leaf-enters read e h = read-enters read e (leaf-value s at lists also read e h)
 
   -- a list too deep
   pub deep-enters : at ≤ length s → startsWith (bytes "[") (drop at s) ≡ true → lists ≡ 0 → EntersValue lists also s at cells slot (Full at) cells
@@ -404,31 +407,3 @@ module _ (s : List ℕ) (at lists : ℕ) (also cells : List ℕ) (slot : Slot) w
             let n : slot .next + 0 ≡ slot .next = omega arith in
             let a : leftOf slot - 0 ≡ leftOf slot = omega arith in
             h .1 .full v more left q (omega arith) ∙ ap₂ (λ (m o : ℕ). Full (firstOver m (entriesFrom (slot .parent) o (at + 1) v more))) a n
-
--- ---- the items of a trait's whole value
-
-module _ (s : List ℕ) (at lists : ℕ) (cells : List ℕ) (slot : Slot) where
-  -- what is found of it is what is found of the value
-  value-found : (v : Value) (left : List ℕ) → wholeValue lists (drop at s) ≡ found v left → valueOf lists [] (drop at s) ≡ found v left
-  value-found v left e = go (valueOf lists [] (drop at s)) refl
-    where
-      go : (x : Found Value) → valueOf lists [] (drop at s) ≡ x → x ≡ found v left
-      go (found u end) q = sym (whole-found lists (drop at s) u end q) ∙ e
-      go (fault n end) q =
-          let f = sym (whole-fault lists (drop at s) n end q) ∙ e in
-          let z : _≡_ {A = ℕ} 0 1 = cc in
-          absurd (omega arith)
-
-  -- a list is entered as the value that it is
-  pub whole-list : (r : Entered) (after : List ℕ) (n : ℕ) → n ≡ lists → EntersValue n [] s at cells slot r after → EntersWhole lists s at cells slot r after
-  whole-list r after n e h =
-      let k : EntersValue lists [] s at cells slot r after = rw e at h in
-      (k .0, record { fits = λ v left q. k .1 .fits v left (value-found v left q); full = λ v left q. k .1 .full v left (value-found v left q) })
-
-  -- what is no list was judged when it was read
-  pub whole-bare : (read : Judged) → startsWith (bytes "[") (drop at s) ≡ false → Judges valueForm s at (wholeValue lists (drop at s)) read
-      → (r : Entered) → r ≡ withoutItems read → EntersWhole lists s at cells slot r cells
-  whole-bare read e h r q =
-      let x = wholeValue lists (drop at s) in
-      let bare : (v : Value) (left : List ℕ) → x ≡ found v left → Bare v = λ v left p. leaf-bare s at lists [] cells slot e v left (value-found v left p) in
-      rw q (bare-ahead s at lists [] cells slot x read h (leftOf slot), bare-enters s at lists [] cells slot x read h bare)

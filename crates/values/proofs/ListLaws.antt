@@ -1,24 +1,21 @@
 -- Values at a place: no list, an empty list, a list too deep, items, and what stands behind an item. Over plain lists. Assumes nothing.
 use Prim.Native.Nat.{ℕ, suc, _+_, _*_, _≤_, _<_}
-use mathlib.Core.Path.{_≡_, refl, sym, ap, _∙_, subst}
+use mathlib.Core.Path.{_≡_, refl, sym, ap, _∙_}
 use mathlib.Core.Bool.{true, false}
 use mathlib.Core.List.{List, [], _∷_}
 use native.Mathlib.Omega.{arith}
 use lib.ListN.{length, getD, drop, drop-of-length-le}
 use lib.Seq.{drop-drop}
 use lib.Dec.{eqb}
-use borrow.Author.Tests.{ne-eqb}
 use Rattle.paper.specs.declared.Refusal.{Refusal}
 use Rattle.paper.specs.declared.Refusal.the-variants.{TooDeep}
-use Rattle.paper.specs.Answer.{numberOf}
 use Rattle.paper.specs.Found.{Found, found, fault, andThen}
 use Rattle.paper.specs.Bytes.{byte, bytes, isWhite, front, behind, startsWith}
 use Rattle.paper.specs.Values.{listEnders, leafForm, Value, leaf, emptyList, list, valueForm, More, close, comma}
-use Rattle.paper.specs.ReadingValues.{leafOf, valueOf, moreOf, itemAnd, wholeValue}
-use Rattle.paper.proofs.Told.{number-injective}
+use Rattle.paper.specs.ReadingValues.{leafOf, valueOf, moreOf, itemAnd}
 use Rattle.paper.proofs.Lists.{starts-is}
 use Rattle.paper.proofs.Tests.{split, true-false}
-use Rattle.paper.proofs.ReadValues.{ReadValue, value-reads, value-of-leaf, value-of-deep, value-of-empty, value-of-list, whole-found, whole-fault}
+use Rattle.paper.proofs.ReadValues.{ReadValue, value-reads, value-of-leaf, value-of-deep, value-of-empty, value-of-list}
 use Rattle.paper.proofs.ReadValues.{more-of-end, more-of-close, more-of-comma, more-of-other}
 use Rattle.text.proofs.Places.{here, place-back}
 use Rattle.values.specs.declared.judged.Judged.{Judged}
@@ -26,7 +23,7 @@ use Rattle.values.specs.Shown.{shownOf, Judges, listForm}
 use Rattle.text.proofs.Answers.{FoundTo}
 use Rattle.text.proofs.Compared.{stands-inside}
 use Rattle.text.proofs.Stretch.{Stretch, behind-at}
-use Rattle.values.proofs.Showing.{finds, no-value, cut-off, refuses, stands, fails, passes}
+use Rattle.values.proofs.Showing.{finds, no-value, cut-off, refuses, stands, passes}
 use Rattle.values.proofs.ItemsFound.{withMore}
 
 -- what is made of something found looks like it, where the forms agree
@@ -155,34 +152,3 @@ module _ (s : List ℕ) (i lists : ℕ) where
           ∙ shown-map listForm listForm (list (stood .it)) s (moreOf lists (drop end s)) (λ more. refl)
           ∙ ap (shownOf listForm s) (m ∙ ap (itemAnd lists (comma w)) (behind-at isWhite s (end + 1) next run))
           ∙ made-alike listForm listForm (comma w) list s lists (valueOf lists listEnders (drop next s)) (λ v more. (refl, refl))
-
--- ---- a trait's whole value
-
--- so many lists may be opened in one another
-pub counted : (s : List ℕ) (at n lists : ℕ) (r : Judged) → n ≡ lists → Judges valueForm s at (valueOf n [] (drop at s)) r
-    → Judges valueForm s at (valueOf lists [] (drop at s)) r
-counted s at n lists r e h = subst (λ (k : ℕ). Judges valueForm s at (valueOf k [] (drop at s)) r) e h
-
-module _ (s : List ℕ) (at lists : ℕ) (r : Judged) (h : Judges valueForm s at (valueOf lists [] (drop at s)) r) where
-  pub whole-kept : (form end : ℕ) → r ≡ Judged.Found form end → Judges valueForm s at (wholeValue lists (drop at s)) r
-  whole-kept form end q =
-      let v = stands h (ReadValue lists [] (drop at s)) (value-reads (suc (length (drop at s))) lists [] (drop at s)) form end q in
-      let k : wholeValue lists (drop at s) ≡ valueOf lists [] (drop at s) = whole-found lists (drop at s) (v .it) (drop end s) (v .finds) ∙ sym (v .finds) in
-      record { same = h .same ∙ sym (ap (shownOf valueForm s) k); ahead = h .ahead; inside = h .inside }
-
-  module _ (why : Refusal) (place : ℕ) (q : r ≡ Judged.Refused why place) where
-    -- what is no 6 keeps its place
-    pub whole-other : (why ≡ Refusal.Value → ⊥) → Judges valueForm s at (wholeValue lists (drop at s)) (Judged.Refused why place)
-    whole-other n =
-        let z = ne-eqb (numberOf why) 6 (λ e. n (number-injective why Refusal.Value e)) in
-        subst (λ (a : Judged). Judges valueForm s at (wholeValue lists (drop at s)) a) q
-        (passes h valueForm at (wholeValue lists (drop at s)) why place q
-        (λ left e. whole-fault lists (drop at s) (numberOf why) left e ∙ rw z))
-
-    -- a 6 stands at the value's first byte
-    pub whole-wrong : at ≤ length s → why ≡ Refusal.Value → (a : Judged) → a ≡ Judged.Refused Refusal.Value at
-        → Judges valueForm s at (wholeValue lists (drop at s)) a
-    whole-wrong l v a p =
-        let z : numberOf why ≡ 6 = ap numberOf v in
-        let f = fails h why place q in
-        no-value valueForm s at (wholeValue lists (drop at s)) a at p l (whole-fault lists (drop at s) (numberOf why) (f .left) (f .faults) ∙ rw z)

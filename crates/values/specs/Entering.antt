@@ -7,7 +7,7 @@ use lib.ListN.{length, getD, drop}
 use Rattle.paper.specs.Found.{Found, found, placeIn}
 use Rattle.paper.specs.Limits.{sheetLimit, listLimit}
 use Rattle.paper.specs.Values.{Value, list, valueForm, More}
-use Rattle.paper.specs.ReadingValues.{valueOf, wholeValue, itemAnd}
+use Rattle.paper.specs.ReadingValues.{valueOf, itemAnd}
 use Rattle.paper.specs.Entries.{Entry, valueWidth, itemsOf, moreItems, itemSize, moreSize, itemEntry, itemEntries, moreEntries}
 use Rattle.entries.specs.Laid.{lay, Fits}
 use Rattle.entries.specs.declared.Slot.{Slot}
@@ -59,10 +59,6 @@ pub record Enters (s : List ℕ) (at : ℕ) (cells : List ℕ) (slot : Slot) (x 
 -- a value that stands at a place, where so many lists may still be opened and these bytes end a word
 abbrev pub EntersValue : ℕ → List ℕ → List ℕ → ℕ → List ℕ → Slot → Entered → List ℕ → Type 0
 EntersValue lists also s at cells slot r after = Ahead s at lists (leftOf slot) r × Enters s at cells slot (valueOf lists also (drop at s)) r after
-
--- a trait's whole value
-abbrev pub EntersWhole : ℕ → List ℕ → ℕ → List ℕ → Slot → Entered → List ℕ → Type 0
-EntersWhole lists s at cells slot r after = Ahead s at lists (leftOf slot) r × Enters s at cells slot (wholeValue lists (drop at s)) r after
 
 -- the items of a list from the one that stands at `at` on, where `made` entries and `own` items stand before it. The list was read as x
 pub record EntersFrom (s : List ℕ) (at : ℕ) (cells : List ℕ) (slot : Slot) (made own : ℕ) (x : Found Value) (r : Entered) (after : List ℕ) : Type 0 where

@@ -1,5 +1,5 @@
 -- What reading a value answers in the paper's numbers: number, form and place.
--- Document 01, "Refusal numbers", and the forms of "Entries"; the place of a 6 is that of the inner fault.
+-- Document 01, "Refusal numbers", and the forms of "Entries"; document 02, Four: the place of a 6.
 use Prim.Native.Nat.{ℕ, _+_, _≤_, _<_}
 use mathlib.Core.Path.{_≡_}
 use mathlib.Core.List.{List}

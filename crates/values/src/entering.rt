@@ -16,12 +16,13 @@ use text::nesting::Nesting;
 use text::runs;
 use text::runs::Class;
 ghost use mathlib.Core.Path.{_≡_};
+ghost use mathlib.Core.List.{[]};
 ghost use Rattle.paper.specs.Limits.{listLimit};
 ghost use Rattle.paper.specs.Values.{valueForm};
-ghost use Rattle.paper.specs.ReadingValues.{wholeValue};
+ghost use Rattle.paper.specs.ReadingValues.{valueOf};
 ghost use Rattle.values.specs.Shown.{JudgesAt};
 ghost use Rattle.values.specs.Kinds.{endersOf};
-ghost use Rattle.values.specs.Entering.{withoutItems, Ready, EntersValue, EntersWhole, EntersItems};
+ghost use Rattle.values.specs.Entering.{withoutItems, Ready, EntersValue, EntersItems};
 
 // A value whose items are entered: its form and end, how many entries its items took at any depth, and how many items are its own.
 // Or the place of the first item that has no entry left.
@@ -39,8 +40,8 @@ pub enum Entered {
 
 // Enters the items of a trait's whole value, which was read as `value`. What is no list was judged by that reading, and has none.
 pub fn enter_whole(s: &[u8], at: usize, value: Judged, cells: &mut [u32], slot: Slot) -> Entered
-    requires { ⌜ Ready (now s) at listLimit (now cells) slot × JudgesAt valueForm (wholeValue listLimit) (now s) at value ⌝ }
-    ensures { λ r. ⌜ EntersWhole listLimit (now (s .entry)) at (now (cells .entry)) slot r (now (cells .exit)) ⌝ }
+    requires { ⌜ Ready (now s) at listLimit (now cells) slot × JudgesAt valueForm (valueOf listLimit []) (now s) at value ⌝ }
+    ensures { λ r. ⌜ EntersValue listLimit [] (now (s .entry)) at (now (cells .entry)) slot r (now (cells .exit)) ⌝ }
 {
     if opens(s, at) {
         return enter(

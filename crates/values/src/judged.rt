@@ -1,10 +1,10 @@
 // What reading a value answers.
-// Document 01, refusals 6, 9 and 10 of "Refusal numbers"; what each case is in numbers is stated in specs/Shown.antt.
+// Document 01, refusals 6, 9 and 10 of "Refusal numbers", and document 02, Four; what each case is in numbers is stated in specs/Shown.antt.
 use paper::Refusal;
 ghost use mathlib.Core.Path.{_≡_};
 ghost use lib.ListN.{length};
 
-// Something of a form was read, up to its end; or it is refused, and the place is that of the inner fault.
+// Something of a form was read, up to its end; or it is refused, and the place shows where inside it.
 pub enum Judged {
     Found { form: u32, end: usize },
     Refused { refusal: Refusal, place: usize },

@@ -1,5 +1,5 @@
 // Values of every kind, lists among them, and a trait's whole value.
-// Document 01, "The grammar", Values, and refusals 6, 9 and 10 of "Refusal numbers" and "Order".
+// Document 01, "The grammar", Values, and refusals 9 and 10 of "Refusal numbers" and "Order"; document 02, Four: the place of a 6.
 use crate::brackets::Around;
 use crate::brackets::closes;
 use crate::brackets::goes_on;
@@ -14,42 +14,27 @@ use text::nesting::Deeper;
 use text::nesting::Nesting;
 use text::runs;
 use text::runs::Class;
-ghost use mathlib.Core.List.{List, []};
-ghost use Prim.Native.Nat.{ℕ, _≤_};
+ghost use mathlib.Core.List.{[]};
+ghost use Prim.Native.Nat.{_≤_};
 ghost use lib.ListN.{length};
 ghost use Rattle.paper.specs.Limits.{listLimit};
 ghost use Rattle.paper.specs.Values.{valueForm, list};
-ghost use Rattle.paper.specs.ReadingValues.{valueOf, itemAnd, wholeValue};
+ghost use Rattle.paper.specs.ReadingValues.{valueOf, itemAnd};
 ghost use Rattle.values.specs.Shown.{JudgesAt, listForm};
 ghost use Rattle.values.specs.Kinds.{endersOf};
 
-// Reads a trait's whole value. Where no kind fits, it is refused at its first byte. Most values are no lists, and are read at once.
+// Reads a trait's whole value. Most values are no lists, and are read at once.
 pub fn read_whole(s: &[u8], at: usize) -> Judged
     requires { ⌜ at ≤ length (now s) ⌝ }
-    ensures { λ r. ⌜ JudgesAt valueForm (wholeValue listLimit) (now (s .entry)) at r ⌝ }
+    ensures { λ r. ⌜ JudgesAt valueForm (valueOf listLimit []) (now (s .entry)) at r ⌝ }
 {
     if !opens(s, at) {
-        return at_first(read_leaf(s, at, Around::Nothing), at);
+        return read_leaf(s, at, Around::Nothing);
     }
-    let read = read_value(s, at, Nesting::new(Nesting::LISTS), Around::Nothing);
-    at_first(read, at)
+    read_value(s, at, Nesting::new(Nesting::LISTS), Around::Nothing)
 }
 
-// What was read of a trait's value that stands at `at`, refused there where no kind fits.
-fn at_first(read: Judged, at: usize) -> Judged
-    ensures { λ r. ⌜ ((lists : ℕ) (s : List ℕ) → at ≤ length s → JudgesAt valueForm (valueOf lists []) s at read
-        → JudgesAt valueForm (wholeValue lists) s at r) ⌝ }
-{
-    let Judged::Refused { refusal, .. } = read else {
-        return read;
-    };
-    match refusal {
-        Refusal::Value => no_value(at),
-        _ => read,
-    }
-}
-
-// Reads the value that stands at `at`. The place of a refusal is that of the inner fault.
+// Reads the value that stands at `at`. A list is refused as the item at fault is, place and all.
 fn read_value(s: &[u8], at: usize, nesting: Nesting, around: Around) -> Judged
     requires { ⌜ at ≤ length (now s) ⌝ }
     ensures { λ r. ⌜ JudgesAt valueForm (valueOf (nesting .left) (endersOf around)) (now (s .entry)) at r ⌝ }

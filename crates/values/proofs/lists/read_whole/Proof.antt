@@ -1,9 +1,8 @@
 -- No list, or perhaps one; so many lists may be opened as the limit says.
 use mathlib.Core.Path.{sym, _∙_}
-use native.Mathlib.Omega.{arith}
 use borrow.Author.Needs.{needs}
 use borrow.Author.Tests.{not-true}
-use Rattle.values.proofs.ListLaws.{leaf-value, counted}
+use Rattle.values.proofs.ListLaws.{leaf-value}
 use Rattle.values.proofs.lists.read_whole.Statement.{statement}
 use Rattle.values.proofs.lists.read_whole.Tie as tie
 
@@ -13,14 +12,9 @@ opens-requires c κs = search needs
 read-leaf-requires : tie.Need-read-leaf-requires
 read-leaf-requires c κs = search needs
 
-at-first-requires : tie.Need-at-first-requires
-at-first-requires c κs = search needs
-
 returns : tie.Need-returns
 returns c =
-    let at-if1 = c .before .before in
-    let at-opens = at-if1 .before in
-    c .at-first .ensures 8 _ (omega arith) (leaf-value _ _ 8 _ _ (sym (at-opens .opens .ensures) ∙ not-true _ (at-if1 .if1 .taken)) (c .before .read-leaf .ensures))
+    leaf-value _ _ 8 _ _ (sym (c .before .before .opens .ensures) ∙ not-true _ (c .before .if1 .taken)) (c .read-leaf .ensures)
 
 new-requires : tie.Need-new-requires
 new-requires c κs = search needs
@@ -28,13 +22,8 @@ new-requires c κs = search needs
 read-value-requires : tie.Need-read-value-requires
 read-value-requires c κs = search needs
 
-at-first-requires-2 : tie.Need-at-first-requires-2
-at-first-requires-2 c κs = search needs
-
 returns-2 : tie.Need-returns-2
-returns-2 c =
-    let at-read = c .before in
-    c .at-first2 .ensures 8 _ (omega arith) (counted _ _ _ 8 _ (at-read .before .new .ensures) (at-read .read-value .ensures))
+returns-2 c = rw (c .before .new .ensures) at (c .read-value .ensures)
 
 pub read-whole-spec : {M : Type 1} → statement M
 read-whole-spec =
@@ -42,9 +31,7 @@ read-whole-spec =
     (tie.spec
     opens-requires
     read-leaf-requires
-    at-first-requires
     returns
     new-requires
     read-value-requires
-    at-first-requires-2
     returns-2)
