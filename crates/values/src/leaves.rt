@@ -24,9 +24,9 @@ pub fn read_leaf(s: &[u8], at: usize, around: Around) -> Judged
         return judged::cut(s);
     }
     match s[at] {
-        b'"' => quoted::string_end(s, at + 1),
-        b'\'' => quoted::character_end(s, at + 1),
-        b'`' => quoted::backtick_end(s, at + 1),
+        b'"' => quoted::string_end(s, at),
+        b'\'' => quoted::character_end(s, at),
+        b'`' => quoted::backtick_end(s, at),
         b'{' => read_time(s, at),
         _ => read_word(s, at, around),
     }

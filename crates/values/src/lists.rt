@@ -15,7 +15,7 @@ use text::nesting::Nesting;
 use text::runs;
 use text::runs::Class;
 ghost use mathlib.Core.List.{[]};
-ghost use Prim.Native.Nat.{_≤_};
+ghost use Prim.Native.Nat.{_+_, _≤_, _<_};
 ghost use lib.ListN.{length};
 ghost use Rattle.paper.specs.Limits.{listLimit};
 ghost use Rattle.paper.specs.Values.{valueForm, list};
@@ -55,15 +55,15 @@ fn read_value(s: &[u8], at: usize, nesting: Nesting, around: Around) -> Judged
             end: first + 1,
         };
     }
-    read_items(s, first, fewer)
+    read_items(s, at, fewer)
 }
 
-// Reads the items of a list, the first of which stands at `at`, up to its closing bracket.
+// Reads the items of the list whose bracket stands at `at`, up to its closing bracket.
 fn read_items(s: &[u8], at: usize, nesting: Nesting) -> Judged
-    requires { ⌜ at ≤ length (now s) ⌝ }
-    ensures { λ r. ⌜ JudgesAt listForm (itemAnd (nesting .left) list) (now (s .entry)) at r ⌝ }
+    requires { ⌜ at < length (now s) ⌝ }
+    ensures { λ r. ⌜ JudgesAt listForm (itemAnd (nesting .left) list) (now (s .entry)) (at + 1) r ⌝ }
 {
-    let mut i = at;
+    let mut i = at + 1;
     loop {
         let item = read_value(s, i, nesting, Around::List);
         let Judged::Found { end, .. } = item else {
@@ -72,15 +72,16 @@ fn read_items(s: &[u8], at: usize, nesting: Nesting) -> Judged
         if s.len() <= end {
             return cut(s);
         }
+        let behind = end + 1;
         if closes(s, end) {
             return Judged::Found {
                 form: forms::LIST,
-                end: end + 1,
+                end: behind,
             };
         }
         if !goes_on(s, end) {
             return no_value(end);
         }
-        i = runs::end(s, end + 1, Class::White);
+        i = runs::end(s, behind, Class::White);
     }
 }

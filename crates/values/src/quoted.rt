@@ -1,5 +1,5 @@
 // Values between quotes: strings, characters and backticks.
-// Document 01, "The grammar", Values. `at` is behind the opening quote.
+// Document 01, "The grammar", Values; document 02, Four: the place of a 6.
 use crate::escapes::escape_end;
 use crate::judged;
 use crate::judged::Judged;
@@ -9,18 +9,18 @@ use text::parts::starts_with;
 use text::utf8::Cursor;
 use text::utf8::Step;
 ghost use mathlib.Core.List.{List};
-ghost use Prim.Native.Nat.{_≤_};
+ghost use Prim.Native.Nat.{_+_, _<_};
 ghost use lib.ListN.{length};
 ghost use Rattle.paper.specs.Values.{Piece, leafForm};
 ghost use Rattle.paper.specs.ReadingValues.{closeCharacter, characterOf};
 ghost use Rattle.values.specs.Shown.{JudgesAt, stringOf, backtickOf};
 
-// Reads a string up to its closing quote.
+// Reads the string whose quote stands at `at`, up to its closing quote.
 pub fn string_end(s: &[u8], at: usize) -> Judged
-    requires { ⌜ at ≤ length (now s) ⌝ }
-    ensures { λ r. ⌜ JudgesAt leafForm stringOf (now (s .entry)) at r ⌝ }
+    requires { ⌜ at < length (now s) ⌝ }
+    ensures { λ r. ⌜ JudgesAt leafForm stringOf (now (s .entry)) (at + 1) r ⌝ }
 {
-    let mut i = plain_end(s, at, b'"');
+    let mut i = plain_end(s, at + 1, b'"');
     while i < s.len() {
         match s[i] {
             b'"' => {
@@ -47,26 +47,28 @@ pub fn string_end(s: &[u8], at: usize) -> Judged
     judged::cut(s)
 }
 
-// Reads a character: one scalar value or one escape, and the closing quote.
+// Reads the character whose quote stands at `at`: one scalar value or one escape, and the closing quote.
 pub fn character_end(s: &[u8], at: usize) -> Judged
-    ensures { λ r. ⌜ JudgesAt leafForm characterOf (now (s .entry)) at r ⌝ }
+    requires { ⌜ at < length (now s) ⌝ }
+    ensures { λ r. ⌜ JudgesAt leafForm characterOf (now (s .entry)) (at + 1) r ⌝ }
 {
-    if s.len() <= at {
+    let first = at + 1;
+    if s.len() <= first {
         return judged::cut(s);
     }
-    match s[at] {
-        b'\'' | b'\n' | b'\r' => judged::no_value(at),
+    match s[first] {
+        b'\'' | b'\n' | b'\r' => judged::no_value(first),
         b'\\' => {
-            let escape = escape_end(s, at, b'\'');
+            let escape = escape_end(s, first, b'\'');
             let Judged::Found { end, .. } = escape else {
                 return escape;
             };
             closing_quote(s, end)
         }
         _ => {
-            let cursor = Cursor::new(at);
+            let cursor = Cursor::new(first);
             let Step::Scalar(_, next) = cursor.step(s) else {
-                return judged::no_value(at);
+                return judged::no_value(first);
             };
             closing_quote(s, next.at)
         }
@@ -89,11 +91,12 @@ fn closing_quote(s: &[u8], at: usize) -> Judged
     }
 }
 
-// Reads a backtick string up to its closing backtick.
+// Reads the backtick string whose backtick stands at `at`, up to its closing one.
 pub fn backtick_end(s: &[u8], at: usize) -> Judged
-    ensures { λ r. ⌜ JudgesAt leafForm backtickOf (now (s .entry)) at r ⌝ }
+    requires { ⌜ at < length (now s) ⌝ }
+    ensures { λ r. ⌜ JudgesAt leafForm backtickOf (now (s .entry)) (at + 1) r ⌝ }
 {
-    let mut i = at;
+    let mut i = at + 1;
     while i < s.len() {
         if s[i] == b'`' {
             return Judged::Found {

@@ -14,20 +14,11 @@ returns c = cut-off _ _ _ _ _ (c .cut .ensures) (leaf-ends _ _ _ (c .before .if1
 shared-slice-read-match : tie.Need-shared-slice-read-match
 shared-slice-read-match c = search needs
 
-add-string-end : tie.Need-add-string-end
-add-string-end c = search needs
-
 string-end-requires : tie.Need-string-end-requires
 string-end-requires c κs = search needs
 
-add-character-end : tie.Need-add-character-end
-add-character-end c = search needs
-
 character-end-requires : tie.Need-character-end-requires
 character-end-requires c κs = search needs
-
-add-backtick-end : tie.Need-add-backtick-end
-add-backtick-end c = search needs
 
 backtick-end-requires : tie.Need-backtick-end-requires
 backtick-end-requires c κs = search needs
@@ -71,11 +62,8 @@ read-leaf-spec =
     cut-requires
     returns
     shared-slice-read-match
-    add-string-end
     string-end-requires
-    add-character-end
     character-end-requires
-    add-backtick-end
     backtick-end-requires
     read-time-requires
     read-word-requires

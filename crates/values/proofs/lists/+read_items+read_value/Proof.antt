@@ -56,7 +56,8 @@ read-value-below t =
 
 abbrev read-items-Inv-loop : read-items-lts.InvT-loop
 read-items-Inv-loop s at nesting i₀ i =
-    (at ≤ i) × (i ≤ length s) × (shownOf listForm s (itemAnd (nesting .left) list (drop i s)) ≡ shownOf listForm s (itemAnd (nesting .left) list (drop at s)))
+    (at + 1 ≤ i) × (i ≤ length s)
+    × (shownOf listForm s (itemAnd (nesting .left) list (drop i s)) ≡ shownOf listForm s (itemAnd (nesting .left) list (drop (at + 1) s)))
 
 abbrev read-items-μ-loop : read-items-lts.MeasureT-loop
 read-items-μ-loop s at nesting i₀ i = length s - i
@@ -91,8 +92,11 @@ read-value-calls t = (
   read-items.Post,
 )
 
+read-items-add-i : (t : ℕ) → read-items-lts.Need-add-i (read-items-calls t) (read-items-at t) read-items.Post read-items-Inv-loop read-items-μ-loop
+read-items-add-i t c = search needs
+
 read-items-loop-holds : (t : ℕ) → read-items-lts.Need-loop-holds (read-items-calls t) (read-items-at t) read-items.Post read-items-Inv-loop read-items-μ-loop
-read-items-loop-holds t c = (omega arith, c .before .pre .1, refl)
+read-items-loop-holds t c = (omega arith, omega (arith, c .before .pre .1), refl)
 
 read-items-read-value-requires : (t : ℕ) → read-items-lts.Need-read-value-requires (read-items-calls t)
     (read-items-at t) read-items.Post read-items-Inv-loop read-items-μ-loop
@@ -121,12 +125,12 @@ read-items-returns-2 t c =
     moved (item-cut _ _ _ _ (at-item .before .before .read-value .ensures) _ _ (at-item .item .given .1) _ (c .cut .ensures) (c .before .if1 .taken))
     _ _ (at-loop .loop .inv .0) (at-loop .loop .inv .2)
 
+read-items-add-behind : (t : ℕ) → read-items-lts.Need-add-behind (read-items-calls t) (read-items-at t) read-items.Post read-items-Inv-loop read-items-μ-loop
+read-items-add-behind t c = search needs
+
 read-items-closes-requires : (t : ℕ) → read-items-lts.Need-closes-requires (read-items-calls t)
     (read-items-at t) read-items.Post read-items-Inv-loop read-items-μ-loop
 read-items-closes-requires t c κs = search needs
-
-read-items-add-t11 : (t : ℕ) → read-items-lts.Need-add-t11 (read-items-calls t) (read-items-at t) read-items.Post read-items-Inv-loop read-items-μ-loop
-read-items-add-t11 t c = search needs
 
 read-items-returns-3 : (t : ℕ) → read-items-lts.Need-returns-3 (read-items-calls t) (read-items-at t) read-items.Post read-items-Inv-loop read-items-μ-loop
 read-items-returns-3 t c =
@@ -152,9 +156,6 @@ read-items-returns-4 t c =
     (sym (at-closes .closes .ensures) ∙ c .before .before .before .if2 .left)
     (sym (c .before .before .goes-on .ensures) ∙ not-true _ (c .before .if3 .taken)) _ (c .no-value .ensures))
     _ _ (at-loop .loop .inv .0) (at-loop .loop .inv .2)
-
-read-items-add-end : (t : ℕ) → read-items-lts.Need-add-end (read-items-calls t) (read-items-at t) read-items.Post read-items-Inv-loop read-items-μ-loop
-read-items-add-end t c = search needs
 
 read-items-end-requires : (t : ℕ) → read-items-lts.Need-end-requires (read-items-calls t)
     (read-items-at t) read-items.Post read-items-Inv-loop read-items-μ-loop
@@ -254,6 +255,7 @@ pub +read-items+read-value-spec : {M : Type 1} → statement M
     read-items.Post
     read-items-Inv-loop
     read-items-μ-loop
+    (read-items-add-i t)
     (read-items-loop-holds t)
     (read-items-read-value-requires t)
     (read-items-enum-known-item t)
@@ -261,13 +263,12 @@ pub +read-items+read-value-spec : {M : Type 1} → statement M
     (read-items-returns t)
     (read-items-cut-requires t)
     (read-items-returns-2 t)
+    (read-items-add-behind t)
     (read-items-closes-requires t)
-    (read-items-add-t11 t)
     (read-items-returns-3 t)
     (read-items-goes-on-requires t)
     (read-items-no-value-requires t)
     (read-items-returns-4 t)
-    (read-items-add-end t)
     (read-items-end-requires t)
     (read-items-loop-less t)
     (read-items-loop-again t))

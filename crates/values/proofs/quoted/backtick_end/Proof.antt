@@ -1,6 +1,6 @@
--- The invariant: what reads the string from `i` on reads it from `at` on; the measure is what is left of the input.
+-- The invariant: what reads the string from `i` on reads it from behind its backtick on; the measure is what is left of the input.
 use borrow.Author.Needs.{needs}
-use Prim.Native.Nat.{_≤_, _-_}
+use Prim.Native.Nat.{_+_, _≤_, _-_}
 use mathlib.Core.Path.{refl, sym, _∙_}
 use native.Mathlib.Omega.{arith}
 use lib.ListN.{length, drop}
@@ -13,10 +13,14 @@ use Rattle.values.proofs.quoted.backtick_end.Statement.{statement}
 use Rattle.values.proofs.quoted.backtick_end.Tie as tie
 
 abbrev Inv-loop : tie.InvT-loop
-Inv-loop s at i₀ t4 i = (at ≤ i) × ((r : Judged) → Judges leafForm s i (backtickOf (drop i s)) r → Judges leafForm s at (backtickOf (drop at s)) r)
+Inv-loop s at i₀ t4 i =
+    (at + 1 ≤ i) × ((r : Judged) → Judges leafForm s i (backtickOf (drop i s)) r → Judges leafForm s (at + 1) (backtickOf (drop (at + 1) s)) r)
 
 abbrev μ-loop : tie.MeasureT-loop
 μ-loop s at i₀ t4 i = length s - i
+
+add-i : tie.Need-add-i Inv-loop μ-loop
+add-i c = search needs
 
 loop-holds : tie.Need-loop-holds Inv-loop μ-loop
 loop-holds c = (omega arith, λ r e. e)
@@ -39,8 +43,8 @@ slice-aggregate-starts-with c = search needs
 starts-with-requires : tie.Need-starts-with-requires Inv-loop μ-loop
 starts-with-requires c κs = search needs
 
-add-i : tie.Need-add-i Inv-loop μ-loop
-add-i c = search needs
+add-i-2 : tie.Need-add-i-2 Inv-loop μ-loop
+add-i-2 c = search needs
 
 loop-less : tie.Need-loop-less Inv-loop μ-loop
 loop-less c = search needs
@@ -55,8 +59,8 @@ loop-again c =
           (sym (c .before .starts-with .ensures) ∙ c .if2 .taken) e),
     )
 
-add-i-2 : tie.Need-add-i-2 Inv-loop μ-loop
-add-i-2 c = search needs
+add-i-3 : tie.Need-add-i-3 Inv-loop μ-loop
+add-i-3 c = search needs
 
 loop-less-2 : tie.Need-loop-less-2 Inv-loop μ-loop
 loop-less-2 c = search needs
@@ -85,16 +89,17 @@ backtick-end-spec =
     (tie.spec
     Inv-loop
     μ-loop
+    add-i
     loop-holds
     shared-slice-read-if1
     add-t9
     returns
     slice-aggregate-starts-with
     starts-with-requires
-    add-i
+    add-i-2
     loop-less
     loop-again
-    add-i-2
+    add-i-3
     loop-less-2
     loop-again-2
     cut-requires

@@ -1,5 +1,6 @@
 -- A law for each way out, by the first byte.
 use borrow.Author.Needs.{needs}
+use Prim.Native.Nat.{_+_}
 use mathlib.Core.Path.{_≡_, sym, _∙_}
 use mathlib.Core.Logic.{⊎-elim}
 use native.Mathlib.Omega.{arith}
@@ -14,8 +15,11 @@ abbrev start : tie.After-step → tie.Start
 start c = c .before .before .before .before .before .before
 
 -- what the step from the cursor there answered
-said : (c : tie.After-step) → c .step .result ≡ stepAt (start c .args .s .now) (start c .args .at)
+said : (c : tie.After-step) → c .step .result ≡ stepAt (start c .args .s .now) (start c .args .at + 1)
 said c = step-from _ (c .before .new .ensures) (c .step .ensures)
+
+add-first : tie.Need-add-first
+add-first c = search needs
 
 cut-requires : tie.Need-cut-requires
 cut-requires c κs = search needs
@@ -101,6 +105,7 @@ pub character-end-spec : {M : Type 1} → statement M
 character-end-spec =
     tie.close
     (tie.spec
+    add-first
     cut-requires
     returns
     shared-slice-read-match

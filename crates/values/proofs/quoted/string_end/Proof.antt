@@ -1,6 +1,6 @@
--- The invariant: what reads the string from `i` on reads it from `at` on; the measure is what is left of the input.
+-- The invariant: what reads the string from `i` on reads it from behind its quote on; the measure is what is left of the input.
 use borrow.Author.Needs.{needs}
-use Prim.Native.Nat.{_≤_, _-_}
+use Prim.Native.Nat.{_+_, _≤_, _-_}
 use mathlib.Core.Path.{refl}
 use native.Mathlib.Omega.{arith}
 use lib.ListN.{length, drop}
@@ -14,10 +14,14 @@ use Rattle.values.proofs.quoted.string_end.Statement.{statement}
 use Rattle.values.proofs.quoted.string_end.Tie as tie
 
 abbrev Inv-loop : tie.InvT-loop
-Inv-loop s at i₀ i = (at ≤ i) × (i ≤ length s) × ((r : Judged) → Judges leafForm s i (stringOf (drop i s)) r → Judges leafForm s at (stringOf (drop at s)) r)
+Inv-loop s at i₀ i =
+    (at + 1 ≤ i) × (i ≤ length s) × ((r : Judged) → Judges leafForm s i (stringOf (drop i s)) r → Judges leafForm s (at + 1) (stringOf (drop (at + 1) s)) r)
 
 abbrev μ-loop : tie.MeasureT-loop
 μ-loop s at i₀ i = length s - i
+
+add-plain-end : tie.Need-add-plain-end Inv-loop μ-loop
+add-plain-end c = search needs
 
 plain-end-requires : tie.Need-plain-end-requires Inv-loop μ-loop
 plain-end-requires c κs = search needs
@@ -28,8 +32,8 @@ loop-holds c = (c .plain-end .ensures .1, c .plain-end .ensures .2, λ r e. stri
 shared-slice-read-match : tie.Need-shared-slice-read-match Inv-loop μ-loop
 shared-slice-read-match c = search needs
 
-add-t11 : tie.Need-add-t11 Inv-loop μ-loop
-add-t11 c = search needs
+add-t12 : tie.Need-add-t12 Inv-loop μ-loop
+add-t12 c = search needs
 
 returns : tie.Need-returns Inv-loop μ-loop
 returns c =
@@ -92,8 +96,8 @@ returns-3 c =
     at-loop .loop .inv .2 _ (no-value _ _ _ _ _ _ (c .no-value .ensures) (omega arith)
     (string-breaks _ _ (at-loop-test .loop-test .taken) (c .before .match .keys3)))
 
-add-plain-end : tie.Need-add-plain-end Inv-loop μ-loop
-add-plain-end c = search needs
+add-plain-end-2 : tie.Need-add-plain-end-2 Inv-loop μ-loop
+add-plain-end-2 c = search needs
 
 plain-end-requires-3 : tie.Need-plain-end-requires-3 Inv-loop μ-loop
 plain-end-requires-3 c κs = search needs
@@ -127,10 +131,11 @@ string-end-spec =
     (tie.spec
     Inv-loop
     μ-loop
+    add-plain-end
     plain-end-requires
     loop-holds
     shared-slice-read-match
-    add-t11
+    add-t12
     returns
     escape-end-requires
     enum-known-escape
@@ -141,7 +146,7 @@ string-end-spec =
     loop-again
     no-value-requires
     returns-3
-    add-plain-end
+    add-plain-end-2
     plain-end-requires-3
     loop-less-2
     loop-again-2
