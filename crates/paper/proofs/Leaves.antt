@@ -137,25 +137,30 @@ character-reads also (b ∷ l) =
     (λ e. rw (character-breaks b l e, Reads) (faults 6 (omega arith) whole))
     (λ r e. direct-reads also b l r e)
 
-escape-back : (p : Piece) (ps : List Piece) (l next : List ℕ) → eqb (length ps) 0 ≡ true → escape (byte "'") (byte "\\" ∷ l) l ≡ found p (piecesOnto ps (byte "'" ∷ next))
-    → characterOf (byte "\\" ∷ l) ≡ found (character (p ∷ ps)) next
+escape-on : (p : Piece) (ps : List Piece) (l next : List ℕ) → eqb (length ps) 0 ≡ true → escape (byte "'") (byte "\\" ∷ l) l ≡ found p (piecesOnto ps next)
+    → characterOf (byte "\\" ∷ l) ≡ closeCharacter (p ∷ ps) next
 unfolding insideOf piecesOnto
-escape-back p ps l next n e = character-escapes (byte "\\") l refl ∙ rw (e, empty-is ps n) (close-there (p ∷ []) next)
+escape-on p ps l next n e = character-escapes (byte "\\") l refl ∙ rw (e, empty-is ps n)
+
+-- behind one spelt scalar the closing quote is due
+pub character-on : (ps : List Piece) (next : List ℕ) → all (pieceRule (byte "'")) ps ≡ true → oneScalar ps ≡ true
+    → characterOf (piecesOnto ps next) ≡ closeCharacter ps next
+unfolding oneScalar piecesOnto pieceOnto pieceRule insideOf elem
+character-on [] next r o = true-false (sym o)
+character-on (direct b ∷ ps) next r o =
+    let d = all-head _ (direct b) ps r .0 in
+    one-scalar (byte "'") b ps d o
+    (λ v s q. character-itself b _ v next (inside-itself (byte "'") b d)
+    (ap (λ (x : List Piece). scalar (piecesOnto x next)) q ∙ rw (direct-onto (encode v) next) (scalar-encode v _ s))
+    ∙ rw (← q))
+character-on (escaped b ∷ ps) next r o = escape-on (escaped b) ps _ next o (letter-back (byte "'") _ b _ refl (all-head _ (escaped b) ps r .0))
+character-on (four digits ∷ ps) next r o = escape-on (four digits) ps _ next o (four-back (byte "'") _ digits _ (all-head _ (four digits) ps r .0))
+character-on (braces digits ∷ ps) next r o = escape-on (braces digits) ps _ next o (braces-back (byte "'") _ digits _ (all-head _ (braces digits) ps r .0))
 
 -- a spelt character is read back
 pub character-back : (ps : List Piece) (next : List ℕ) → all (pieceRule (byte "'")) ps ≡ true → oneScalar ps ≡ true
     → characterOf (piecesOnto ps (byte "'" ∷ next)) ≡ found (character ps) next
-unfolding oneScalar piecesOnto pieceOnto pieceRule insideOf elem
-character-back [] next r o = true-false (sym o)
-character-back (direct b ∷ ps) next r o =
-    let d = all-head _ (direct b) ps r .0 in
-    one-scalar (byte "'") b ps d o
-    (λ v s q. character-itself b _ v (byte "'" ∷ next) (inside-itself (byte "'") b d)
-    (ap (λ (x : List Piece). scalar (piecesOnto x (byte "'" ∷ next))) q ∙ rw (direct-onto (encode v) (byte "'" ∷ next)) (scalar-encode v _ s))
-    ∙ rw (← q) (close-there (direct b ∷ ps) next))
-character-back (escaped b ∷ ps) next r o = escape-back (escaped b) ps _ next o (letter-back (byte "'") _ b _ refl (all-head _ (escaped b) ps r .0))
-character-back (four digits ∷ ps) next r o = escape-back (four digits) ps _ next o (four-back (byte "'") _ digits _ (all-head _ (four digits) ps r .0))
-character-back (braces digits ∷ ps) next r o = escape-back (braces digits) ps _ next o (braces-back (byte "'") _ digits _ (all-head _ (braces digits) ps r .0))
+character-back ps next r o = character-on ps (byte "'" ∷ next) r o ∙ close-there ps next
 
 -- ---- words
 

@@ -15,6 +15,7 @@ pub mod Lines
 pub mod Annotations
 pub mod Content
 pub mod ReadValues
+pub mod Faults
 pub mod Markers
 pub mod Widths
 pub mod Fronts

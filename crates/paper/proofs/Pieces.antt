@@ -15,7 +15,7 @@ use Rattle.paper.specs.ReadingValues.{judged, fourDigits, bracedDigits, 
 use Rattle.paper.proofs.Tests.{split, true-false, apart, upTo}
 use Rattle.paper.proofs.Finds.{whole, past, tail-of, tail-end, faults, Reads, Turns, turns-of}
 use Rattle.paper.proofs.Scalars.{scalar-sound, scalar-encode, encode-high}
-use Rattle.paper.proofs.Runs.{many-reads, Shorter, turns-shorter, run-more, run-over}
+use Rattle.paper.proofs.Runs.{many-reads, Shorter, turns-shorter, run-more, run-over, run-stop, run-on}
 use Rattle.paper.proofs.Lists.{both, and, is-not, byFront, all-nil, all-cons, starts-is, front-behind, front-length, front-of, behind-of, front-least, all-head}
 use Rattle.paper.proofs.Lists.{starts-not, all-weaken, all-map, empty-is}
 
@@ -149,6 +149,49 @@ module _ (quote : ℕ) where
       (λ f. rw (starts-is (bytes "{") l f) (rw (escape-braces quote _ (drop 1 l)) (braced-reads (drop 1 l))))
       (λ f. rw (escape-four quote _ l f) (four-reads l))))
       (λ e. rw (escape-letter quote _ b l e) (judged-reads (byte "\\" ∷ b ∷ l) (escaped b) l refl))
+
+-- ---- where a bad escape is told
+
+module _ (quote : ℕ) (back : List ℕ) where
+  -- a 6 is told at the backslash
+  abbrev AtBack : Found Piece → Type 0
+  AtBack x = (left : List ℕ) → x ≡ fault 6 left → left ≡ back
+
+  at-back : AtBack (fault 6 back)
+  at-back left e = cc
+
+  at-cut : AtBack (fault 9 [])
+  at-cut left e = let z : _≡_ {A = ℕ} 0 1 = cc in absurd (omega arith)
+
+  judged-place : (p : Piece) (l : List ℕ) → AtBack (judged quote back p l)
+  judged-place p l =
+      split (pieceRule quote p)
+      (λ f. rw (judged-keeps quote back p l f) (λ left e. let z : _≡_ {A = ℕ} 0 1 = cc in absurd (omega arith)))
+      (λ f. rw (judged-breaks quote back p l f) at-back)
+
+  four-place : (s : List ℕ) → AtBack (fourDigits quote back s)
+  four-place s =
+      upTo 4 (lengthIn isHex s) (λ h. rw (four-there quote back s h) (judged-place _ _))
+      (λ h. byFront (behind isHex s) (λ e. rw (four-cut quote back s h e) at-cut) (λ b l e. rw (four-not quote back s b l h e) at-back))
+
+  braced-place : (s : List ℕ) → AtBack (bracedDigits quote back s)
+  braced-place s =
+      upTo 7 (lengthIn isHex s) (λ h. rw (braced-long quote back s h) at-back)
+      (λ h. byFront (behind isHex s)
+      (λ e. rw (braced-cut quote back s (omega arith) e) at-cut)
+      (λ b l e. split (eqb b (byte "}"))
+      (λ f. rw (braced-closed quote back s l (omega arith) (e ∙ rw (eqb-true b (byte "}") f))) (judged-place _ _))
+      (λ f. rw (braced-not quote back s b l (omega arith) e f) at-back)))
+
+  -- also where it is a later digit that does not fit
+  pub escape-place : (l left : List ℕ) → escape quote back l ≡ fault 6 left → left ≡ back
+  escape-place [] = rw (escape-end quote back) at-cut
+  escape-place (b ∷ l) =
+      split (eqb b (byte "u"))
+      (λ e. rw (eqb-true b (byte "u") e) (split (startsWith (bytes "{") l)
+      (λ f. rw (starts-is (bytes "{") l f) (rw (escape-braces quote back (drop 1 l)) (braced-place (drop 1 l))))
+      (λ f. rw (escape-four quote back l f) (four-place l))))
+      (λ e. rw (escape-letter quote back b l e) (judged-place (escaped b) l))
 
 -- ---- a spelt escape is read back
 
@@ -291,6 +334,15 @@ pieces-back [] left e = run-over (λ p. 0) pieceTurn turn-shorter 0 _ left (turn
 pieces-back (p ∷ ps) left e =
     let h = all-head (pieceRule (byte "\"")) p ps e in
     run-more (λ p. 0) pieceTurn turn-shorter 0 _ p (piecesOnto ps (byte "\"" ∷ left)) ps left (turn-back 0 p _ (h .0)) (pieces-back ps left (h .1))
+
+-- behind spelt pieces a fault is told as it is
+pub pieces-stop : (ps : List Piece) (next : List ℕ) (n : ℕ) (left : List ℕ) → all (pieceRule (byte "\"")) ps ≡ true → pieceTurn 0 next ≡ stop n left
+    → manyOf (λ p. 0) pieceTurn 0 (piecesOnto ps next) ≡ fault n left
+unfolding piecesOnto
+pieces-stop [] next n left e f = run-stop (λ p. 0) pieceTurn turn-shorter 0 next n left f
+pieces-stop (p ∷ ps) next n left e f =
+    let h = all-head (pieceRule (byte "\"")) p ps e in
+    run-on (λ p. 0) pieceTurn turn-shorter 0 _ p (piecesOnto ps next) n left (turn-back 0 p _ (h .0)) (pieces-stop ps next n left (h .1) f)
 
 -- ---- backticks
 

@@ -94,15 +94,15 @@ not-white b e =
     )
 
 -- white space before a value ends where the value begins
-module _ (also : List ℕ) (v : Value) (white next : List ℕ) (r : valueRule also v ≡ true) (a : all isWhite white ≡ true) where
-  stops : startsIn isWhite (valueOnto v next) ≡ false
-  stops = starts-off (without beginsNone) isWhite not-white (valueOnto v next) (value-begins also v next r)
+pub white-stops : (also : List ℕ) (v : Value) (next : List ℕ) → valueRule also v ≡ true → startsIn isWhite (valueOnto v next) ≡ false
+white-stops also v next r = starts-off (without beginsNone) isWhite not-white (valueOnto v next) (value-begins also v next r)
 
+module _ (also : List ℕ) (v : Value) (white next : List ℕ) (r : valueRule also v ≡ true) (a : all isWhite white ≡ true) where
   pub white-front : front isWhite (white ++ valueOnto v next) ≡ white
-  white-front = front-of isWhite white (valueOnto v next) a stops
+  white-front = front-of isWhite white (valueOnto v next) a (white-stops also v next r)
 
   pub white-behind : behind isWhite (white ++ valueOnto v next) ≡ valueOnto v next
-  white-behind = behind-of isWhite white (valueOnto v next) a stops
+  white-behind = behind-of isWhite white (valueOnto v next) a (white-stops also v next r)
 
 -- ---- step by step
 

@@ -80,3 +80,11 @@ module _ {A : Type 0} (size : A → ℕ) (turn : ℕ → List ℕ → Turn A) (s
 
   pub run-over : (room : ℕ) (s left : List ℕ) → turn room s ≡ over left → manyOf size turn room s ≡ found [] left
   run-over room s left e = many-turn (suc (length s)) room s (omega arith) ∙ rw e
+
+  -- a fault, at once or behind a thing
+  pub run-stop : (room : ℕ) (s : List ℕ) (n : ℕ) (left : List ℕ) → turn room s ≡ stop n left → manyOf size turn room s ≡ fault n left
+  run-stop room s n left e = many-turn (suc (length s)) room s (omega arith) ∙ rw e
+
+  pub run-on : (room : ℕ) (s : List ℕ) (a : A) (mid : List ℕ) (n : ℕ) (left : List ℕ) → turn room s ≡ more a mid
+      → manyOf size turn (room - size a) mid ≡ fault n left → manyOf size turn room s ≡ fault n left
+  run-on room s a mid n left e f = many-turn (suc (length s)) room s (omega arith) ∙ rw (e, f)
