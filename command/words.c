@@ -14,7 +14,7 @@ const char *refusal_in_words(uint32_t number)
         [CDX_BYTES] = "no sheet may have these bytes",
         [CDX_NAME] = "this name breaks the name rule, or has more than 32 letters",
         [CDX_UNLISTED] = "this name is not in the mode table",
-        [CDX_VALUE] = "this value is of no kind",
+        [CDX_VALUE] = "no kind of value fits here",
         [CDX_DUE] = "something else was due here",
         [CDX_CLOSING_NAME] = "the open Concept has another name",
         [CDX_CUT] = "the sheet ends before its root is closed",

@@ -40,7 +40,7 @@ enum cdx_number {
     CDX_BYTES = 3,            /* bytes that no sheet may have: not UTF-8, or a control byte */
     CDX_NAME = 4,             /* a name breaks the name rule or is longer than CDX_MAX_NAME bytes */
     CDX_UNLISTED = 5,         /* a Concept's name is not in the mode table */
-    CDX_VALUE = 6,            /* a trait's value is of no kind */
+    CDX_VALUE = 6,            /* no kind of value fits; the place shows where inside a trait's value */
     CDX_DUE = 7,              /* something else was due here */
     CDX_CLOSING_NAME = 8,     /* a closing marker has another name than the open Concept */
     CDX_CUT = 9,              /* the input ends before the root is closed */
