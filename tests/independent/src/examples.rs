@@ -415,9 +415,10 @@ fn reading_42() {
     for (value, form) in good {
         value_form(value, form);
     }
+    // request Five has made (1) and set[1] values
     let bad = [
         "1.", ".5", "1/-2", "01/2", "1e05", "1/02", "truex", "-Infinity", "Infinity", "$", "$a", "~A", "~", "-", "1e", "1/2/3", "-x:y",
-        "1:", "123e4567-E89b-12d3-a456-42661417400", "1e1/2", "1i", "1.5p", "#fff", "(1)", "set[1]",
+        "1:", "123e4567-E89b-12d3-a456-42661417400", "1e1/2", "1i", "1.5p", "#fff", "rgb(1)", "1..2",
     ];
     for value in bad {
         value_no_kind(value);
@@ -891,4 +892,279 @@ fn request_four_is_passed_on() {
     assert_eq!(write_form(TABLE, sheet.as_bytes(), ALL, 16_384), (refusal, Vec::new()));
     adds(sheet, b"<Lab />\n", 60, 8, Err((6, 12)));
     records(format!("<Lab/>\n{sheet}<Lab/>\n"), &[[0, 7, 0, 7, 1], [7, 27, 6, 12, 0], [27, 34, 0, 7, 1]]);
+}
+
+// ---- Request Five; the numbers are those of READINGS-02.md
+
+/// The same item of a list, a set, a map under the key `k`, and a tuple: what stands before it, and behind it.
+const AROUND: [(&str, &str); 4] = [("[", "]"), ("set[", "]"), ("map[k:", "]"), ("(", ")")];
+
+#[test]
+fn request_five() {
+    for ((before, behind), bracket) in AROUND.into_iter().zip([12, 14, 15, 16]) {
+        value_form(&format!("{before}1{behind}"), bracket);
+        // nested with lists
+        for (outer, closing) in AROUND {
+            value_form(&format!("[{outer}{before}1{behind}{closing}]"), 12);
+        }
+        // an item at fault is at its own place, as in a list
+        for (item, fault) in
+            [("04", 0), ("\"a\\q\"", 2), ("''", 1), ("{noon}", 0), (",1", 0), ("1, ,2", 3), ("1 ", 1), ("1>", 1), ("[1;2]", 1)]
+        {
+            value_no_kind_at(&format!("{before}{item}{behind}"), 7 + before.len() + fault);
+        }
+        value_refused(before, 9, 7 + before.len());
+        value_refused(&format!("{before}04"), 9, 9 + before.len());
+        value_refused(&format!("{before}1{behind}"), 9, 8 + before.len() + behind.len());
+        value_refused(&format!("{before}1{behind}?"), 7, 8 + before.len() + behind.len());
+    }
+    // an empty tuple at its ")", a bad key at its start, a missing colon where it was due
+    value_form("[]", 12);
+    value_form("set[]", 14);
+    value_form("map[]", 15);
+    value_no_kind_at("()", 8);
+    value_no_kind_at("map[a:1,04:2]", 15);
+    value_no_kind_at("map[a:1,b;2]", 15);
+    value_no_kind_at("map[a:1,b 2]", 16);
+    value_no_kind_at("map[a:1,\"b\"2]", 18);
+}
+
+/// The same depth of eight, at the bracket: the last byte of what opens.
+#[test]
+fn request_five_depth() {
+    for (before, behind) in AROUND {
+        for (inner, closing) in AROUND {
+            let seven = (before.repeat(7), behind.repeat(7));
+            value_form(&format!("set[{}1{}]", seven.0, seven.1), 14);
+            value_form(&format!("({}[]{})", before.repeat(6), behind.repeat(6)), 16);
+            let bracket = inner.find(|one| one == '[' || one == '(').unwrap();
+            let deep = format!("({}{inner}1{closing}{}) />", seven.0, seven.1);
+            value_refused(&deep, 10, 7 + 1 + seven.0.len() + bracket);
+            value_refused(&deep[..1 + seven.0.len() + bracket + 1], 10, 7 + 1 + seven.0.len() + bracket);
+        }
+    }
+    // each value anew
+    accepted(format!("<Lab n={0}1{1} m={0}1{1}/>", "(".repeat(8), ")".repeat(8)));
+    value_form("([[[[[[[1]]]]]]],set[[[[[[[1]]]]]]],map[a:[[[[[[1]]]]]]])", 16);
+}
+
+#[test]
+fn request_five_reading_18() {
+    refused("<Lab n=set />", 6, 7);
+    accepted("<Lab n=set:x />");
+    value_form("set:x", 11);
+    refused("<Lab n=set [1] />", 6, 7);
+    refused("<Lab n=Set[1] />", 6, 7);
+    refused("<Lab n=set", 9, 10);
+    value_form("map:y", 11);
+    value_form("set:[1]", 11);
+    value_form("map:(1)", 11);
+    value_form("[set:x,map:y]", 12);
+    for word in ["map", "Map[a:1]", "SET[1]", "sets[1]", "set(1)", "map(1)", "map{a:1}", "-set[1]", "1(2)", "rgb(1)", "set]", ")"] {
+        value_no_kind(word);
+    }
+    value_no_kind("map [a:1]");
+    value_no_kind_at("[1,set]", 10);
+    value_no_kind_at("[Set[1]]", 8);
+    value_refused("map", 9, 10);
+    value_refused("set:", 9, 11);
+}
+
+#[test]
+fn request_five_reading_19() {
+    refused("<Lab n=[[[[[[[[set[1]]]]]]]]] />", 10, 18);
+    refused("<Lab n=[[[[[[[[(", 10, 15);
+    refused("<Lab n=[[[[[[[[()", 10, 15);
+    refused("<Lab n=[[[[[[[[set", 9, 18);
+    refused("<Lab n=[[[[[[[[map[", 10, 18);
+    refused("<Lab n=[[[[[[[[map[]", 10, 18);
+    refused("<Lab n=[[[[[[[[map", 9, 18);
+    refused("<Lab n=((((((((map:y,set:x)))))))) m=", 9, 37);
+    refused("<Lab n=map[(:1,[[[[[[[[[", 6, 11);
+}
+
+#[test]
+fn request_five_reading_20() {
+    cells("<Lab n=map[\"k\":1] />", &[[1, 1, TOP, 1, 1, 4, 0, 20], [2, 15, 0, 1, 5, 6, 7, 17], [3, 4, 1, 0, 11, 14, 15, 16]]);
+    refused_with("<Lab n=map[a:1] />", 16, 11, 11);
+    refused_with("<Lab n=set[1] />", 16, 11, 11);
+    refused_with("<Lab n=(1) />", 16, 11, 8);
+    // the other items have no name
+    cells(
+        "<Lab n=(1, set[2], map[a:\t'b',$C: (3)])/>",
+        &[
+            [1, 1, TOP, 1, 1, 4, 0, 41],
+            [2, 16, 0, 3, 5, 6, 7, 39],
+            [3, 4, 1, 0, 8, 8, 8, 9],
+            [3, 14, 1, 1, 11, 11, 11, 17],
+            [3, 4, 3, 0, 15, 15, 15, 16],
+            [3, 15, 1, 2, 19, 19, 19, 38],
+            [3, 2, 5, 0, 23, 24, 26, 29],
+            [3, 16, 5, 1, 30, 32, 34, 37],
+            [3, 4, 7, 0, 35, 35, 35, 36],
+        ],
+    );
+    refused_with("<Lab n=map[a:1, \"b\": (2)] />", 24, 11, 16);
+    refused_with("<Lab n=map[a:1, \"b\": (2)] />", 32, 11, 22);
+    refused_with("<Lab n=map[a:1, \"b\": (2)]?", 40, 7, 25);
+    // 6, 9 and 10 come before 11
+    refused_with("<Lab n=map[a:1,A:2] />", 8, 6, 15);
+    refused_with("<Lab n=map[a:1,b", 8, 9, 16);
+    refused_with("<Lab n=(((((((((", 8, 10, 15);
+    refused_with("<Lab n=(1)", 8, 11, 5);
+}
+
+#[test]
+fn request_five_reading_21() {
+    refused("<Lab n=map[`a`:1] />", 6, 11);
+    refused("<Lab n=map[04:1] />", 6, 11);
+    accepted("<Lab n=map[-0:1,true:1,$Ab:1] />");
+    refused("<Lab n=map[1.5:1] />", 6, 11);
+    accepted("<Lab n=map[aBCDE:1] />");
+    refused("<Lab n=map[A:1] />", 6, 11);
+    let long = "a".repeat(100);
+    for key in
+        ["a", "k9", "set", "map", "false", "e1", "0", "+7", "12", "$A", "$ABC9", "\"\"", "\"\\u{61} :,]\"", "'\\''", "':'", "\"\t\"", &long]
+    {
+        value_form(&format!("map[{key}:1]"), 15);
+    }
+    let bad = [
+        "9a", "a-b", "a.b", "_a", "~a", "$a", "$", "-", "+", "00", "1e5", "1/2", "-1.0", "--1", "{now}", "set[1]", "(1)", "[]", "\u{e9}",
+        "a\"", "123e4567-E89b-12d3-a456-426614174000", "True", "a?", "a\\n", "#a", "\"a\nb\"", "\"\\u{110000}\"", "''", "'", "'\\\"'",
+        "'\n'",
+    ];
+    for key in bad {
+        value_no_kind_at(&format!("map[{key}:1]"), 11);
+        value_no_kind_at(&format!("(map[k:1, {key}:1])"), 17);
+    }
+}
+
+#[test]
+fn request_five_reading_22() {
+    refused("<Lab n=map[\"x\\q\":1] />", 6, 11);
+    refused("<Lab n=map['ab':1] />", 6, 11);
+    refused("<Lab n=map[\"x\n", 6, 11);
+    refused("<Lab n=map[A", 9, 12);
+    refused("<Lab n=map[\"a\"", 9, 14);
+    refused("<Lab n=map[\"a", 9, 13);
+    refused("<Lab n=map[\"\\u{110000", 9, 21);
+    refused("<Lab n=map['ab", 6, 11);
+    refused("<Lab n=map['", 9, 12);
+    refused("<Lab n=map[a:1,'\\q", 6, 15);
+    // the value under a good key keeps request Four's place
+    refused("<Lab n=map[\"x\":\"y\\q\"] />", 6, 17);
+}
+
+#[test]
+fn request_five_reading_23() {
+    refused("<Lab n=map[{12:00}:1] />", 6, 11);
+    refused("<Lab n=map[{a:", 6, 11);
+    refused("<Lab n=map[[1]:1] />", 6, 11);
+    refused("<Lab n=map[a=1] />", 6, 11);
+    refused("<Lab n=map[{a", 9, 13);
+    refused("<Lab n=map[[", 9, 12);
+    refused("<Lab n=map[(a):1] />", 6, 11);
+    refused("<Lab n=(map[a)", 9, 14);
+    refused("<Lab n=(map[a):1]) />", 6, 12);
+    refused("<Lab n=map[`a` :1] />", 6, 11);
+    refused("<Lab n=map[a/b:1] />", 6, 11);
+    refused("<Lab n=map[a/", 9, 13);
+}
+
+#[test]
+fn request_five_reading_24() {
+    refused("<Lab n=map[04] />", 6, 11);
+    refused("<Lab n=map[a] />", 6, 12);
+    refused("<Lab n=map[a :1] />", 6, 12);
+    refused("<Lab n=map[:1] />", 6, 11);
+    refused("<Lab n=map[a:1,] />", 6, 15);
+    refused("<Lab n=map[ ] />", 6, 11);
+    refused("<Lab n=map[a/>", 6, 12);
+    refused("<Lab n=map[a>", 6, 12);
+    refused("<Lab n=map[a,b:1] />", 6, 12);
+    refused("<Lab n=map[\"a\"b:1] />", 6, 14);
+    refused("<Lab n=map[\"a\" :1] />", 6, 14);
+    refused("<Lab n=map['a'\r\n:1] />", 6, 14);
+    refused("<Lab n=map[,a:1] />", 6, 11);
+    refused("<Lab n=map[a:1,\n,b:1] />", 6, 16);
+    refused("<Lab n=map[/>", 6, 11);
+    refused("<Lab n=map[a:] />", 6, 13);
+    refused("<Lab n=map[a:,b:1] />", 6, 13);
+    refused("<Lab n=map[a:\r\n] />", 6, 15);
+    refused("<Lab n=map[a:", 9, 13);
+    refused("<Lab n=map[a: ", 9, 14);
+    refused("<Lab n=map[a:1,", 9, 15);
+}
+
+#[test]
+fn request_five_reading_25() {
+    accepted("<Lab n=map[a: 1] />");
+    refused("<Lab n=set[ 1] />", 6, 11);
+    refused("<Lab n=(1 ) />", 6, 9);
+    refused("<Lab n=( ) />", 6, 8);
+    refused("<Lab n=() />", 6, 8);
+    accepted("<Lab n=map[a:\r\n\t 1,\n\tb:2]/>");
+    accepted("<Lab n=(1,\n\t2, 3)/>");
+    refused("<Lab n=map[a:1 ] />", 6, 14);
+    refused("<Lab n=map[a:1 ,b:2] />", 6, 14);
+    refused("<Lab n=set[ ] />", 6, 11);
+    refused("<Lab n=set[1 ] />", 6, 12);
+    refused("<Lab n=( 1) />", 6, 8);
+    refused("<Lab n=(1 ,2) />", 6, 9);
+    refused("<Lab n=(1,) />", 6, 10);
+    refused("<Lab n=(,) />", 6, 8);
+    refused("<Lab n=(", 9, 8);
+}
+
+#[test]
+fn request_five_reading_26() {
+    refused("<Lab n=(x:a(b)) />", 7, 14);
+    accepted("<Lab n=(x:[1]) />");
+    accepted("<Lab n=([x:a)]) />");
+    accepted("<Lab n=[(x:a])] />");
+    refused("<Lab n=(1] />", 6, 8);
+    refused("<Lab n=(\"a\"] />", 6, 11);
+    accepted("<Lab n=map[a:x:y] />");
+    refused("<Lab n=map[a:1:2] />", 6, 13);
+    accepted("<Lab n=map[a:{2024-01-01T00:00Z[a/b]}] />");
+    accepted("<Lab n=(map[a:x:)],x:]) />");
+    accepted("<Lab n=map[a:(x:]:),b:x:)] />");
+    accepted("<Lab n=set[x:(] />");
+    refused("<Lab n=set[x:[]] />", 7, 15);
+    refused("<Lab n=[1) />", 6, 8);
+    refused("<Lab n=[{now}) />", 6, 13);
+    refused("<Lab n=((1)] />", 6, 11);
+    refused("<Lab n=(set[1)) />", 6, 12);
+    accepted("<Lab n=x:(1) m=(x:) />");
+    value_form("x:(,)]", 11);
+}
+
+#[test]
+fn request_five_reading_27() {
+    written("map[\"\\u{61}\":1,'\\u{62}':2]", "map[\"a\": 1, 'b': 2]");
+    accepted("<Lab n=set[1,1] />");
+    accepted("<Lab n=map[a:1,a:2] />");
+    written("map[a:1,a:2,\"a\":3]", "map[a: 1, a: 2, \"a\": 3]");
+    written("map[+7:`a  b`,\n$Ab:\tAAAAAAAA-BBBB-CCCC-DDDD-EEEEEEEEEEEE]", "map[+7: \"a b\", $Ab: aaaaaaaa-bbbb-cccc-dddd-eeeeeeeeeeee]");
+    written("map[\"'\\\"\\\\\t\\u007F\":'\\u{22}','\"':\"\\u{27}\",'\\'':0]", "map[\"'\\\"\\\\\\t\\u{7f}\": '\"', '\"': \"'\", '\\'': 0]");
+    written("(1,\n2,set[],map[],[(x:/,{now})])", "(1, 2, set[], map[], [(x:/, {now})])");
+    written("set[map[k:[1,2]],(set[1,\t1])]", "set[map[k: [1, 2]], (set[1, 1])]");
+    form("<Lab a=(x:/) b=set[1,2]\nc=map[d:1]>\n</Lab>", "<Lab\n\ta=(x:/)\n\tb=set[1, 2]\n\tc=map[d: 1]\n>\n</Lab>\n");
+    form("<Lab a=(x:/)>\n</Lab>", "<Lab a=(x:/)>\n</Lab>\n");
+    let sheet = b"<Lab n=map[a:1,b:2]/>";
+    assert_eq!(write_form(TABLE, sheet, ALL, 25), (Answer { number: 12, place: 0, count: 0 }, Vec::new()));
+    assert_eq!(write_form(TABLE, sheet, ALL, 26).1, b"<Lab n=map[a: 1, b: 2] />\n");
+}
+
+/// A view shows a map item's value, not its key; rolls and adding pass the places on.
+#[test]
+fn request_five_is_passed_on() {
+    let sheet = b"<Lab n=map[\"k\":'v'] />";
+    let (_, cells) = read_sheet(TABLE, sheet, ALL);
+    assert_eq!(view(sheet, &cells, 2), Ok(&b"'v'"[..]));
+    adds("<Lab n=map[k:1 ] />", b"", 60, 0, Err((6, 14)));
+    adds("<Lab n=(1,2)/>", b"", 60, 0, Ok(b"<Lab n=(1, 2) />\n\n"));
+    records("<Lab n=()/>\n<Lab n=(1)/>\n<Lab n=map[k\n", &[[0, 12, 6, 8, 0], [12, 25, 0, 13, 3], [25, 38, 6, 12, 0]]);
+    // a bracket is no value in Content, an annotation or a string
+    form("[()]\n<Steps n=\"(\">\n\tset[\n</Steps>", "[()]\n<Steps n=\"(\">\n\tset[\n</Steps>\n");
 }

@@ -1,10 +1,10 @@
 //! Makes request lines from a seed: tables, sheets, rolls and times that are valid, nearly valid, damaged, cut or at a limit.
-//! Follows document 01's grammar, and 001 §18's, to print trees in random layouts; each printed rule may be broken once.
+//! Follows document 01's grammar, and 001 §18's to §22's, to print trees in random layouts; each printed rule may be broken once.
 
 use crate::reader::{read_sheet, CONCEPTS_DEEP, ENTRIES, ENTRY_CELLS, NAME_BYTES, SHEET_BYTES};
 use crate::rolls::{read_roll, RECORD_CELLS, ROLL_BYTES, SHEETS};
 use crate::to_hex;
-use crate::values::LISTS_DEEP;
+use crate::values::{Bracket, BRACKETS_DEEP, LIST, MAP, SET, TUPLE};
 use crate::writer::write_form;
 
 /// Cells for every entry a sheet may have.
@@ -32,7 +32,7 @@ const SMALL: usize = 200;
 /// The requests about one table, sheet, roll or time, of all kinds.
 fn add_requests(lines: &mut Vec<String>, chance: &mut Chance, longest: usize) {
     let names = if SMALL < longest && chance.one_in(6) { Names::many(chance) } else { Names::random(chance) };
-    match chance.below(520) {
+    match chance.below(600) {
         0..=19 => add_table(lines, chance, &names, longest),
         20..=27 => add_limit(lines, chance, longest),
         28 => add_cuts(lines, chance, &names, longest),
@@ -53,6 +53,10 @@ fn add_requests(lines: &mut Vec<String>, chance: &mut Chance, longest: usize) {
         250..=329 => add_time(lines, chance, longest),
         330..=409 => {
             let sheet = one_fault(chance);
+            add_sheet(lines, chance, &Names::papers().table(), &sheet, longest);
+        }
+        410..=489 => {
+            let sheet = one_bracketed(chance);
             add_sheet(lines, chance, &Names::papers().table(), &sheet, longest);
         }
         _ => {
@@ -116,7 +120,7 @@ fn view_request(chance: &mut Chance, table: &[u8], sheet: &[u8]) -> String {
     format!("view {} {number}{cells}", to_hex(sheet))
 }
 
-/// Cells to lend: mostly plenty or more; else none, few, exactly enough or one too few.
+/// Cells to lend: mostly plenty or more; else none, few, too few, exactly enough or one too few.
 fn random_lent(chance: &mut Chance, table: &[u8], sheet: &[u8]) -> usize {
     let enough = read_sheet(table, sheet, PLENTY).0.count * ENTRY_CELLS;
     match chance.below(20) {
@@ -126,6 +130,7 @@ fn random_lent(chance: &mut Chance, table: &[u8], sheet: &[u8]) -> usize {
         3..=6 => PLENTY + chance.below(40),
         7..=8 if enough > 0 => enough,
         9..=10 if enough > 0 => enough - 1,
+        11..=12 if enough > 0 => chance.below(enough),
         _ => PLENTY,
     }
 }
@@ -237,7 +242,12 @@ fn roll_at_limit(chance: &mut Chance, names: &Names) -> Vec<u8> {
 
 /// A sheet to be added to a roll.
 fn add_adding(lines: &mut Vec<String>, chance: &mut Chance, names: &Names, longest: usize) {
-    let sheet = if chance.one_in(12) { of_length(SHEET_BYTES - 2 + chance.below(4)).into_bytes() } else { any_sheet(chance, names) };
+    let papers = Names::papers();
+    let (names, sheet) = match chance.below(12) {
+        0 => (names, of_length(SHEET_BYTES - 2 + chance.below(4)).into_bytes()),
+        1 | 2 => (&papers, one_bracketed(chance)),
+        _ => (names, any_sheet(chance, names)),
+    };
     let roll = any_roll(chance, names, longest);
     if sheet.len() > longest || roll.len() > 4 * longest {
         return;
@@ -407,7 +417,7 @@ fn pieces_in_a_row(chance: &mut Chance) -> String {
         "\"", "\\", "\\u", "{", "}", "0", "1", "D8", "'", "`", "[", "]", ",", " ", "\n", "/", ">", "x:", ".", "e", "-", "a", "true",
         "\u{e9}", "$", "~",
     ];
-    let (start, pieces) = match chance.below(9) {
+    let (start, pieces) = match chance.below(13) {
         0 => ("", &lines[..]),
         1 => ("<Lab>\n", &lines[..]),
         2 => ("\t<Steps>\n", &lines[..]),
@@ -416,13 +426,17 @@ fn pieces_in_a_row(chance: &mut Chance) -> String {
         5 => ("<Lab n=[", &values[..]),
         6 => ("<Lab n=", &TIME_PIECES[..]),
         7 => ("<Lab n=[{", &TIME_PIECES[..]),
+        8 => ("<Lab n=map[", &BRACKET_PIECES[..]),
+        9 => ("<Lab n=(", &BRACKET_PIECES[..]),
+        10 => ("<Lab n=set[map[a:", &BRACKET_PIECES[..]),
+        11 => ("<Lab n=", &BRACKET_PIECES[..]),
         _ => ("<Lab n=", &values[..]),
     };
     let mut sheet = start.to_string();
     for _ in 0..chance.below(8) {
         sheet.push_str(chance.pick(pieces));
     }
-    let end = chance.pick(&["", "", "/>", " />", ">\n</Lab>", "\n\t</Steps>", "\n</Lab>", "]/>", "\"/>"]);
+    let end = chance.pick(&["", "", "/>", " />", ">\n</Lab>", "\n\t</Steps>", "\n</Lab>", "]/>", ")/>", "\"/>"]);
     sheet + end
 }
 
@@ -437,7 +451,18 @@ fn one_value(chance: &mut Chance) -> String {
         1 | 2 => chance.pick(&FAULTY_VALUES).to_string(),
         _ => (0..1 + chance.below(5)).map(|_| chance.pick(&parts)).collect(),
     };
-    let (before, behind) = *chance.pick(&[&("", ""), &("[", "]"), &("[1,", ",x:]"), &("[[], ", ", \"a\"]")]);
+    let around = [
+        ("", ""),
+        ("[", "]"),
+        ("[1,", ",x:]"),
+        ("[[], ", ", \"a\"]"),
+        ("(", ")"),
+        ("(1,", ",x:)"),
+        ("set[", "]"),
+        ("map[a:", ",b:1]"),
+        ("map[", ":1]"),
+    ];
+    let (before, behind) = around[chance.below(around.len())];
     format!("<Lab n={before}{value}{behind}{}", chance.pick(&["/>", " />", ">\n</Lab>", " m=1/>", ""]))
 }
 
@@ -452,6 +477,13 @@ fn one_address(chance: &mut Chance) -> Vec<u8> {
         ("<Lab u=", " />"),
         ("<Lab u=[1, x:", "/, y:] />"),
         ("<Lab u=[[x:a", "]]/>"),
+        ("<Lab u=(x:", ",1) />"),
+        ("<Lab u=(1,x:a]", ") />"),
+        ("<Lab u=set[x:", ", set:] />"),
+        ("<Lab u=map[a:x:", ",b:map:] />"),
+        ("<Lab u=map[a", ":x:] />"),
+        ("<Lab u=map[\"", "\":1] />"),
+        ("<Lab u=map['", "':x:] />"),
         ("<Lab u=\"x:", "\" />"),
         ("<Lab u='", "' />"),
         ("<Lab u=`x: ", " ` />"),
@@ -534,6 +566,12 @@ fn one_time(chance: &mut Chance, time: &str) -> Vec<u8> {
         ("<Lab n=[[], ", ",\n\"a\"] />"),
         ("<Lab n=[{P1D},[{02-29}, ", "]] />"),
         ("<Lab n=[[[[[[[[", "]]]]]]]]/>"),
+        ("<Lab n=(", ")/>"),
+        ("<Lab n=({now}, ", ",x:) />"),
+        ("<Lab n=set[", ", {now}]/>"),
+        ("<Lab n=map[a:", "]/>"),
+        ("<Lab n=map[a: {12:00},b:\n", ", $C: 1] />"),
+        ("<Lab n=map[\"{\":(", ")]/>"),
     ];
     let other = [
         ("<Lab n=", "x />"),
@@ -555,6 +593,15 @@ fn one_time(chance: &mut Chance, time: &str) -> Vec<u8> {
         ("<Lab n=[04,", "]/>"),
         ("<Lab n=[ ", "]/>"),
         ("<Lab n=[[[[[[[[[", "]]]]]]]]]/>"),
+        ("<Lab n=(", "]/>"),
+        ("<Lab n=(", ""),
+        ("<Lab n=( ", ")/>"),
+        ("<Lab n=set", "/>"),
+        ("<Lab n=map[", ":1]/>"),
+        ("<Lab n=map[", "]/>"),
+        ("<Lab n=map[a", "]/>"),
+        ("<Lab n=map[a:", ":1]/>"),
+        ("<Lab n=map[a :", "]/>"),
         ("<Lab n=x:", " />"),
         ("<Lab n=1", " />"),
         ("<Lab n=$A", "/>"),
@@ -739,25 +786,16 @@ const FAULTY_TIMES: [&str; 118] = [
 
 // ---- Faults inside values
 
-/// A sheet with a value that has a fault inside: in lists, between other items, behind other bytes of a string; at times cut.
+/// A sheet with a value that has a fault inside: in brackets, between other items, behind other bytes of a string; at times cut.
 fn one_fault(chance: &mut Chance) -> Vec<u8> {
-    let lists = if chance.one_in(8) { chance.below(LISTS_DEEP + 2) } else { chance.below(4) };
-    let mut value = String::new();
-    for _ in 0..lists {
-        value.push('[');
-        for _ in 0..chance.below(3) {
-            value.push_str(&good_item(chance));
-            value.push_str(chance.pick(&ITEM_ENDS));
-        }
-    }
-    value.push_str(&faulty_value(chance));
-    for _ in 0..lists {
-        for _ in 0..chance.below(2) {
-            value.push_str(chance.pick(&ITEM_ENDS));
-            value.push_str(&good_item(chance));
-        }
-        value.push(']');
-    }
+    let deep = if chance.one_in(8) { chance.below(BRACKETS_DEEP + 2) } else { chance.below(4) };
+    let fault = faulty_value(chance);
+    let value = in_brackets(chance, deep, 2, &fault);
+    in_a_marker(chance, &value)
+}
+
+/// A sheet with the value in a marker that is mostly good; at times cut, anywhere or behind the value.
+fn in_a_marker(chance: &mut Chance, value: &str) -> Vec<u8> {
     let around = [
         ("<Lab n=", " />"),
         ("<Lab n=", "/>"),
@@ -767,39 +805,92 @@ fn one_fault(chance: &mut Chance) -> Vec<u8> {
     ];
     let (before, behind) = around[chance.below(around.len())];
     let sheet = format!("{before}{value}{behind}").into_bytes();
-    let length = if chance.one_in(8) { chance.below(sheet.len() + 1) } else { sheet.len() };
+    let length = match chance.below(16) {
+        0 | 1 => chance.below(sheet.len() + 1),
+        2 => before.len() + value.len(),
+        _ => sheet.len(),
+    };
     sheet[..length].to_vec()
 }
 
-/// What may stand between two items.
-const ITEM_ENDS: [&str; 5] = [",", ",", ", ", ",\n\t", ",\r\n"];
+/// The value in so many brackets, each of any kind and with up to `beside` good items before it, and at most one behind it.
+fn in_brackets(chance: &mut Chance, deep: usize, beside: usize, value: &str) -> String {
+    let brackets: Vec<&Bracket> = (0..deep).map(|_| any_bracket(chance)).collect();
+    let mut text = String::new();
+    for bracket in &brackets {
+        text.push_str(bracket.opener);
+        for _ in 0..chance.below(beside + 1) {
+            text.push_str(&good_item(chance, bracket));
+            text.push_str(chance.pick(&ITEM_ENDS));
+        }
+        if bracket.keyed {
+            text.push_str(&good_key(chance));
+            text.push_str(chance.pick(&COLONS));
+        }
+    }
+    text.push_str(value);
+    for bracket in brackets.iter().rev() {
+        for _ in 0..chance.below(beside.min(1) + 1) {
+            text.push_str(chance.pick(&ITEM_ENDS));
+            text.push_str(&good_item(chance, bracket));
+        }
+        text.push(bracket.closer);
+    }
+    text
+}
 
-/// A value that may stand in a list, seldom one itself.
-fn good_item(chance: &mut Chance) -> String {
+/// What may stand between two items, and between a key and its value.
+const ITEM_ENDS: [&str; 5] = [",", ",", ", ", ",\n\t", ",\r\n"];
+const COLONS: [&str; 5] = [":", ":", ": ", ":\t", ":\r\n"];
+
+/// A kind of bracket, a map more often than another.
+fn any_bracket(chance: &mut Chance) -> &'static Bracket {
+    chance.pick(&[&LIST, &SET, &MAP, &MAP, &TUPLE])
+}
+
+/// What a printer prints that breaks no rule.
+fn printed(chance: &mut Chance, print: impl FnOnce(&mut Printer)) -> String {
     let names = Names::papers();
     let mut printer = Printer::new(chance, &names, false);
-    printer.value(1, true);
+    print(&mut printer);
     String::from_utf8(printer.text).expect("values are text")
 }
 
-/// What mostly is no value: a word, a time, a string, a character or a list with a fault.
+/// What may stand in the bracket as an item, seldom with a bracket of its own.
+fn good_item(chance: &mut Chance, bracket: &'static Bracket) -> String {
+    let deeper = usize::from(chance.one_in(4));
+    printed(chance, |printer| printer.item(deeper, bracket))
+}
+
+fn good_key(chance: &mut Chance) -> String {
+    printed(chance, |printer| printer.key())
+}
+
+/// What mostly is no value: a word, a time, a string, a character, or brackets with a fault.
 fn faulty_value(chance: &mut Chance) -> String {
-    match chance.below(6) {
+    match chance.below(8) {
         0 | 1 => chance.pick(&FAULTY_VALUES).to_string(),
         2 => nearly_time(chance),
         3 => faulty_string(chance),
         4 => faulty_character(chance),
+        5 => chance.pick(&FAULTY_BRACKETS).to_string(),
+        6 => faulty_map(chance),
         _ => {
-            let due = chance.pick(&["", " ", ";", ":", " ,", "\n", "\r\n,", ",,", ", ,", ">", "/>", "\"", "{", "[", "=", "\\", "\u{e9}"]);
-            format!("[{}{due}{}]", good_item(chance), good_item(chance))
+            let due = chance
+                .pick(&["", " ", ";", ":", " ,", "\n", "\r\n,", ",,", ", ,", ">", "/>", "\"", "{", "[", "(", ")", "=", "\\", "\u{e9}"]);
+            let bracket = any_bracket(chance);
+            let (one, other) = (good_item(chance, bracket), good_item(chance, bracket));
+            format!("{}{one}{due}{other}{}", bracket.opener, bracket.closer)
         }
     }
 }
 
 /// A string with a bad escape or a line end somewhere.
 fn faulty_string(chance: &mut Chance) -> String {
-    let good =
-        ["a", "boot 7", "\\n", "\\\\", "\\\"", "\\u0041", "\\u{1F600}", "\u{e9}", "\u{1F600}", "'", "\t", "[", ",", "0123456789abcdef"];
+    let good = [
+        "a", "boot 7", "\\n", "\\\\", "\\\"", "\\u0041", "\\u{1F600}", "\u{e9}", "\u{1F600}", "'", "\t", "[", ",", "]", ":",
+        "0123456789abcdef",
+    ];
     let faults = [
         "\\q", "\\'", "\\\n", "\\\r\n", "\n", "\r\n", "\\u00\n", "\\ug", "\\u12", "\\uD800", "\\uDFFF", "\\u{}", "\\u{110000}",
         "\\u{D800}", "\\u{1234567}", "\\u{0", "\\U0041", "\\ ", "\\x41", "\\\u{e9}",
@@ -823,6 +914,150 @@ fn faulty_character(chance: &mut Chance) -> String {
     format!("'{inside}'")
 }
 
+// ---- Sets, maps and tuples
+
+/// A sheet with a value in brackets: good, nearly good, at the limit of depth, or with words and keys that hold what ends others; at times
+/// cut.
+fn one_bracketed(chance: &mut Chance) -> Vec<u8> {
+    let value = match chance.below(14) {
+        0..=5 => good_brackets(chance),
+        6 | 7 => {
+            let good = good_brackets(chance);
+            nearly(chance, &good)
+        }
+        8 => deep_brackets(chance),
+        9 | 10 => {
+            let word = chance.pick(&BRACKET_WORDS);
+            in_some_brackets(chance, word)
+        }
+        11 => {
+            let fault = chance.pick(&FAULTY_BRACKETS);
+            in_some_brackets(chance, fault)
+        }
+        12 => {
+            let fault = faulty_map(chance);
+            in_some_brackets(chance, &fault)
+        }
+        _ => (0..1 + chance.below(10)).map(|_| chance.pick(&BRACKET_PIECES)).collect(),
+    };
+    in_a_marker(chance, &value)
+}
+
+fn in_some_brackets(chance: &mut Chance, value: &str) -> String {
+    let (deep, beside) = (chance.below(4), chance.below(2));
+    in_brackets(chance, deep, beside, value)
+}
+
+/// A list, set, map or tuple with up to three items.
+fn good_brackets(chance: &mut Chance) -> String {
+    let bracket = any_bracket(chance);
+    let deeper = chance.below(4);
+    printed(chance, |printer| printer.bracketed(deeper, bracket))
+}
+
+/// The value with one or two scalars changed, put in or taken out.
+fn nearly(chance: &mut Chance, value: &str) -> String {
+    let telling: Vec<char> = "[[]](()),,::  \t\n\"'/>={}smA04$".chars().collect();
+    let mut scalars: Vec<char> = value.chars().collect();
+    for _ in 0..1 + chance.below(2) {
+        let at = chance.below(scalars.len() + 1);
+        let one = telling[chance.below(telling.len())];
+        match chance.below(3) {
+            0 => scalars.insert(at, one),
+            1 if at < scalars.len() => scalars[at] = one,
+            _ if at < scalars.len() => drop(scalars.remove(at)),
+            _ => {}
+        }
+    }
+    scalars.into_iter().collect()
+}
+
+/// A value in as many brackets as are allowed, or one or two fewer or one more, at times without what closes them.
+fn deep_brackets(chance: &mut Chance) -> String {
+    let deep = BRACKETS_DEEP - 2 + chance.below(4);
+    let beside = usize::from(chance.one_in(6));
+    let insides =
+        ["1", "", "x:y", "set", "map", "set:x", "map:y", "()", "[]", "set[]", "map[]", "map[a:1]", "(1)", "set[1]", "[1]", "{now}", "04"];
+    let inside = chance.pick(&insides);
+    let value = in_brackets(chance, deep, beside, inside);
+    if inside.is_empty() || chance.one_in(4) {
+        value.trim_end_matches(&[']', ')'][..]).to_string()
+    } else {
+        value
+    }
+}
+
+/// A map with a bad key, or with what is no colon behind a good one.
+fn faulty_map(chance: &mut Chance) -> String {
+    let mut map = String::from(MAP.opener);
+    for _ in 0..chance.below(2) * chance.below(3) {
+        map.push_str(&good_item(chance, &MAP));
+        map.push_str(chance.pick(&ITEM_ENDS));
+    }
+    if chance.one_in(3) {
+        map.push_str(&good_key(chance));
+        map.push_str(
+            chance.pick(&[
+                "", " ", " :", "\n:", "\r\n", "::", ",", "]", ";", "=", "/>", ">", ")", "\"", "{", "[", "\u{e9}", ":]", ": ]", ":,",
+            ]),
+        );
+    } else {
+        map.push_str(&faulty_key(chance));
+        map.push_str(chance.pick(&[":", ":", ":", ": ", "", " :", "]", ","]));
+    }
+    map.push_str(chance.pick(&["1", "x:y", "{now}", "(1)", "\"a\"", "04", ""]));
+    map.push_str(chance.pick(&["]", "]", "]", "", ",", ",b:1]", ")"]));
+    map
+}
+
+/// What mostly is no key.
+fn faulty_key(chance: &mut Chance) -> String {
+    match chance.below(6) {
+        0 => faulty_string(chance),
+        1 => faulty_character(chance),
+        2 => chance.pick(&WORDS).to_string(),
+        _ => chance.pick(&FAULTY_KEYS).to_string(),
+    }
+}
+
+/// Keys that are words.
+const KEYS: [&str; 21] = [
+    "a", "b", "k9", "aBCDE", "true", "false", "set", "map", "now", "e1", "a23456789012345678901234567890123", "0", "-0", "+7", "12", "-99",
+    "18446744073709551616", "$A", "$Ab", "$ABC9", "x",
+];
+
+/// Spellings that are no key, or that stop short of one or go on behind it.
+const FAULTY_KEYS: [&str; 57] = [
+    "", "A", "Ab", "9a", "04", "-04", "00", "+", "-", "--1", "1.5", "1e5", "1/2", "~a", "~A", "$", "$a", "$A-", "`a`", "`a", "{now}",
+    "{12:00}", "{a", "[1]", "[]", "[", "(1)", "()", "(", "set[1]", "set[]", "set[", "map[a:1]", "map[]", "a=1", "a b", " a", "a\n", "a-b",
+    "a.b", "a(b)", "a)", "_a", "a?", "a\\", "a\"", "\"a\"b", "\"a\" ", "\"a", "'a", "a/b", "/", "/>", ">", "\u{e9}", "a\u{e9}",
+    "123e4567-E89b-12d3-a456-426614174000",
+];
+
+/// Words with bytes that end some words and not others, delimited values with such bytes, and words that nearly open a bracket.
+const BRACKET_WORDS: [&str; 58] = [
+    "x:a(b", "x:a(b)", "x:a(b)c", "x:(", "x:)", "x:]", "x:[", "x:[1]", "x:a]b", "x:a)b", "x:a,b", "x:(,)]", "x:y:z", "x::", "x:/", "x:/)",
+    "x:/]", "set:x", "set:", "set:[1]", "set:(1)", "map:y", "map:", "map:[a:1]", "map:(a)", "set", "map", "Set[1]", "SET[1]", "set [1]",
+    "set(1)", "map(1)", "map{a:1}", "sets[1]", "1]", "1)", "1(", "1(2)", "1[", "1:2", "a:1", "a:", "12:00", "$A)", "$A]", "$A:", "true)",
+    "true]", "true:", "1/2)", ")", "(", ":", "{12:00}", "{2024-01-01T00:00Z[a/b]}", "\"](,:)\"", "')'", "`,) ]: (`",
+];
+
+/// Brackets that do not close, that hold white space or nothing at a bad place, or that another bracket closes.
+const FAULTY_BRACKETS: [&str; 67] = [
+    "()", "( )", "(\n)", "(1 )", "( 1)", "(1", "(1,", "(1, ", "(1,)", "(1, )", "(,1)", "(,)", "(1,,2)", "(1 ,2)", "(1 2)", "(1;2)", "(1]",
+    "[1)", "(\"a\"]", "(\"a\"b)", "((1)", "(1))", "(()", "(())", "([)]", "(1>", "(1/>", "(04)", "('ab')", "({no})", "set[ ]", "set[ 1]",
+    "set[1 ]", "set[1", "set[1,", "set[1,]", "set[,1]", "set[,]", "set[1)", "set[1;2]", "set[1]]", "set[", "set[[]", "set[set[]",
+    "set[()]", "set[1>", "set[1/>", "set []", "Set[]", "set(1)", "map[ ]", "map[ a:1]", "map[a:1 ]", "map[a:1 ,b:2]", "map[a:1",
+    "map[a:1,", "map[a:1,]", "map[a:]", "map[a:1)", "map[a:1]]", "map[", "map[a:1;b:2]", "map[a:04]", "map[a:1:2]", "map[a:()]",
+    "map[a:{no}]", "Map[]",
+];
+
+/// What brackets are made of, and what may not stand in them.
+const BRACKET_PIECES: [&str; 40] = [
+    "set[", "map[", "(", "[", "]", ")", "]", ")", ",", ",", ", ", ":", ":", ": ", "a:", "\"k\":", "'c':", "$Ab:", "-1:", "A:", "04:", "a",
+    "1", "x:", "x:y", "\"k\"", "'c'", "$Ab", "04", "{12:00}", "{", "`", " ", "\n", "/", ">", "set", "map", "true", "\u{e9}",
+];
+
 // ---- Damage
 
 /// The bytes with one to three of them changed, inserted or removed.
@@ -840,7 +1075,7 @@ fn damaged(chance: &mut Chance, mut bytes: Vec<u8>) -> Vec<u8> {
 }
 
 fn random_byte(chance: &mut Chance) -> u8 {
-    let telling = b"<>/[]\"'`\\=,: \t\n\r$~-+.eE012u{}{}PTZLabSx\x7F\x00\xEF\xC3\x80";
+    let telling = b"<>/[]()\"'`\\=,:: \t\n\r$~-+.eE012u{}{}PTZLabSmpx\x7F\x00\xEF\xC3\x80";
     match chance.below(6) {
         0 => chance.below(256) as u8,
         _ => telling[chance.below(telling.len())],
@@ -852,10 +1087,10 @@ fn random_byte(chance: &mut Chance) -> u8 {
 /// A sheet at or just past one of the limits of "Sizes", with more room for its form than any form may take.
 fn add_limit(lines: &mut Vec<String>, chance: &mut Chance, longest: usize) {
     let over = chance.below(2);
-    let sheet = match chance.below(12) {
+    let sheet = match chance.below(15) {
         0 => format!("<Lab {}=1/>", "n".repeat(NAME_BYTES + over)),
         1 => format!("<L{}/>", "a".repeat(NAME_BYTES - 1 + over)),
-        2 => format!("<Lab n={}1{} />", "[".repeat(LISTS_DEEP + over), "]".repeat(LISTS_DEEP + over)),
+        2 => format!("<Lab n={} />", in_brackets(chance, BRACKETS_DEEP + over, 0, "1")),
         3 => nested(CONCEPTS_DEEP + over),
         4 => format!("<Lab>\n{}</Lab>", "<Lab/>\n".repeat(ENTRIES - 1 + over)),
         5 => of_length(SHEET_BYTES + over),
@@ -863,6 +1098,9 @@ fn add_limit(lines: &mut Vec<String>, chance: &mut Chance, longest: usize) {
         8 => of_escapes(SHEET_BYTES + over),
         9 => of_fraction(SHEET_BYTES + over),
         10 => format!("<Lab n=[{}{{now}}] />", "{now},".repeat(ENTRIES - 3 + over)),
+        11 => format!("<Lab n=map[{}a:{{now}}] />", "a:1,".repeat(ENTRIES - 3 + over)),
+        12 => format!("<Lab n=({}) />", ["set[]"].repeat(ENTRIES - 2 + over).join(", ")),
+        13 => of_key(SHEET_BYTES + over),
         _ => of_length(SHEET_BYTES - 1 + over) + "\n",
     };
     let table = Names::papers().table();
@@ -897,6 +1135,12 @@ fn of_deeper_content(depth: usize, length: usize) -> String {
 fn of_escapes(length: usize) -> String {
     let left = length - "<Lab n=\"\" />\n".len();
     format!("<Lab n=\"{}{}\"/>", "x".repeat(left % 2), "\t".repeat(left / 2))
+}
+
+/// A sheet whose form has `length` bytes, most of them a key's tabs, each of which is written as two bytes.
+fn of_key(length: usize) -> String {
+    let left = length - "<Lab n=map[\"\": 1] />\n".len();
+    format!("<Lab n=map[\"{}{}\":1]/>", "x".repeat(left % 2), "\t".repeat(left / 2))
 }
 
 /// A sheet whose form has `length` bytes, most of them the digits behind a time's point.
@@ -1107,9 +1351,9 @@ impl<'a> Printer<'a> {
             let name = self.chance.pick(&["n", "u", "aB", "abC9", "x1", "aBCd"]);
             self.put_or_slip(name, &["N", "aBCD", "9", "", "-", "n-", "n1234567890123456789012345678901x"]);
             self.put_or_slip("=", &["", " =", "= ", "==", ":"]);
-            self.value(LISTS_DEEP, false);
+            self.value(BRACKETS_DEEP, None);
             if self.slip() {
-                self.put_one_of(&["x", "\"", ",", "]", "[", "m=1", "'a'", "}", "{now}"]);
+                self.put_one_of(&["x", "\"", ",", "]", "[", "(", ")", "m=1", "'a'", "}", "{now}", ":", "(1)"]);
             }
         }
         let slash_last = self.text.last() == Some(&b'/');
@@ -1118,20 +1362,24 @@ impl<'a> Printer<'a> {
         }
     }
 
-    /// A value of a random kind. A word is kept from running into the byte behind it by the caller's white space.
-    fn value(&mut self, lists: usize, in_list: bool) {
+    /// A value of a random kind, in which `deeper` brackets may still open in one another; `inside` is the innermost that is open. A word
+    /// is kept from running into the byte behind it by the caller's white space.
+    fn value(&mut self, deeper: usize, inside: Option<&Bracket>) {
         if self.slip() {
             let value = faulty_value(self.chance);
             self.put(&value);
             return;
         }
         match self.chance.below(12) {
-            0 | 1 if lists > 0 => self.list(lists - 1),
-            2 => self.quoted('"'),
-            3 => self.quoted('\''),
-            4 => self.backtick(),
-            5 => self.iri(in_list),
-            6..=8 => {
+            0..=3 if deeper > 0 => {
+                let bracket = any_bracket(self.chance);
+                self.bracketed(deeper - 1, bracket);
+            }
+            4 => self.quoted('"'),
+            5 => self.quoted('\''),
+            6 => self.backtick(),
+            7 => self.iri(inside),
+            8 | 9 => {
                 let time = good_time(self.chance);
                 self.put(&time);
             }
@@ -1139,19 +1387,50 @@ impl<'a> Printer<'a> {
         }
     }
 
-    fn list(&mut self, lists: usize) {
-        self.put_or_slip("[", &["[ ", "[,", "[[[[[[[[["]);
-        let items = self.chance.below(4);
-        for number in 0..items {
+    /// A list, set, map or tuple, in whose items `deeper` brackets may still open in one another.
+    fn bracketed(&mut self, deeper: usize, bracket: &'static Bracket) {
+        let openers = [
+            "[ ", "[,", "[[[[[[[[[", "( ", "(,", "(((((((((", "(set[[[map[a:[(set[(", "set [", "Set[", "set(", "map[ ", "map[,", "map[:",
+            "map[",
+        ];
+        self.put_or_slip(bracket.opener, &openers);
+        let fewest = usize::from(!bracket.may_be_empty && !self.slip());
+        for number in 0..fewest + self.chance.below(4 - fewest) {
             if number > 0 {
-                self.put_or_slip(",", &[" ,", ";", ",,", ""]);
+                self.put_or_slip(",", &[" ,", ";", ",,", "", ":"]);
                 if self.chance.one_in(2) {
                     self.white_space();
                 }
             }
-            self.value(lists, true);
+            self.item(deeper, bracket);
         }
-        self.put_or_slip("]", &[" ]", ",]", "", ">", "/>", "]]"]);
+        let closers = [" ]", ",]", "", ">", "/>", "]]", "]", " )", ",)", "))", ")", ":1]"];
+        self.put_or_slip(&bracket.closer.to_string(), &closers);
+    }
+
+    fn item(&mut self, deeper: usize, bracket: &'static Bracket) {
+        if bracket.keyed {
+            self.key();
+            self.put_or_slip(":", &["", " :", "::", "=", ";", ",", "]", "\n:", ":]"]);
+            if self.chance.one_in(3) {
+                self.white_space();
+            }
+        }
+        self.value(deeper, Some(bracket));
+    }
+
+    /// A key of a random kind.
+    fn key(&mut self) {
+        if self.slip() {
+            let key = faulty_key(self.chance);
+            self.put(&key);
+            return;
+        }
+        match self.chance.below(5) {
+            0 => self.quoted('"'),
+            1 => self.quoted('\''),
+            _ => self.put_one_of(&KEYS),
+        }
     }
 
     /// A string or a character.
@@ -1159,7 +1438,8 @@ impl<'a> Printer<'a> {
         let (own, other) = if quote == '"' { ("\\\"", "'") } else { ("\\'", "\"") };
         let scalars = [
             "a", "\\\\", "\\n", "\\r", "\\t", "\t", "\\u0041", "\\u00e9", "\\u{7f}", "\\u{0}", "\\u{1F}", "\\u{10ffff}", "\\u{00000a}",
-            "\u{e9}", "\u{1F600}", "\u{2028}", "\u{200F}", "\u{3000}", " ", "\u{85}", "\u{FEFF}", "/", ">", "<", own, other,
+            "\u{e9}", "\u{1F600}", "\u{2028}", "\u{200F}", "\u{3000}", " ", "\u{85}", "\u{FEFF}", "/", ">", "<", ",", ":", "]", ")", own,
+            other,
         ];
         let count = if quote == '"' { self.chance.below(5) } else { 1 };
         self.put(&quote.to_string());
@@ -1180,15 +1460,21 @@ impl<'a> Printer<'a> {
         self.put("`");
     }
 
-    fn iri(&mut self, in_list: bool) {
-        self.put_one_of(&["x:", "http://", "a+b-c.9:", "Z:"]);
+    /// An address. What would end it in the bracket `inside` is left out, what would end it in another bracket is not.
+    fn iri(&mut self, inside: Option<&Bracket>) {
+        self.put_one_of(&["x:", "http://", "a+b-c.9:", "Z:", "set:", "map:"]);
+        let free = match inside {
+            Some(bracket) if bracket.closer == ')' => "]",
+            Some(_) => ")",
+            None => ",])",
+        };
         for _ in 0..self.chance.below(5) {
             self.put_one_of(&[
-                "y", "/", "?q=1", "#f", "[", "@!$&'()*+;=", "%zz", "\u{a1}", "\u{e9}", "\u{FEFF}", "\u{E1000}", ":", "~._-", "\u{200B}",
-                "\u{2010}", "\u{2030}", "\u{2060}", "\u{3001}",
+                "y", "/", "?q=1", "#f", "[", "@!$&'(*+;=", "%zz", "\u{a1}", "\u{e9}", "\u{FEFF}", "\u{E1000}", ":", "~._-", "\u{200B}",
+                "\u{2010}", "\u{2030}", "\u{2060}", "\u{3001}", "(", free, free,
             ]);
         }
-        if !in_list {
+        if inside.is_none() {
             self.put_one_of(&["", "", ",]", "/"]);
         }
     }
@@ -1233,18 +1519,78 @@ mod tests {
         }
     }
 
-    /// Where no rule is broken the sheet is accepted, and the form of its form is the form itself.
+    /// Whether the value stands in a good marker.
+    fn is_value(value: &str) -> bool {
+        read_sheet(&Names::papers().table(), format!("<Lab n={value} />").as_bytes(), PLENTY).0.number == 0
+    }
+
+    #[test]
+    fn keys_and_brackets_are_good_or_faulty() {
+        for key in KEYS {
+            assert!(is_value(&format!("map[{key}:1]")), "{key}");
+        }
+        for key in FAULTY_KEYS {
+            assert!(!is_value(&format!("map[{key}:1]")), "{key}");
+        }
+        for value in FAULTY_BRACKETS {
+            assert!(!is_value(value), "{value}");
+        }
+    }
+
+    /// What is printed in brackets is a value, and what is cut off it anywhere lacks nothing but its end; a CR is cut off with its LF.
+    #[test]
+    fn good_brackets_are_good_and_cut_ones_are_cut() {
+        for seed in 0..300 {
+            let mut chance = Chance(seed);
+            let good = good_brackets(&mut chance);
+            let deep = 1 + chance.below(BRACKETS_DEEP - 1);
+            for value in [in_brackets(&mut chance, deep, 1, "[1]"), good] {
+                assert!(is_value(&value), "{value}");
+                let sheet = format!("<Lab n={value}");
+                for end in (0..=sheet.len()).filter(|&end| sheet.is_char_boundary(end) && !sheet[..end].ends_with('\r')) {
+                    let answer = read_sheet(&Names::papers().table(), &sheet.as_bytes()[..end], PLENTY).0;
+                    assert_eq!((answer.number, answer.place), (9, end), "{}", &sheet[..end]);
+                }
+            }
+        }
+    }
+
+    /// Kind, form, parent and count of the entries.
+    fn shape(table: &[u8], sheet: &[u8]) -> Vec<[u32; 4]> {
+        let (answer, cells) = read_sheet(table, sheet, PLENTY);
+        cells.chunks(ENTRY_CELLS).take(answer.count).map(|entry| [entry[0], entry[1], entry[2], entry[3]]).collect()
+    }
+
+    /// The form of the form is the form itself, and it has entries as the sheet has.
+    fn keeps_its_form(table: &[u8], sheet: &[u8]) {
+        let shown = String::from_utf8_lossy(sheet).escape_debug().to_string();
+        let (_, form) = write_form(table, sheet, PLENTY, SHEET_BYTES);
+        let (answer, again) = write_form(table, &form, PLENTY, SHEET_BYTES);
+        assert_eq!((answer.number, &again), (0, &form), "{shown}");
+        assert_eq!(shape(table, &form), shape(table, sheet), "{shown}");
+    }
+
+    /// Where no rule is broken the sheet is accepted.
     #[test]
     fn printed_sheets_are_accepted() {
         for seed in 0..2_000 {
             let mut chance = Chance(seed);
             let names = if chance.one_in(6) { Names::many(&mut chance) } else { Names::random(&mut chance) };
             let sheet = Printer::new(&mut chance, &names, false).sheet(8);
-            let shown = String::from_utf8_lossy(&sheet).escape_debug().to_string();
-            assert_eq!(read_sheet(&names.table(), &sheet, PLENTY).0.number, 0, "{shown}");
-            let (_, form) = write_form(&names.table(), &sheet, PLENTY, SHEET_BYTES);
-            let (answer, again) = write_form(&names.table(), &form, PLENTY, SHEET_BYTES);
-            assert_eq!((answer.number, again), (0, form), "{shown}");
+            assert_eq!(read_sheet(&names.table(), &sheet, PLENTY).0.number, 0, "{}", String::from_utf8_lossy(&sheet).escape_debug());
+            keeps_its_form(&names.table(), &sheet);
+        }
+    }
+
+    /// Whatever is generated and accepted, its form fitting, keeps it.
+    #[test]
+    fn accepted_sheets_keep_their_form() {
+        for line in requests(1, 4_000, 300, &["sheet"]) {
+            let words: Vec<&str> = line.split(' ').collect();
+            let (table, sheet) = (crate::from_hex(words[1]).unwrap(), crate::from_hex(words[2]).unwrap());
+            if write_form(&table, &sheet, PLENTY, SHEET_BYTES).0.number == 0 {
+                keeps_its_form(&table, &sheet);
+            }
         }
     }
 }

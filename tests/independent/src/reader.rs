@@ -1,7 +1,8 @@
 //! Reads a mode table and a sheet, and hands back a span: every answer, and every cell at exit.
-//! Follows document 01, "The mode table", "The grammar", "Entries" and "Refusal numbers".
+//! Follows document 01, "The mode table", "The grammar", "Entries" and "Refusal numbers"; a map's items have names by document 02, request
+//! Five.
 
-use crate::values::{is_white_space, read_value, Kind, Value};
+use crate::values::{is_white_space, read_value, Key, Kind, Value};
 
 /// The limits of "Sizes".
 pub const SHEET_BYTES: usize = 16_384;
@@ -430,12 +431,12 @@ impl Reader<'_> {
         Ok(Trait { name, value })
     }
 
-    /// The items of a list in depth-first order.
+    /// The items of a list, set, map or tuple in depth-first order.
     fn enter_items(&mut self, value: &Value) -> Result<(), Refusal> {
-        if let Kind::List(items) = &value.kind {
+        if let Kind::Bracketed(_, items) = &value.kind {
             for item in items {
-                self.enter(item.span.start)?;
-                self.enter_items(item)?;
+                self.enter(item.start())?;
+                self.enter_items(&item.value)?;
             }
         }
         Ok(())
@@ -553,7 +554,7 @@ fn add_entry(entries: &mut Vec<Entry>, kind: u32, form: u32, parent: u32, name: 
     entries.len() as u32 - 1
 }
 
-/// Annotations, the Concept, its traits each followed by its list items, its body.
+/// Annotations, the Concept, its traits each followed by its items, its body.
 fn enter_concept(entries: &mut Vec<Entry>, concept: &Concept, parent: u32) {
     for &text in &concept.annotations {
         add_entry(entries, 4, 0, parent, None, text);
@@ -577,11 +578,13 @@ fn enter_concept(entries: &mut Vec<Entry>, concept: &Concept, parent: u32) {
     }
 }
 
+/// The name of a map's item is its key.
 fn enter_items(entries: &mut Vec<Entry>, value: &Value, holder: u32) {
-    if let Kind::List(items) = &value.kind {
+    if let Kind::Bracketed(_, items) = &value.kind {
         for item in items {
-            let number = add_entry(entries, 3, item.kind.form(), holder, None, item.span);
-            enter_items(entries, item, number);
+            let name = item.key.as_ref().map(Key::span);
+            let number = add_entry(entries, 3, item.value.kind.form(), holder, name, item.value.span);
+            enter_items(entries, &item.value, number);
         }
     }
 }

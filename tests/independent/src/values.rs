@@ -1,12 +1,37 @@
-//! Reads one value of a trait or a list: where its spelling ends, of which kind it is, what it spells.
-//! Follows document 01, "Values", with 001 §12 (numbers), §14 (IRIs), §19 (lists), and §18 (times) as request Two asks for it; the place of 6
-//! is that of request Four.
+//! Reads one value of a trait or an item: where its spelling ends, of which kind it is, what it spells.
+//! Follows document 01, "Values", with 001 §12 (numbers), §14 (IRIs), §18 (times) as request Two asks for it, and §19 to §22 (lists, sets,
+//! maps and tuples) as request Five does; the place of 6 is that of requests Four and Five.
 
 use crate::reader::{Refusal, Span};
 use crate::times::kind_of_body;
 
-/// How deep lists may stand in one another, the outermost counting as one ("Sizes").
-pub const LISTS_DEEP: usize = 8;
+/// How deep lists, sets, maps and tuples may stand in one another, the outermost counting as one ("Sizes", and request Five).
+pub const BRACKETS_DEEP: usize = 8;
+
+/// A kind of bracket, which values may stand in: lists (001 §19), sets (§20), maps (§21) and tuples (§22).
+#[derive(Debug)]
+pub struct Bracket {
+    /// the bytes that begin it, of which the last is the bracket byte
+    pub opener: &'static str,
+    pub closer: char,
+    pub form: u32,
+    /// whether each item has a key
+    pub keyed: bool,
+    pub may_be_empty: bool,
+    /// the bytes that end a value's word where this bracket is the innermost
+    pub word_ends: &'static [u8],
+}
+
+pub const LIST: Bracket = Bracket { opener: "[", closer: ']', form: 12, keyed: false, may_be_empty: true, word_ends: b",]" };
+pub const SET: Bracket = Bracket { opener: "set[", closer: ']', form: 14, keyed: false, may_be_empty: true, word_ends: b",]" };
+pub const MAP: Bracket = Bracket { opener: "map[", closer: ']', form: 15, keyed: true, may_be_empty: true, word_ends: b",]" };
+pub const TUPLE: Bracket = Bracket { opener: "(", closer: ')', form: 16, keyed: false, may_be_empty: false, word_ends: b",)" };
+
+/// All kinds of brackets. No opener begins another.
+const BRACKETS: [&Bracket; 4] = [&LIST, &SET, &MAP, &TUPLE];
+
+/// The bytes that end a key's word; it stands in a map.
+const KEY_ENDS: &[u8] = b",]:";
 
 /// A value: where its spelling stands and what it is.
 #[derive(Debug)]
@@ -31,13 +56,47 @@ pub enum Kind {
     Lookup,
     Uuid,
     Iri,
-    List(Vec<Value>),
+    /// a list, set, map or tuple
+    Bracketed(&'static Bracket, Vec<Item>),
     /// a time in braces
     Temporal,
 }
 
+/// An item of a list, set, map or tuple. Those of a map have a key.
+#[derive(Debug)]
+pub struct Item {
+    pub key: Option<Key>,
+    pub value: Value,
+}
+
+impl Item {
+    /// Where the item begins: its key, if it has one, else its value.
+    pub fn start(&self) -> usize {
+        self.key.as_ref().map_or(self.value.span, Key::span).start
+    }
+}
+
+/// A map item's key (001 §21).
+#[derive(Debug)]
+pub enum Key {
+    /// a string or a character, as values are
+    Quoted(Value),
+    /// a bare name, an integer or a "$" token
+    Word(Span),
+}
+
+impl Key {
+    /// The key's spelling, quotes too.
+    pub fn span(&self) -> Span {
+        match self {
+            Key::Quoted(value) => value.span,
+            Key::Word(span) => *span,
+        }
+    }
+}
+
 impl Kind {
-    /// The value form of "Entries", and of request Two.
+    /// The value form of "Entries", and of requests Two and Five.
     pub fn form(&self) -> u32 {
         match self {
             Kind::String(_) => 1,
@@ -51,7 +110,7 @@ impl Kind {
             Kind::Lookup => 9,
             Kind::Uuid => 10,
             Kind::Iri => 11,
-            Kind::List(_) => 12,
+            Kind::Bracketed(bracket, _) => bracket.form,
             Kind::Temporal => 13,
         }
     }
@@ -67,24 +126,25 @@ enum Fault {
 /// A scalar or a whole value, and the place just past it.
 type Past<T> = Result<(T, usize), Fault>;
 
-/// Reads the whole value of a trait, which begins at `start`. 6 is placed where request Four says, 9 at the input's end.
+/// Reads the whole value of a trait, which begins at `start`. 6 is placed where requests Four and Five say, 9 at the input's end.
 pub fn read_value(sheet: &[u8], start: usize) -> Result<Value, Refusal> {
-    value(sheet, start, LISTS_DEEP, false).map_err(|fault| match fault {
+    value(sheet, start, BRACKETS_DEEP, b"").map_err(|fault| match fault {
         Fault::NoKindFits { at } => Refusal { number: 6, place: at },
         Fault::InputEnds => Refusal { number: 9, place: sheet.len() },
         Fault::TooDeep { bracket } => Refusal { number: 10, place: bracket },
     })
 }
 
-/// A value by its first byte. `lists` is how many lists may still open, `in_list` whether "," and "]" end a word.
-fn value(sheet: &[u8], start: usize, lists: usize, in_list: bool) -> Result<Value, Fault> {
-    let (kind, end) = match byte(sheet, start)? {
-        b'"' => string(sheet, start)?,
-        b'\'' => character(sheet, start)?,
-        b'`' => backtick(sheet, start)?,
-        b'[' => list(sheet, start, lists)?,
-        b'{' => temporal(sheet, start)?,
-        _ => word(sheet, start, in_list)?,
+/// A value by its first bytes. `deeper` is how many brackets may still open in one another; the bytes `ends` end a word here.
+fn value(sheet: &[u8], start: usize, deeper: usize, ends: &[u8]) -> Result<Value, Fault> {
+    let opened = BRACKETS.into_iter().find(|bracket| sheet[start..].starts_with(bracket.opener.as_bytes()));
+    let (kind, end) = match (byte(sheet, start)?, opened) {
+        (_, Some(bracket)) => bracketed(sheet, start, bracket, deeper)?,
+        (b'"', _) => string(sheet, start)?,
+        (b'\'', _) => character(sheet, start)?,
+        (b'`', _) => backtick(sheet, start)?,
+        (b'{', _) => temporal(sheet, start)?,
+        _ => word(sheet, start, ends)?,
     };
     Ok(Value { span: Span { start, end }, kind })
 }
@@ -207,25 +267,56 @@ pub fn spaces_joined(text: &str) -> String {
     pieces.join(" ")
 }
 
-/// A list: no items, or values split by "," and optional white space (001 §19). A byte that stands where a comma or "]" was due is at fault.
-fn list(sheet: &[u8], start: usize, lists: usize) -> Past<Kind> {
-    if lists == 0 {
-        return Err(Fault::TooDeep { bracket: start });
-    }
+/// A list, set, map or tuple: items split by "," and optional white space. It is too deep at its bracket byte, at once. A byte that stands
+/// where a comma or the closing bracket was due is at fault, so is the closing bracket of one that may not be empty.
+fn bracketed(sheet: &[u8], start: usize, bracket: &'static Bracket, deeper: usize) -> Past<Kind> {
+    let mut at = start + bracket.opener.len();
+    let deeper = deeper.checked_sub(1).ok_or(Fault::TooDeep { bracket: at - 1 })?;
+    let closer = bracket.closer as u8;
     let mut items = Vec::new();
-    let mut at = start + 1;
-    if byte(sheet, at)? == b']' {
-        return Ok((Kind::List(items), at + 1));
+    if bracket.may_be_empty && byte(sheet, at)? == closer {
+        return Ok((Kind::Bracketed(bracket, items), at + 1));
     }
     loop {
-        let item = value(sheet, at, lists - 1, true)?;
-        at = item.span.end;
+        let item = item(sheet, at, bracket, deeper)?;
+        at = item.value.span.end;
         items.push(item);
         match byte(sheet, at)? {
-            b']' => return Ok((Kind::List(items), at + 1)),
             b',' => at = past_white_space(sheet, at + 1),
+            other if other == closer => return Ok((Kind::Bracketed(bracket, items), at + 1)),
             _ => return Err(Fault::NoKindFits { at }),
         }
+    }
+}
+
+/// A value; in a map a key, ":" and optional white space before it. A byte that stands where the colon was due is at fault.
+fn item(sheet: &[u8], start: usize, bracket: &Bracket, deeper: usize) -> Result<Item, Fault> {
+    if !bracket.keyed {
+        return Ok(Item { key: None, value: value(sheet, start, deeper, bracket.word_ends)? });
+    }
+    let key = key(sheet, start)?;
+    let colon = key.span().end;
+    if byte(sheet, colon)? != b':' {
+        return Err(Fault::NoKindFits { at: colon });
+    }
+    let value = value(sheet, past_white_space(sheet, colon + 1), deeper, bracket.word_ends)?;
+    Ok(Item { key: Some(key), value })
+}
+
+/// A key by its first byte (001 §21): a string or a character, else a word. A bad one is at fault at its start, whatever its fault.
+fn key(sheet: &[u8], start: usize) -> Result<Key, Fault> {
+    let bad = Fault::NoKindFits { at: start };
+    if let b'"' | b'\'' = byte(sheet, start)? {
+        return value(sheet, start, 0, KEY_ENDS).map(Key::Quoted).map_err(|fault| match fault {
+            Fault::NoKindFits { .. } => bad,
+            other => other,
+        });
+    }
+    let end = past_word(sheet, start, KEY_ENDS)?;
+    if is_key_word(&sheet[start..end]) {
+        Ok(Key::Word(Span { start, end }))
+    } else {
+        Err(bad)
     }
 }
 
@@ -251,25 +342,36 @@ fn past_white_space(sheet: &[u8], mut at: usize) -> usize {
     at
 }
 
-/// A word is judged only at its end, so one that runs to the end of input is cut, whatever it spells so far. A bad one is at fault at its
-/// first byte, an empty one where it was due.
-fn word(sheet: &[u8], start: usize, in_list: bool) -> Past<Kind> {
+/// A bad word is at fault at its first byte, an empty one where it was due.
+fn word(sheet: &[u8], start: usize, ends: &[u8]) -> Past<Kind> {
+    let end = past_word(sheet, start, ends)?;
+    let kind = kind_of_word(&sheet[start..end]).ok_or(Fault::NoKindFits { at: start })?;
+    Ok((kind, end))
+}
+
+/// The end of the word that begins at `start`. A word is judged only there, so one that runs to the end of input is cut, whatever it spells
+/// so far.
+fn past_word(sheet: &[u8], start: usize, ends: &[u8]) -> Result<usize, Fault> {
     let mut at = start;
-    while !ends_word(sheet, at, in_list) {
+    while !ends_word(sheet, at, ends) {
         at += 1;
     }
     byte(sheet, at)?;
-    let kind = kind_of_word(&sheet[start..at]).ok_or(Fault::NoKindFits { at: start })?;
-    Ok((kind, at))
+    Ok(at)
 }
 
-fn ends_word(sheet: &[u8], at: usize, in_list: bool) -> bool {
+/// White space, ">" and "/>" end every word, the bytes `ends` those that the innermost bracket lets them end.
+fn ends_word(sheet: &[u8], at: usize, ends: &[u8]) -> bool {
     match sheet.get(at) {
         None | Some(b'>') => true,
         Some(b'/') => sheet.get(at + 1) == Some(&b'>'),
-        Some(b',' | b']') => in_list,
-        Some(&other) => is_white_space(other),
+        Some(other) => is_white_space(*other) || ends.contains(other),
     }
+}
+
+/// MapIdentifier, Integer or EnumeratedToken of 001 §21, each of any length; the integer has no leading zero (000 §5.4).
+fn is_key_word(word: &[u8]) -> bool {
+    is_run(word, u8::is_ascii_lowercase) || matches!(kind_of_word(word), Some(Kind::Integer | Kind::Enumerated))
 }
 
 fn kind_of_word(word: &[u8]) -> Option<Kind> {

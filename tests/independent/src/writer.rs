@@ -1,8 +1,9 @@
 //! Lays out the canonical form of a sheet that reads without refusal.
-//! Follows document 01, "Canonical form", and refusal 12 of "Refusal numbers"; braces keep their spelling (document 02, request Two).
+//! Follows document 01, "Canonical form", and refusal 12 of "Refusal numbers"; braces keep their spelling (document 02, request Two), and
+//! sets, maps and tuples are written as lists are, with a colon and one space behind a key (request Five).
 
 use crate::reader::{read_root, Answer, Body, Concept, Refusal, Trait, SHEET_BYTES};
-use crate::values::{spaces_joined, Kind, Value};
+use crate::values::{spaces_joined, Bracket, Item, Key, Kind, Value};
 
 /// More traits than these stand on lines of their own.
 const TRAITS_ON_MARKER_LINE: usize = 2;
@@ -154,22 +155,34 @@ impl Form<'_> {
             Kind::String(text) => self.quoted(text.chars(), '"'),
             Kind::Character(one) => self.quoted([*one].into_iter(), '\''),
             Kind::Uuid => self.put(&spelling.to_ascii_lowercase()),
-            Kind::List(items) => self.list(items),
+            Kind::Bracketed(bracket, items) => self.bracketed(bracket, items),
             Kind::Boolean | Kind::Integer | Kind::Decimal | Kind::Scientific | Kind::Fraction => self.put(spelling),
             Kind::Enumerated | Kind::Lookup | Kind::Iri | Kind::Temporal => self.put(spelling),
         }
     }
 
-    /// List items: comma and one space.
-    fn list(&mut self, items: &[Value]) {
-        self.put(b"[");
+    /// Items: comma and one space; a map's key: colon and one space.
+    fn bracketed(&mut self, bracket: &Bracket, items: &[Item]) {
+        self.put(bracket.opener.as_bytes());
         for (number, item) in items.iter().enumerate() {
             if number > 0 {
                 self.put(b", ");
             }
-            self.value(item);
+            if let Some(key) = &item.key {
+                self.key(key);
+                self.put(b": ");
+            }
+            self.value(&item.value);
         }
-        self.put(b"]");
+        self.put(&[bracket.closer as u8]);
+    }
+
+    /// A key in quotes as such a value is written, another one as spelt.
+    fn key(&mut self, key: &Key) {
+        match key {
+            Key::Quoted(value) => self.value(value),
+            Key::Word(span) => self.put(span.of(self.sheet)),
+        }
     }
 
     /// A string or a character between its quotes.
