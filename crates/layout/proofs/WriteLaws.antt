@@ -17,7 +17,7 @@ use Rattle.paper.specs.Answer.{Told, accepted, refused, told}
 use Rattle.paper.specs.Found.{Found, found, fault}
 use Rattle.paper.specs.Names.{nameLimit}
 use Rattle.paper.specs.Tree.{Sheet}
-use Rattle.paper.specs.Limits.{sheetLimit, conceptLimit, listLimit, conceptFits, conceptDepth, withinLimits}
+use Rattle.paper.specs.Limits.{sheetLimit, conceptLimit, bracketLimit, conceptFits, conceptDepth, withinLimits}
 use Rattle.paper.specs.Entries.{Entry, entryCells, allCells, entries}
 use Rattle.paper.specs.Reading.{roomOf, sheetOf, Reading, reading}
 use Rattle.paper.specs.Writing.{Begun, tree, unread, begin, notWritten, writtenAt, writeForm, writing}
@@ -190,8 +190,8 @@ module _ (table s cells mid out : List ℕ) (r : Answer) (place count : ℕ) (va
       go (fault n left) e h q = absurd (omega (arith, h .least, sym (ap (λ (x : Told). x .number) (sym (ap told is) ∙ q))))
       go (found t left) e h q =
           let a = h .1 in
-          let p = both (leb (length s) sheetLimit && conceptFits nameLimit listLimit (t .root)) (leb (conceptDepth (t .root)) conceptLimit) (a .limits) in
-          let w = both (leb (length s) sheetLimit) (conceptFits nameLimit listLimit (t .root)) (p .0) in
+          let p = both (leb (length s) sheetLimit && conceptFits nameLimit bracketLimit (t .root)) (leb (conceptDepth (t .root)) conceptLimit) (a .limits) in
+          let w = both (leb (length s) sheetLimit) (conceptFits nameLimit bracketLimit (t .root)) (p .0) in
           let many : count ≡ length (entries t) = ap (λ (x : Told). x .count) (sym (ap told is) ∙ q) in
           record {
             it = t;

@@ -2,31 +2,34 @@
 -- Document 01, "Refusal numbers", 9.
 use Prim.Native.Nat.{ℕ, zero, suc, _+_, _-_, _<_, _≤_}
 use mathlib.Core.Path.{_≡_, refl, sym, ap, _∙_}
-use mathlib.Core.Bool.{Bool, true, false, not}
-use mathlib.Core.List.{List, [], _∷_, map}
+use mathlib.Core.Bool.{Bool, true, false, not, _&&_}
+use mathlib.Core.List.{List, [], _∷_, _++_, map}
 use native.Mathlib.Omega.{arith}
-use lib.ListN.{length, drop, take, getD}
+use lib.ListN.{length, drop, take, getD, length-append}
 use lib.Dec.{leb, eqb}
 use borrow.Author.Tests.{eqb-true, eq-eqb}
+use Rattle.paper.specs.declared.brackets.Bracket.{Bracket}
 use Rattle.paper.specs.declared.Mode.the-variants.{Children, Absent}
 use Rattle.paper.specs.Found.{Found, found, fault, andThen, Turn, more, over, stop, turnOf, goOn, many, manyOf}
 use Rattle.paper.specs.Bytes.{byte, bytes, isUpper, isLower, isHex, isBlank, isLineEnd, isWhite, lengthIn, front, behind, elem, same, startsIn}
 use Rattle.paper.specs.Bytes.{startsWith, lf, cr, space, scalar, is, onward}
 use Rattle.paper.specs.Names.{run, pastRun, isName}
 use Rattle.paper.specs.Modes.{Modes}
-use Rattle.paper.specs.Values.{Piece, four, braces, escaped, Value, More, list, listEnders, comma, pieceRule, wordForm}
+use Rattle.paper.specs.Values.{Piece, four, braces, escaped, opener, closer, mayBeEmpty, keyed, enders, keyEnders, isBare, isKeyForm, Key, Label}
+use Rattle.paper.specs.Values.{Value, More, bracket, comma, pieceRule, wordForm}
 use Rattle.paper.specs.Tree.{Trait, Marker, blank, Ending, block, self, Concept, selfClosed, done, before, Sheet}
 use Rattle.paper.specs.Grammar.{tabsOnto, inMode}
 use Rattle.paper.specs.Entries.{itemEntries, traitSize, bodySize}
 use Rattle.paper.specs.ReadingValues.{insideOf, itself, judged, fourDigits, bracedDigits, escape, pieceTurn, closeCharacter, characterOf}
-use Rattle.paper.specs.ReadingValues.{backtickTurn, wordLength, wordOf, leafOf, valueOf, moreOf, itemAnd, temporalOf}
+use Rattle.paper.specs.ReadingValues.{backtickTurn, wordLength, wordOf, leafOf, valueOf, moreOf, itemAnd, temporalOf, inside}
+use Rattle.paper.specs.ReadingValues.{keyWord, atStart, keyOf, colon, labelOf}
 use Rattle.paper.specs.Reading.{Bounds, lineEnd, lineRest, isBlankLine, blankTurn, blankLines, isTab, noSpace, tabsOnly, nameOf, name, due, makes}
 use Rattle.paper.specs.Reading.{textOf, escapeOf, annotation, annotationTurn, annotations}
 use Rattle.paper.specs.Reading.{enters, trait, traitDue, traitTurn, ending, Opened, opened, admitted, head, opening, closing}
 use Rattle.paper.specs.Reading.{closesLine, textLine, otherLine, lineTurn, contentOf, lastBlanks, sheetTree}
 use Rattle.paper.specs.Reading.{roomIn, insideBy, annotatedBy, pieceBy, isClosing, conceptOf, blockOf, bodyOf, annotatedOf, pieceOf}
 use Rattle.paper.proofs.Tests.{split, true-false}
-use Rattle.paper.proofs.Lists.{byFront, starts-is}
+use Rattle.paper.proofs.Lists.{byFront, starts-is, both, is-not}
 use Rattle.paper.proofs.Finds.{Tail, tail-length, tail-then, tail-drop, Reads}
 use Rattle.paper.proofs.Runs.{Shorter}
 use Rattle.paper.proofs.Lines.{ReadBlank, rest-reads, blank-shorter}
@@ -35,8 +38,10 @@ use Rattle.paper.proofs.Content.{line-shorter}
 use Rattle.paper.proofs.Pieces.{byInside, turn-closes, turn-escapes, turn-breaks, turn-itself, turn-shorter, tick-shorter}
 use Rattle.paper.proofs.Leaves.{byFirst, character-closes, character-breaks, character-escapes, character-itself, character-broken}
 use Rattle.paper.proofs.Leaves.{leaf-string, leaf-character, leaf-backtick, leaf-word, leaf-temporal, temporal-none, temporal-there}
-use Rattle.paper.proofs.ReadValues.{ReadValue, value-reads, value-of-deep, value-of-leaf, value-of-empty, value-of-list, more-of-end}
+use Rattle.paper.proofs.ReadValues.{ReadValue, value-reads, value-of-deep, value-of-leaf, value-of-empty, value-of-items, more-of-end}
 use Rattle.paper.proofs.ReadValues.{more-of-close, more-of-comma, more-of-other}
+use Rattle.paper.proofs.BracketKinds.{opener-some, byOpening}
+use Rattle.paper.proofs.Labels.{ReadLabel, label-reads}
 use Rattle.paper.proofs.Markers.{trait-shorter}
 use Rattle.paper.proofs.Concepts.{ReadOpening, opening-reads, ReadPiece, piece-reads}
 use Rattle.paper.proofs.Fuel.{marker-shorter, concept-of, block-of, body-of}
@@ -265,42 +270,73 @@ leaf-ends also (b ∷ l) =
     word w [] = cut
     word w (c ∷ m) = split (eqb (wordForm w) 0) (λ e. rw (e, wordOf) (other refl)) (λ e. rw (e, wordOf) finds)
 
--- lists, where values and what stands behind an item do so below some length
-module _ (n : ℕ) (ones : (lists : ℕ) (s : List ℕ) → length s < n → Ends (valueOf lists listEnders s))
-    (mores : (lists : ℕ) (s : List ℕ) → length s < n → Ends (moreOf lists s)) where
-  item-ends : {A : Type 0} (lists : ℕ) (make : Value → More → A) (s : List ℕ) → length s < n → Ends (itemAnd lists make s)
-  item-ends lists make s h =
-      then-by s (ReadValue lists listEnders s) (valueOf lists listEnders s) (value-reads (suc (length s)) lists listEnders s) (ones lists s h)
-      (λ v left t r. then (moreOf lists left) (mores lists left (omega (arith, r .shorter))) (λ more end. finds))
+-- a label
+at-start : {A : Type 0} (s : List ℕ) (x : Found A) → Ends x → Ends (atStart s x)
+at-start s x finds = finds
+at-start s x cut = cut
+at-start s x (other e) = other e
 
-  list-ends : (lists : ℕ) (also l : List ℕ) → length l < n → Ends (valueOf lists also (byte "[" ∷ l))
-  list-ends zero also l h = rw (value-of-deep also l) (other refl)
-  list-ends (suc lists) also l h =
-      split (startsWith (bytes "]") l)
-      (λ e. rw (starts-is (bytes "]") l e, value-of-empty lists also (drop 1 l)) finds)
-      (λ e. rw (value-of-list lists also l e) (item-ends lists list l h))
+key-ends : (also s : List ℕ) → Ends (keyOf also s)
+unfolding keyOf keyWord
+key-ends also [] = cut
+key-ends also (b ∷ l) =
+    split (elem b (bytes "\"'"))
+    (λ e. rw (e, keyOf) (at-start (b ∷ l) _ (then (leafOf also (b ∷ l)) (leaf-ends also (b ∷ l)) (λ v left. finds))))
+    (λ e. rw (e, keyOf) (word (take (wordLength also (b ∷ l)) (b ∷ l)) (drop (wordLength also (b ∷ l)) (b ∷ l))))
+  where
+    word : (w left : List ℕ) → Ends (keyWord (b ∷ l) w left)
+    word w [] = cut
+    word w (c ∷ m) =
+        split (isBare w) (λ e. rw (e, keyWord) finds)
+        (λ e. split (isKeyForm (wordForm w)) (λ f. rw (e, keyWord, f) finds) (λ f. rw (e, keyWord, f) (other refl)))
 
-  behind-ends : (lists b : ℕ) (l : List ℕ) → length l < n → Ends (moreOf lists (b ∷ l))
-  behind-ends lists b l h =
+colon-ends : (key : Key) (s : List ℕ) → Ends (colon key s)
+unfolding colon
+colon-ends key [] = cut
+colon-ends key (b ∷ l) = split (eqb b (byte ":")) (λ e. rw (e, colon) finds) (λ e. rw (e, colon) (other refl))
+
+label-ends : (k : Bracket) (s : List ℕ) → Ends (labelOf k s)
+unfolding labelOf
+label-ends k s = split (keyed k) (λ e. rw (e, labelOf) (then (keyOf (keyEnders k) s) (key-ends (keyEnders k) s) colon-ends)) (λ e. rw (e, labelOf) finds)
+
+-- brackets, where values and what stands behind an item do so below some length
+module _ (n : ℕ) (k : Bracket) (ones : (brackets : ℕ) (s : List ℕ) → length s < n → Ends (valueOf brackets (enders k) s))
+    (mores : (brackets : ℕ) (s : List ℕ) → length s < n → Ends (moreOf k brackets s)) where
+  item-ends : {A : Type 0} (brackets : ℕ) (make : Label → Value → More → A) (s : List ℕ) → length s < n → Ends (itemAnd k brackets make s)
+  item-ends brackets make s h =
+      then-by s (ReadLabel k s) (labelOf k s) (label-reads k s) (label-ends k s)
+      (λ a valued t p. let short = tail-length t in
+      then-by valued (ReadValue brackets (enders k) valued) (valueOf brackets (enders k) valued) (value-reads (suc (length valued)) brackets (enders k) valued)
+      (ones brackets valued (omega arith)) (λ v left u r. then (moreOf k brackets left) (mores brackets left (omega (arith, r .shorter))) (λ more end. finds)))
+
+  bracket-ends : (brackets : ℕ) (also l : List ℕ) → length l < n → Ends (valueOf brackets also (opener k ++ l))
+  bracket-ends zero also l h = rw (value-of-deep k also l) (other refl)
+  bracket-ends (suc brackets) also l h =
+      split (mayBeEmpty k && startsWith (closer k ∷ []) l)
+      (λ e. let m = both (mayBeEmpty k) (startsWith (closer k ∷ []) l) e in
+      rw (starts-is (closer k ∷ []) l (m .1), value-of-empty k brackets also (drop 1 l) (m .0)) finds)
+      (λ e. rw (value-of-items k brackets also l (is-not e)) (item-ends brackets (bracket k) l h))
+
+  behind-ends : (brackets b : ℕ) (l : List ℕ) → length l < n → Ends (moreOf k brackets (b ∷ l))
+  behind-ends brackets b l h =
       let short = tail-length (tail-drop (lengthIn isWhite l) l) in
-      split (eqb b (byte "]")) (λ e. rw (eqb-true b (byte "]") e, more-of-close lists l) finds)
+      split (eqb b (closer k)) (λ e. rw (eqb-true b (closer k) e, more-of-close k brackets l) finds)
       (λ e. split (eqb b (byte ","))
-      (λ f. rw (eqb-true b (byte ",") f, more-of-comma lists l) (item-ends lists (comma (front isWhite l)) (behind isWhite l) (omega arith)))
-      (λ f. rw (more-of-other lists b l e f) (other refl)))
+      (λ f. rw (eqb-true b (byte ",") f, more-of-comma k brackets l) (item-ends brackets (comma (front isWhite l)) (behind isWhite l) (omega arith)))
+      (λ f. rw (more-of-other k brackets b l e f) (other refl)))
 
 mutual
-  value-ends : (n lists : ℕ) (also s : List ℕ) → length s < n → Ends (valueOf lists also s)
-  value-ends zero lists also s h = absurd (omega arith)
-  value-ends (suc n) lists also s h =
-      split (startsWith (bytes "[") s)
-      (λ e. let q = starts-is (bytes "[") s e in
-      rw q (list-ends n (λ m l k. value-ends n m listEnders l k) (λ m l k. more-ends n m l k) lists also (drop 1 s) (omega (arith, ap length q))))
-      (λ e. rw (value-of-leaf lists also s e) (then (leafOf also s) (leaf-ends also s) (λ v left. finds)))
+  value-ends : (n brackets : ℕ) (also s : List ℕ) → length s < n → Ends (valueOf brackets also s)
+  value-ends zero brackets also s h = absurd (omega arith)
+  value-ends (suc n) brackets also s h =
+      byOpening s (λ e. rw (value-of-leaf brackets also s e) (then (leafOf also s) (leaf-ends also s) (λ v left. finds)))
+      (λ k e. rw e (bracket-ends n k (λ m l j. value-ends n m (enders k) l j) (λ m l j. more-ends n k m l j) brackets also (inside k s)
+      (omega (arith, ap length e, length-append (opener k) (inside k s), opener-some k))))
 
-  more-ends : (n lists : ℕ) (s : List ℕ) → length s < n → Ends (moreOf lists s)
-  more-ends zero lists s h = absurd (omega arith)
-  more-ends (suc n) lists [] h = rw (more-of-end lists) cut
-  more-ends (suc n) lists (b ∷ l) h = behind-ends n (λ m l k. value-ends n m listEnders l k) (λ m l k. more-ends n m l k) lists b l (omega arith)
+  more-ends : (n : ℕ) (k : Bracket) (brackets : ℕ) (s : List ℕ) → length s < n → Ends (moreOf k brackets s)
+  more-ends zero k brackets s h = absurd (omega arith)
+  more-ends (suc n) k brackets [] h = rw (more-of-end k brackets) cut
+  more-ends (suc n) k brackets (b ∷ l) h = behind-ends n k (λ m l j. value-ends n m (enders k) l j) (λ m l j. more-ends n k m l j) brackets b l (omega arith)
 
 -- ---- markers
 
@@ -310,7 +346,7 @@ enters-ends room named valued t left = split (leb (traitSize t) room) (λ e. rw 
   where
     go : (room : ℕ) → Ends {A = Trait} (elim room [
       | zero ↦ fault 11 named
-      | suc items ↦ fault 11 (drop (getD (map (λ e. e .start) (itemEntries 0 0 0 (t .value))) items 0) valued)
+      | suc items ↦ fault 11 (drop (getD (map (λ e. e .nameStart) (itemEntries 0 0 0 (t .value))) items 0) valued)
     ])
     go zero = other refl
     go (suc items) = other refl
@@ -320,7 +356,7 @@ unfolding trait
 trait-ends by room white s =
     then (name (isName isLower (by .names)) s) (name-ends _ s)
     (λ w left. then (due (byte "=") left) (due-ends (byte "=") left)
-    (λ b valued. then (valueOf (by .lists) [] valued) (value-ends (suc (length valued)) (by .lists) [] valued (omega arith)) (λ v left. enters-ends room s valued _ left)))
+    (λ b valued. then (valueOf (by .brackets) [] valued) (value-ends (suc (length valued)) (by .brackets) [] valued (omega arith)) (λ v left. enters-ends room s valued _ left)))
 
 traits-end : (by : Bounds) (room : ℕ) (s : List ℕ) → Ends (manyOf traitSize (traitTurn by) room s)
 unfolding traitTurn traitDue

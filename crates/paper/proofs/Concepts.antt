@@ -40,7 +40,7 @@ pub record ReadConcept (m : Modes) (by : Bounds) (deeper room tabs : ℕ) (s : L
   pub covers : s ≡ conceptOnto tabs c left
   pub rule : conceptRule c ≡ true
   pub modes : conceptModes m c ≡ true
-  pub within : conceptFits (by .names) (by .lists) c ≡ true
+  pub within : conceptFits (by .names) (by .brackets) c ≡ true
   pub depth : conceptDepth c ≤ deeper
   pub fits : conceptSize c ≤ room
 
@@ -48,7 +48,7 @@ pub record ReadBody (m : Modes) (by : Bounds) (deeper room : ℕ) (s : List ℕ)
   pub covers : s ≡ bodyOnto b left
   pub rule : bodyRule b ≡ true
   pub modes : bodyModes m b ≡ true
-  pub within : bodyFits (by .names) (by .lists) b ≡ true
+  pub within : bodyFits (by .names) (by .brackets) b ≡ true
   pub depth : bodyDepth b ≤ deeper
   pub fits : bodySize b ≤ room
 
@@ -61,7 +61,7 @@ pub record ReadChildren (m : Modes) (by : Bounds) (deeper room : ℕ) (k : Marke
   pub rest-rule : blankRule rest ≡ true
   pub rule : bodyRule inner ≡ true
   pub modes : bodyModes m inner ≡ true
-  pub within : bodyFits (by .names) (by .lists) inner ≡ true
+  pub within : bodyFits (by .names) (by .brackets) inner ≡ true
   pub depth : bodyDepth inner ≤ deeper
   pub fits : bodySize inner ≤ room
 
@@ -99,7 +99,7 @@ head-reads by s =
 pub record ReadOpening (m : Modes) (by : Bounds) (deeper room : ℕ) (s : List ℕ) (o : Opened) (left : List ℕ) : Type 0 where
   pub covers : s ≡ markerOnto (o .marker) (endingOnto (o .ends) left)
   pub rule : markerRule (o .marker) ≡ true
-  pub within : markerFits (by .names) (by .lists) (o .marker) ≡ true
+  pub within : markerFits (by .names) (by .brackets) (o .marker) ≡ true
   pub opens : o .ends ≡ block → opensBlock (o .marker) ≡ true
   pub listed : inMode Absent m (o .marker .name) ≡ false
   pub deep : 0 < deeper
@@ -210,7 +210,7 @@ pub record ReadAnnotated (m : Modes) (by : Bounds) (deeper room : ℕ) (s : List
   pub notes-rule : all annotationRule (a .notes) ≡ true
   pub rule : conceptRule (a .concept) ≡ true
   pub modes : conceptModes m (a .concept) ≡ true
-  pub within : conceptFits (by .names) (by .lists) (a .concept) ≡ true
+  pub within : conceptFits (by .names) (by .brackets) (a .concept) ≡ true
   pub depth : conceptDepth (a .concept) ≤ deeper
   pub fits : length (a .notes) + conceptSize (a .concept) ≤ room
   pub shorter : length left < length s
@@ -312,7 +312,7 @@ body-made m by deeper room s (elementPiece a rest) next inner end r q =
           (q .covers);
       rule = and (and (and (p .0) (p .1)) (p .2)) (q .rule);
       modes = and (both (conceptModes m (a .concept)) true (r .modes) .0) (q .modes);
-      within = and (both (conceptFits (by .names) (by .lists) (a .concept)) true (r .within) .0) (q .within);
+      within = and (both (conceptFits (by .names) (by .brackets) (a .concept)) true (r .within) .0) (q .within);
       depth = omega (arith, r .depth, q .depth);
       fits = omega (arith, r .fits, q .fits);
     }
@@ -426,7 +426,7 @@ admitted-complete m (suc deeper) room s w left d r f = rw (f, admitted) (makes-c
 -- the facts of a marker that stands there
 pub record MarkerStands (m : Modes) (by : Bounds) (deeper room : ℕ) (k : Marker) (e : Ending) : Type 0 where
   pub rule : markerRule k ≡ true
-  pub within : markerFits (by .names) (by .lists) k ≡ true
+  pub within : markerFits (by .names) (by .brackets) k ≡ true
   pub opens : e ≡ block → opensBlock k ≡ true
   pub listed : inMode Absent m (k .name) ≡ false
   pub deep : 0 < deeper
@@ -438,7 +438,7 @@ unfolding markerRule markerFits isName
 opening-complete m by deeper room k e next p =
     let v = both _ (all isWhite (k .white)) (p .rule) in
     let n = both (nameRule isUpper (k .name)) (all traitRule (k .traits)) (v .0) in
-    let w = both (leb (length (k .name)) (by .names)) (all (traitFits (by .names) (by .lists)) (k .traits)) (p .within) in
+    let w = both (leb (length (k .name)) (by .names)) (all (traitFits (by .names) (by .brackets)) (k .traits)) (p .within) in
     let q = rule-name isUpper (k .name) (n .0) in
     let behind = traitsOnto (k .traits) (k .white ++ endingOnto e next) in
     let f : traitsSize (k .traits) ≤ room - 1 = omega (arith, p .fits) in
@@ -613,7 +613,7 @@ mutual
   unfolding conceptOnto conceptRule conceptModes conceptFits conceptDepth conceptSize concept
 
   pub concept-complete : (m : Modes) (by : Bounds) (c : Concept) (fuel deeper room tabs : ℕ) (next : List ℕ) → conceptRule c ≡ true → conceptModes m c ≡ true
-      → conceptFits (by .names) (by .lists) c ≡ true → conceptDepth c ≤ deeper → conceptSize c ≤ room → atLineEnd (behind isBlank next) ≡ true
+      → conceptFits (by .names) (by .brackets) c ≡ true → conceptDepth c ≤ deeper → conceptSize c ≤ room → atLineEnd (behind isBlank next) ≡ true
       → length (conceptOnto tabs c next) < fuel → concept m by fuel deeper room tabs (conceptOnto tabs c next) ≡ found c next
   concept-complete m by c zero deeper room tabs next r o w d f e l = absurd (omega arith)
   concept-complete m by (selfClosed k) (suc fuel) deeper room tabs next r o w d f e l =
@@ -629,7 +629,7 @@ mutual
   concept-complete m by (children k rest inner back) (suc fuel) deeper room tabs next r o w d f e l =
       let p = element-parts (markerRule k) (opensBlock k) (blankRule rest) (bodyRule inner) r in
       let v = both (inMode Children m (k .name)) (bodyModes m inner) o in
-      let q = both (markerFits (by .names) (by .lists) k) (bodyFits (by .names) (by .lists) inner) w in
+      let q = both (markerFits (by .names) (by .brackets) k) (bodyFits (by .names) (by .brackets) inner) w in
       let behind = blankOnto rest (bodyOnto inner (tabsOnto back (closingOnto (k .name) next))) in
       marker-complete m by fuel deeper room tabs k block behind
       (record {
@@ -647,7 +647,7 @@ mutual
 
   pub children-complete : (m : Modes) (by : Bounds) (k : Marker) (rest : Blank) (inner : Body) (back fuel deeper room : ℕ) (next : List ℕ)
       → (all isNameByte (k .name) ≡ true) × (0 < length (k .name)) → blankRule rest ≡ true → bodyRule inner ≡ true → bodyModes m inner ≡ true
-      → bodyFits (by .names) (by .lists) inner ≡ true → bodyDepth inner ≤ deeper → bodySize inner ≤ room
+      → bodyFits (by .names) (by .brackets) inner ≡ true → bodyDepth inner ≤ deeper → bodySize inner ≤ room
       → length (blankOnto rest (bodyOnto inner (tabsOnto back (closingOnto (k .name) next)))) + 2 < fuel
       → childrenOf m by fuel deeper room k (blankOnto rest (bodyOnto inner (tabsOnto back (closingOnto (k .name) next)))) ≡ found
       (children k rest inner back) next
@@ -664,7 +664,7 @@ mutual
       )
 
   pub body-complete : (m : Modes) (by : Bounds) (b : Body) (fuel deeper room : ℕ) (next : List ℕ) → bodyRule b ≡ true → bodyModes m b ≡ true
-      → bodyFits (by .names) (by .lists) b ≡ true → bodyDepth b ≤ deeper → bodySize b ≤ room → isClosing next ≡ true → length (bodyOnto b next) + 1 < fuel
+      → bodyFits (by .names) (by .brackets) b ≡ true → bodyDepth b ≤ deeper → bodySize b ≤ room → isClosing next ≡ true → length (bodyOnto b next) + 1 < fuel
       → body m by fuel deeper room (bodyOnto b next) ≡ found b next
   body-complete m by b zero deeper room next r o w d f e l = absurd (omega arith)
   body-complete m by done (suc fuel) deeper room next r o w d f e l = when-true (isClosing next) _ _ e
@@ -679,7 +679,7 @@ mutual
   body-complete m by (element notes tabs c rest inner) (suc fuel) deeper room next r o w d f e l =
       let p = element-parts (all annotationRule notes) (conceptRule c) (blankRule rest) (bodyRule inner) r in
       let v = both (conceptModes m c) (bodyModes m inner) o in
-      let q = both (conceptFits (by .names) (by .lists) c) (bodyFits (by .names) (by .lists) inner) w in
+      let q = both (conceptFits (by .names) (by .brackets) c) (bodyFits (by .names) (by .brackets) inner) w in
       let left = bodyOnto inner next in
       let start = conceptOnto tabs c (blankOnto rest left) in
       let line = tabsOnto tabs start in

@@ -16,7 +16,7 @@ use Rattle.paper.specs.Names.{nameLimit}
 use Rattle.paper.specs.Modes.{Modes, ValidTable, modeTable, readTable}
 use Rattle.paper.specs.Tree.{Sheet}
 use Rattle.paper.specs.Grammar.{Derives}
-use Rattle.paper.specs.Limits.{sheetLimit, entryLimit, conceptLimit, listLimit, conceptFits, conceptDepth, withinLimits}
+use Rattle.paper.specs.Limits.{sheetLimit, entryLimit, conceptLimit, bracketLimit, conceptFits, conceptDepth, withinLimits}
 use Rattle.paper.specs.Entries.{Entry, entries, filled}
 use Rattle.paper.specs.Reading.{bounds, sheetTree, roomOf, sheetOf, Reading, refusal, reading}
 use Rattle.paper.proofs.Tests.{split}
@@ -129,8 +129,8 @@ pub sheet-accepts : (m : Modes) (room : ℕ) (s : List ℕ) (t : Sheet) → Acce
 unfolding sheetOf withinLimits
 sheet-accepts m room s t a =
     let d = a .derives in
-    let p = both (leb (length s) sheetLimit && conceptFits nameLimit listLimit (t .root)) (leb (conceptDepth (t .root)) conceptLimit) (a .limits) in
-    let q = both (leb (length s) sheetLimit) (conceptFits nameLimit listLimit (t .root)) (p .0) in
+    let p = both (leb (length s) sheetLimit && conceptFits nameLimit bracketLimit (t .root)) (leb (conceptDepth (t .root)) conceptLimit) (a .limits) in
+    let q = both (leb (length s) sheetLimit) (conceptFits nameLimit bracketLimit (t .root)) (p .0) in
     rw (le-ltb sheetLimit (length s) (leb-true (length s) sheetLimit (q .0)), sheetOf, d .bytes)
     (ap (sheetTree m bounds conceptLimit room) (sym (d .covers))
     ∙ sheet-complete m bounds conceptLimit room t
@@ -269,8 +269,8 @@ reading-small table s lent =
     ⊎-elim
     (λ a.
     let x = a .exactly in
-    let p = both (leb (length s) sheetLimit && conceptFits nameLimit listLimit (x .tree .root)) (leb (conceptDepth (x .tree .root)) conceptLimit) (x .limits) in
-    let q = both (leb (length s) sheetLimit) (conceptFits nameLimit listLimit (x .tree .root)) (p .0) in
+    let p = both (leb (length s) sheetLimit && conceptFits nameLimit bracketLimit (x .tree .root)) (leb (conceptDepth (x .tree .root)) conceptLimit) (x .limits) in
+    let q = both (leb (length s) sheetLimit) (conceptFits nameLimit bracketLimit (x .tree .root)) (p .0) in
     rw (a .is) (leb-true (length s) sheetLimit (q .0), omega (arith, x .fit)))
     (λ r. rw (r .is) (r .short, omega arith))
     (refused-otherwise table s lent)

@@ -1,4 +1,4 @@
--- Values that are no lists: what is read of them is what is spelt. Document 01, "The grammar", Values. Assumes nothing.
+-- Values that hold no items: what is read of them is what is spelt. Document 01, "The grammar", Values. Assumes nothing.
 use Prim.Native.Nat.{ℕ, _≤_, _<_}
 use mathlib.Core.Path.{_≡_, refl, sym, ap, _∙_}
 use mathlib.Core.Bool.{Bool, true, false, not, _&&_}
@@ -311,7 +311,7 @@ leaf-reads also (b ∷ l) =
     (λ q. rw (q, leaf-temporal also l) (temporal-reads also l))
     (λ e. rw (leaf-word also l b e) (word-reads also (b ∷ l)))
 
--- a word, and any other value that is no list, begins with a byte that begins no value of another sort and stands behind none
+-- a word, and any other value that holds no items, begins with a byte that begins no value of another sort and stands behind none
 word-first : (also : List ℕ) (form : ℕ) (w : List ℕ) → leafRule also (word form w) ≡ true → startsIn (without beginsNoWord) w ≡ true
 word-first also form w r = let h = word-rule also form w r in word-begins w (omega arith)
 

@@ -11,6 +11,8 @@ pub mod WordKinds
 pub mod TimeParts
 pub mod TimeKinds
 pub mod Leaves
+pub mod BracketKinds
+pub mod Labels
 pub mod Lines
 pub mod Annotations
 pub mod Content

@@ -11,7 +11,7 @@ use Rattle.paper.specs.Found.{found, fault, more, over, turnOf, manyOf}
 use Rattle.paper.specs.Bytes.{byte, bytes, isUpper, isLower, isDigit, isLetter, isNameByte, isBlank, isLineEnd, isWhite, all, elem, startsIn, lengthIn, front}
 use Rattle.paper.specs.Bytes.{behind, same, is}
 use Rattle.paper.specs.Names.{nameRule, isName}
-use Rattle.paper.specs.Values.{isEnder, endsWord, Value, valueOnto, valueRule, valueInSlash, listDepth}
+use Rattle.paper.specs.Values.{isEnder, endsWord, Value, valueOnto, valueRule, valueInSlash, bracketDepth}
 use Rattle.paper.specs.Tree.{Trait, Marker, Ending, block, self}
 use Rattle.paper.specs.Grammar.{traitOnto, traitsOnto, endingOnto, closingOnto, traitRule, slashLast, opensBlock}
 use Rattle.paper.specs.Limits.{traitFits}
@@ -34,7 +34,7 @@ pub record ReadTrait (by : Bounds) (room : ℕ) (white s : List ℕ) (t : Trait)
   pub covers : s ≡ t .name ++ (byte "=" ∷ valueOnto (t .value) left)
   pub named : isName isLower (by .names) (t .name) ≡ true
   pub valued : valueRule [] (t .value) ≡ true
-  pub depth : listDepth (t .value) ≤ by .lists
+  pub depth : bracketDepth (t .value) ≤ by .brackets
   pub slash : valueInSlash (t .value) ≡ true → startsIn (is (byte ">")) left ≡ false
   pub fits : traitSize t ≤ room
   pub shorter : length left < length s
@@ -48,13 +48,13 @@ enters-reads s room named valued t left n v u =
   where
     go : (room : ℕ)
         → Reads s (λ u end. (u ≡ t) × (end ≡ left) × (traitSize t ≤ room))
-        (elim room [ zero ↦ fault 11 named | suc items ↦ fault 11 (drop (getD (map (λ e. e .start) (itemEntries 0 0 0 (t .value))) items 0) valued) ])
+        (elim room [ zero ↦ fault 11 named | suc items ↦ fault 11 (drop (getD (map (λ e. e .nameStart) (itemEntries 0 0 0 (t .value))) items 0) valued) ])
     go zero = record { least = omega arith; most = omega arith; tail = n }
     go (suc items) =
-        record { least = omega arith; most = omega arith; tail = tail-then v (tail-drop (getD (map (λ e. e .start) (itemEntries 0 0 0 (t .value))) items 0) valued) }
+        record { least = omega arith; most = omega arith; tail = tail-then v (tail-drop (getD (map (λ e. e .nameStart) (itemEntries 0 0 0 (t .value))) items 0) valued) }
 
 trait-made : (by : Bounds) (room : ℕ) (white s w mid valued : List ℕ) (v : Value) (left : List ℕ) → ReadName (isName isLower (by .names)) s w mid
-    → mid ≡ byte "=" ∷ valued → ReadValue (by .lists) [] valued v left → traitSize (record { white = white; name = w; value = v }) ≤ room
+    → mid ≡ byte "=" ∷ valued → ReadValue (by .brackets) [] valued v left → traitSize (record { white = white; name = w; value = v }) ≤ room
     → ReadTrait by room white s (record { white = white; name = w; value = v }) left
 trait-made by room white s w mid valued v left n d r f =
     record {
@@ -73,8 +73,8 @@ unfolding trait
 trait-reads by room white s =
     reads-on s (λ w left. ReadName (isName isLower (by .names)) s w left) _ _ (name (isName isLower (by .names)) s) (name-reads (isName isLower (by .names)) s)
     (λ w mid u n. reads-on s (λ b left. mid ≡ byte "=" ∷ left) _ _ (due (byte "=") mid) (reads-in u _ (due (byte "=") mid) (due-reads (byte "=") mid))
-    (λ b valued u d. reads-on s (λ v left. ReadValue (by .lists) [] valued v left) _ _ (valueOf (by .lists) [] valued)
-    (reads-in u _ (valueOf (by .lists) [] valued) (value-reads (suc (length valued)) (by .lists) [] valued))
+    (λ b valued u d. reads-on s (λ v left. ReadValue (by .brackets) [] valued v left) _ _ (valueOf (by .brackets) [] valued)
+    (reads-in u _ (valueOf (by .brackets) [] valued) (value-reads (suc (length valued)) (by .brackets) [] valued))
     (λ v left x r. reads-as s _ _ (enters room s valued (record { white = white; name = w; value = v }) left) (enters-reads s room s valued (record {
       white = white;
       name = w;
@@ -87,7 +87,7 @@ trait-reads by room white s =
 pub record ReadTurn (by : Bounds) (room : ℕ) (s : List ℕ) (t : Trait) (left : List ℕ) : Type 0 where
   pub covers : s ≡ traitOnto t left
   pub rule : traitRule t ≡ true
-  pub within : traitFits (by .names) (by .lists) t ≡ true
+  pub within : traitFits (by .names) (by .brackets) t ≡ true
   pub slash : valueInSlash (t .value) ≡ true → startsIn (is (byte ">")) left ≡ false
   pub fits : traitSize t ≤ room
   pub shorter : length left < length s
@@ -106,7 +106,7 @@ turn-made by room s w t left r =
     record {
       covers = sym (front-behind isWhite s) ∙ ap (λ (l : List ℕ). front isWhite s ++ l) (r .covers) ∙ rw (r .is-white);
       rule = and (and (and some only) (n .0)) (r .valued);
-      within = and (n .1) (le-leb (listDepth (t .value)) (by .lists) (r .depth));
+      within = and (n .1) (le-leb (bracketDepth (t .value)) (by .brackets) (r .depth));
       slash = r .slash;
       fits = r .fits;
       shorter = omega (arith, r .shorter, tail-length (tail-drop (lengthIn isWhite s) s));
@@ -139,7 +139,7 @@ trait-shorter by room s = turns-shorter s _ _ (λ t left h. h .shorter) (traitTu
 pub record ReadTraits (by : Bounds) (room : ℕ) (s : List ℕ) (ts : List Trait) (left : List ℕ) : Type 0 where
   pub covers : s ≡ traitsOnto ts left
   pub rule : all traitRule ts ≡ true
-  pub within : all (traitFits (by .names) (by .lists)) ts ≡ true
+  pub within : all (traitFits (by .names) (by .brackets)) ts ≡ true
   pub slash : slashLast ts ≡ true → startsIn (is (byte ">")) left ≡ false
   pub fits : traitsSize ts ≤ room
   pub closed : endsMarker left ≡ true
@@ -198,7 +198,7 @@ pub record ReadOpened (by : Bounds) (room : ℕ) (w s : List ℕ) (o : Opened) (
   pub named : o .marker .name ≡ w
   pub covers : s ≡ traitsOnto (o .marker .traits) (o .marker .white ++ endingOnto (o .ends) left)
   pub rule : all traitRule (o .marker .traits) ≡ true
-  pub within : all (traitFits (by .names) (by .lists)) (o .marker .traits) ≡ true
+  pub within : all (traitFits (by .names) (by .brackets)) (o .marker .traits) ≡ true
   pub blank : all isWhite (o .marker .white) ≡ true
   pub opens : o .ends ≡ block → opensBlock (o .marker) ≡ true
   pub fits : traitsSize (o .marker .traits) ≤ room
@@ -303,17 +303,17 @@ pub enters-complete : (room : ℕ) (named valued : List ℕ) (t : Trait) (left :
 unfolding enters
 enters-complete room named valued t left f = rw (le-leb (traitSize t) room f, enters)
 
-trait-complete : (by : Bounds) (room : ℕ) (t : Trait) (next : List ℕ) → traitRule t ≡ true → traitFits (by .names) (by .lists) t ≡ true → traitSize t ≤ room
+trait-complete : (by : Bounds) (room : ℕ) (t : Trait) (next : List ℕ) → traitRule t ≡ true → traitFits (by .names) (by .brackets) t ≡ true → traitSize t ≤ room
     → Follows [] (valueInSlash (t .value)) next → trait by room (t .white) (t .name ++ (byte "=" ∷ valueOnto (t .value) next)) ≡ found t next
 unfolding trait traitFits isName isNameByte isLetter isUpper isLower isDigit
 trait-complete by room t next r w f k =
     let p = trait-parts t r in
     let n = rule-name isLower (t .name) (p .2) in
-    let q = both (leb (length (t .name)) (by .names)) (leb (listDepth (t .value)) (by .lists)) w in
+    let q = both (leb (length (t .name)) (by .names)) (leb (bracketDepth (t .value)) (by .brackets)) w in
     rw (
       name-complete (isName isLower (by .names)) (t .name) (byte "=") (valueOnto (t .value) next) (n .0) (n .1) (and (p .2) (q .0)) refl,
       due-complete (byte "=") (valueOnto (t .value) next),
-      value-back (t .value) (by .lists) [] next (p .3) (leb-true (listDepth (t .value)) (by .lists) (q .1)) k,
+      value-back (t .value) (by .brackets) [] next (p .3) (leb-true (bracketDepth (t .value)) (by .brackets) (q .1)) k,
     )
     (enters-complete room (t .name ++ (byte "=" ∷ valueOnto (t .value) next)) (valueOnto (t .value) next) t next f)
 
@@ -335,20 +335,20 @@ name-due by room white (b ∷ w) rest l r k n =
       a,
     )
 
-turn-complete : (by : Bounds) (room : ℕ) (t : Trait) (next : List ℕ) → traitRule t ≡ true → traitFits (by .names) (by .lists) t ≡ true → traitSize t ≤ room
+turn-complete : (by : Bounds) (room : ℕ) (t : Trait) (next : List ℕ) → traitRule t ≡ true → traitFits (by .names) (by .brackets) t ≡ true → traitSize t ≤ room
     → Follows [] (valueInSlash (t .value)) next → traitTurn by room (traitOnto t next) ≡ more t next
 turn-complete by room t next r w f k =
     let p = trait-parts t r in
     let n = rule-name isLower (t .name) (p .2) in
     name-due by room (t .white) (t .name) (byte "=" ∷ valueOnto (t .value) next) (p .0) (p .1) (n .1) (n .0) ∙ ap turnOf (trait-complete by room t next r w f k)
 
-pub traits-complete : (by : Bounds) (room : ℕ) (ts : List Trait) (next : List ℕ) → all traitRule ts ≡ true → all (traitFits (by .names) (by .lists)) ts ≡ true
+pub traits-complete : (by : Bounds) (room : ℕ) (ts : List Trait) (next : List ℕ) → all traitRule ts ≡ true → all (traitFits (by .names) (by .brackets)) ts ≡ true
     → traitsSize ts ≤ room → Closes ts next → manyOf traitSize (traitTurn by) room (traitsOnto ts next) ≡ found ts next
 unfolding traitsOnto traitsSize
 traits-complete by room [] next r w f c = run-over traitSize (traitTurn by) (trait-shorter by) room next next (turn-over by room next (c .closed))
 traits-complete by room (t ∷ ts) next r w f c =
     let h = all-head traitRule t ts r in
-    let g = all-head (traitFits (by .names) (by .lists)) t ts w in
+    let g = all-head (traitFits (by .names) (by .brackets)) t ts w in
     run-more traitSize (traitTurn by) (trait-shorter by) room (traitsOnto (t ∷ ts) next) t (traitsOnto ts next) ts next
     (turn-complete by room t (traitsOnto ts next) (h .0) (g .0) (omega arith) (follows-more ts t next (h .1) c))
     (traits-complete by (room - traitSize t) ts next (h .1) (g .1) (omega arith) (closes-more t ts next c))
@@ -384,7 +384,7 @@ closes-end k e next r o = go (k .white) e r o
         }
 
 pub opened-complete : (by : Bounds) (room : ℕ) (k : Marker) (e : Ending) (next : List ℕ) → all traitRule (k .traits) ≡ true
-    → all (traitFits (by .names) (by .lists)) (k .traits) ≡ true → all isWhite (k .white) ≡ true → (e ≡ block → opensBlock k ≡ true) → traitsSize (k .traits) ≤ room
+    → all (traitFits (by .names) (by .brackets)) (k .traits) ≡ true → all isWhite (k .white) ≡ true → (e ≡ block → opensBlock k ≡ true) → traitsSize (k .traits) ≤ room
     → opened by room (k .name) (traitsOnto (k .traits) (k .white ++ endingOnto e next)) ≡ found (record { marker = k; ends = e }) next
 unfolding opened
 opened-complete by room k e next r w b o f =

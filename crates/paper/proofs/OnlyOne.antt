@@ -9,7 +9,7 @@ use borrow.Author.Tests.{le-leb}
 use Rattle.paper.specs.Found.{found}
 use Rattle.paper.specs.Bytes.{all}
 use Rattle.paper.specs.Modes.{Modes}
-use Rattle.paper.specs.Values.{listDepth}
+use Rattle.paper.specs.Values.{bracketDepth}
 use Rattle.paper.specs.Tree.{Trait, Marker, Concept, selfClosed, children, content, Body, done, blankLine, element, Sheet}
 use Rattle.paper.specs.Grammar.{Derives}
 use Rattle.paper.specs.Limits.{traitFits, markerFits, conceptFits, bodyFits, conceptDepth}
@@ -20,10 +20,10 @@ use Rattle.paper.proofs.Sheets.{sheet-complete}
 
 -- ---- any tree keeps some limits
 
--- how long its names and how deep its lists are at the most, in one number
+-- how long its names and how deep its brackets are at the most, in one number
 traitsMost : List Trait → ℕ
 traitsMost [] = 0
-traitsMost (t ∷ ts) = max (max (length (t .name)) (listDepth (t .value))) (traitsMost ts)
+traitsMost (t ∷ ts) = max (max (length (t .name)) (bracketDepth (t .value))) (traitsMost ts)
 
 abbrev markerMost : Marker → ℕ
 markerMost k = max (length (k .name)) (traitsMost (k .traits))
@@ -42,7 +42,7 @@ mutual
 traits-fit : (n : ℕ) (ts : List Trait) → traitsMost ts ≤ n → all (traitFits n n) ts ≡ true
 unfolding traitsMost all traitFits
 traits-fit n [] h = refl
-traits-fit n (t ∷ ts) h = and (and (le-leb (length (t .name)) n (omega arith)) (le-leb (listDepth (t .value)) n (omega arith))) (traits-fit n ts (omega arith))
+traits-fit n (t ∷ ts) h = and (and (le-leb (length (t .name)) n (omega arith)) (le-leb (bracketDepth (t .value)) n (omega arith))) (traits-fit n ts (omega arith))
 
 marker-fits : (n : ℕ) (k : Marker) → markerMost k ≤ n → markerFits n n k ≡ true
 unfolding markerFits
@@ -68,7 +68,7 @@ only-one m s t u d e =
     let n = max (conceptMost (t .root)) (conceptMost (u .root)) in
     let deeper = max (conceptDepth (t .root)) (conceptDepth (u .root)) in
     let room = max (sheetSize t) (sheetSize u) in
-    let by : Bounds = record { names = n; lists = n } in
+    let by : Bounds = record { names = n; brackets = n } in
     let a =
     sheet-complete m by deeper room t (record {
       rule = d .rule;

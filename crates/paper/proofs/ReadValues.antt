@@ -1,46 +1,60 @@
 -- All values: what is read of them is what is spelt, and each spelling is that of one value. Document 01, "The grammar", Values. Assumes nothing.
-use Prim.Native.Nat.{ℕ, zero, suc, _+_, _≤_, _<_, max}
+use Prim.Native.Nat.{ℕ, zero, suc, _+_, _-_, _≤_, _<_, max}
 use mathlib.Core.Path.{_≡_, refl, sym, ap, _∙_}
 use mathlib.Core.Bool.{Bool, true, false, not, _&&_}
 use mathlib.Core.List.{List, [], _∷_, _++_, append-assoc}
 use native.Mathlib.Omega.{arith}
 use lib.ListN.{length, drop, length-append}
 use lib.Dec.{eqb}
-use borrow.Author.Tests.{eqb-true}
+use borrow.Author.Tests.{eqb-true, eq-eqb, not-true}
+use Rattle.paper.specs.declared.brackets.Bracket.{Bracket}
 use Rattle.paper.specs.Found.{Found, found, fault, andThen}
 use Rattle.paper.specs.Bytes.{byte, bytes, isWhite, isBlank, isLineEnd, all, elem, startsIn, startsWith, front, behind, lengthIn, space, tab, lf, cr, is}
-use Rattle.paper.specs.Values.{isEnder, endsWord, listEnders, Leaf, leafOnto, leafRule, Value, leaf, emptyList, list, More, close, comma, valueOnto, moreOnto}
-use Rattle.paper.specs.Values.{spelling, valueRule, moreRule, valueInSlash, listDepth, moreDepth}
-use Rattle.paper.specs.ReadingValues.{valueOf, moreOf, itemAnd, leafOf, value, items}
+use Rattle.paper.specs.Values.{isEnder, endsWord, opener, closer, mayBeEmpty, enders, Label, labelOnto, labelRule, Leaf, leafOnto, Value, leaf, emptyBracket, bracket}
+use Rattle.paper.specs.Values.{More, close, comma, valueOnto, moreOnto, spelling, valueRule, moreRule, valueInSlash, bracketDepth, moreDepth}
+use Rattle.paper.specs.ReadingValues.{noBracket, opensWith, inside, labelOf, valueOf, moreOf, itemAnd, leafOf, value, items}
 use Rattle.paper.specs.Canonical.{valueSense}
 use Rattle.paper.proofs.Tests.{split, true-false, apart, or-left, or-right}
-use Rattle.paper.proofs.Finds.{whole, past, tail-drop, tail-length, faults, Reads, reads-in, reads-map, reads-two, two-same}
-use Rattle.paper.proofs.Lists.{both, and, without, without-less, starts-weaken, starts-some, starts-off, starts-is, starts-not, front-of, behind-of, front-all}
-use Rattle.paper.proofs.Lists.{front-behind}
-use Rattle.paper.proofs.WordKinds.{beginsNone, beginsNoLeaf}
+use Rattle.paper.proofs.Finds.{whole, past, tail-then, tail-drop, tail-length, faults, Reads, reads-in, reads-map, reads-then, then-same, reads-two, two-same, tail-append}
+use Rattle.paper.proofs.Lists.{both, and, is-not, without, without-less, starts-weaken, starts-some, starts-off, starts-is, starts-of, starts-not, front-of, behind-of}
+use Rattle.paper.proofs.Lists.{front-all, front-behind}
+use Rattle.paper.proofs.WordKinds.{beginsNone}
 use Rattle.paper.proofs.Leaves.{leaf-append, ReadLeaf, Follows, leaf-reads, leaf-begins, leaf-back}
+use Rattle.paper.proofs.BracketKinds.{closer-ends, comma-ends, closer-none, closer-greater, closer-comma, opener-some, opener-begins, opening-of, inside-of, byOpening}
+use Rattle.paper.proofs.BracketKinds.{no-bracket}
+use Rattle.paper.proofs.Labels.{label-append, ReadLabel, label-reads, label-begins, label-back}
 
 -- ---- the spelling in front of what follows
+
+item-onto : (a : Label) (v : Value) (rest next : List ℕ) → ((next : List ℕ) → valueOnto v next ≡ spelling v ++ next)
+    → labelOnto a (valueOnto v (rest ++ next)) ≡ labelOnto a (valueOnto v rest) ++ next
+item-onto a v rest next h =
+    rw (
+      h (rest ++ next),
+      h rest,
+      label-append a (spelling v ++ (rest ++ next)),
+      label-append a (spelling v ++ rest),
+      append-assoc (labelOnto a []) (spelling v ++ rest) next,
+      append-assoc (spelling v) rest next,
+    )
 
 mutual
   unfolding valueOnto
 
   pub value-append : (v : Value) (next : List ℕ) → valueOnto v next ≡ spelling v ++ next
   value-append (leaf v) next = leaf-append v next
-  value-append emptyList next = refl
-  value-append (list v more) next =
-      rw (more-append more next, value-append v (moreOnto more [] ++ next), value-append v (moreOnto more []), append-assoc (valueOnto v []) (moreOnto more []) next)
+  value-append (emptyBracket k) next = sym (append-assoc (opener k) (closer k ∷ []) next)
+  value-append (bracket k a v more) next =
+      ap (λ (x : List ℕ). opener k ++ labelOnto a (valueOnto v x)) (more-append k more next)
+      ∙ ap (λ (x : List ℕ). opener k ++ x) (item-onto a v (moreOnto k more []) next (λ l. value-append v l))
+      ∙ sym (append-assoc (opener k) (labelOnto a (valueOnto v (moreOnto k more []))) next)
 
-  pub more-append : (more : More) (next : List ℕ) → moreOnto more next ≡ moreOnto more [] ++ next
-  more-append close next = refl
-  more-append (comma white v more) next =
-      rw (
-        more-append more next,
-        value-append v (moreOnto more [] ++ next),
-        value-append v (moreOnto more []),
-        append-assoc white (valueOnto v [] ++ moreOnto more []) next,
-        append-assoc (valueOnto v []) (moreOnto more []) next,
-      )
+  pub more-append : (k : Bracket) (more : More) (next : List ℕ) → moreOnto k more next ≡ moreOnto k more [] ++ next
+  more-append k close next = refl
+  more-append k (comma white a v more) next =
+      ap (λ (x : List ℕ). byte "," ∷ (white ++ labelOnto a (valueOnto v x))) (more-append k more next)
+      ∙ ap (λ (x : List ℕ). byte "," ∷ (white ++ x)) (item-onto a v (moreOnto k more []) next (λ l. value-append v l))
+      ∙ ap (λ (x : List ℕ). byte "," ∷ x) (sym (append-assoc white (labelOnto a (valueOnto v (moreOnto k more []))) next))
 
 pub value-length : (v : Value) (next : List ℕ) → length (valueOnto v next) ≡ length (spelling v) + length next
 value-length v next = ap length (value-append v next) ∙ length-append (spelling v) next
@@ -50,15 +64,15 @@ value-length v next = ap length (value-append v next) ∙ length-append (spellin
 -- no value begins with white space, or with a byte that stands behind an item
 pub value-begins : (also : List ℕ) (v : Value) (next : List ℕ) → valueRule also v ≡ true → startsIn (without beginsNone) (valueOnto v next) ≡ true
 unfolding valueOnto valueRule startsIn elem
-value-begins also (leaf v) next r = starts-weaken _ _ (without-less (bytes "[") beginsNone) (leafOnto v next) (leaf-begins also v next r)
-value-begins also emptyList next r = refl
-value-begins also (list v more) next r = refl
+value-begins also (leaf v) next r = starts-weaken _ _ (without-less (bytes "[(") beginsNone) (leafOnto v next) (leaf-begins also v next r)
+value-begins also (emptyBracket k) next r = opener-begins k _
+value-begins also (bracket k a v more) next r = opener-begins k _
 
 -- so a value has one byte at least
 pub value-longer : (also : List ℕ) (v : Value) (next : List ℕ) → valueRule also v ≡ true → length next < length (valueOnto v next)
 value-longer also v next r = omega (arith, value-length v next, starts-some _ (spelling v) (value-begins also v [] r))
 
--- ---- what separates items and closes a list, whichever bytes these are
+-- ---- what separates items and closes a bracket, whichever bytes these are
 
 -- a byte that ends a word, and is not ">", may follow any value
 pub follows-ender : (also : List ℕ) (inSlash : Bool) (b : ℕ) (next : List ℕ) → isEnder also b ≡ true → eqb b (byte ">") ≡ false → Follows also inSlash (b ∷ next)
@@ -79,10 +93,6 @@ pub follows-slash : (also : List ℕ) (inSlash : Bool) (next : List ℕ) → Fol
 unfolding endsWord startsIn
 follows-slash also inSlash next = record { ends = or-right (isEnder also (byte "/")) true refl; some = omega arith; slash = λ z. refl }
 
--- a value does not begin with what closes or separates
-pub no-closer : (also : List ℕ) (v : Value) (next : List ℕ) (c : ℕ) → valueRule also v ≡ true → elem c beginsNone ≡ true → startsWith (c ∷ []) (valueOnto v next) ≡ false
-no-closer also v next c r e = starts-not (without beginsNone) c (valueOnto v next) (value-begins also v next r) (ap not e)
-
 not-white : (b : ℕ) → without beginsNone b ≡ true → isWhite b ≡ false
 unfolding isWhite isBlank isLineEnd elem
 not-white b e =
@@ -97,289 +107,381 @@ not-white b e =
 pub white-stops : (also : List ℕ) (v : Value) (next : List ℕ) → valueRule also v ≡ true → startsIn isWhite (valueOnto v next) ≡ false
 white-stops also v next r = starts-off (without beginsNone) isWhite not-white (valueOnto v next) (value-begins also v next r)
 
-module _ (also : List ℕ) (v : Value) (white next : List ℕ) (r : valueRule also v ≡ true) (a : all isWhite white ≡ true) where
-  pub white-front : front isWhite (white ++ valueOnto v next) ≡ white
-  white-front = front-of isWhite white (valueOnto v next) a (white-stops also v next r)
+-- an item with its label does not begin with white space, nor with what closes its bracket
+module _ (k : Bracket) (a : Label) (v : Value) (next : List ℕ) (p : labelRule k a ≡ true) (r : valueRule (enders k) v ≡ true) where
+  item-begins : startsIn (without beginsNone) (labelOnto a (valueOnto v next)) ≡ true
+  item-begins = label-begins k a (valueOnto v next) p (value-begins (enders k) v next r)
 
-  pub white-behind : behind isWhite (white ++ valueOnto v next) ≡ valueOnto v next
-  white-behind = behind-of isWhite white (valueOnto v next) a (white-stops also v next r)
+  pub item-stops : startsIn isWhite (labelOnto a (valueOnto v next)) ≡ false
+  item-stops = starts-off (without beginsNone) isWhite not-white _ item-begins
+
+  pub item-open : startsWith (closer k ∷ []) (labelOnto a (valueOnto v next)) ≡ false
+  item-open = starts-not (without beginsNone) (closer k) _ item-begins (ap not (closer-none k))
+
+  pub white-front : (white : List ℕ) → all isWhite white ≡ true → front isWhite (white ++ labelOnto a (valueOnto v next)) ≡ white
+  white-front white w = front-of isWhite white _ w item-stops
+
+  pub white-behind : (white : List ℕ) → all isWhite white ≡ true → behind isWhite (white ++ labelOnto a (valueOnto v next)) ≡ labelOnto a (valueOnto v next)
+  white-behind white w = behind-of isWhite white _ w item-stops
+
+  -- and is read back
+  pub label-on : labelOf k (labelOnto a (valueOnto v next)) ≡ found a (valueOnto v next)
+  label-on = label-back k a (valueOnto v next) p (white-stops (enders k) v next r)
 
 -- ---- step by step
 
--- an item, and what stands behind it
-abbrev itemThen : {A : Type 0} → ℕ → ℕ → (Value → More → A) → List ℕ → Found A
-itemThen fuel lists make s = andThen (value fuel lists listEnders s) (λ v left. andThen (items fuel lists left) (λ more end. found (make v more) end))
+-- from the byte of a bracket on that is one too many
+abbrev pub atBracket : Bracket → List ℕ → List ℕ
+atBracket k l = drop (length (opener k) - 1) (opener k ++ l)
+
+-- what stands behind an opener is not a bracket closed at once
+abbrev pub begun : Bracket → List ℕ → Bool
+begun k l = not (mayBeEmpty k && startsWith (closer k ∷ []) l)
+
+-- an item with its label, and what stands behind it, each read in some way
+abbrev itemBy : {A : Type 0} → Bracket → (List ℕ → Found Value) → (List ℕ → Found More) → (Label → Value → More → A) → List ℕ → Found A
+itemBy k one more make s = andThen (labelOf k s) (λ a valued. andThen (one valued) (λ v left. andThen (more left) (λ x end. found (make a v x) end)))
+
+abbrev itemThen : {A : Type 0} → ℕ → Bracket → ℕ → (Label → Value → More → A) → List ℕ → Found A
+itemThen fuel k brackets make s = itemBy k (value fuel brackets (enders k)) (items fuel k brackets) make s
 
 module _ (fuel : ℕ) where
-  value-leaf : (lists : ℕ) (also s : List ℕ) → startsWith (bytes "[") s ≡ false → value (suc fuel) lists also s ≡ andThen (leafOf also s) (λ v left. found (leaf v) left)
+  value-leaf : (brackets : ℕ) (also s : List ℕ) → opensWith s ≡ noBracket
+      → value (suc fuel) brackets also s ≡ andThen (leafOf also s) (λ v left. found (leaf v) left)
   unfolding value
-  value-leaf lists also s e = rw (e, value)
+  value-leaf brackets also s e = rw (e, value)
 
-  value-deep : (also l : List ℕ) → value (suc fuel) 0 also (byte "[" ∷ l) ≡ fault 10 (byte "[" ∷ l)
-  unfolding value startsWith
-  value-deep also l = refl
+  module _ (k : Bracket) where
+    value-deep : (also l : List ℕ) → value (suc fuel) 0 also (opener k ++ l) ≡ fault 10 (atBracket k l)
+    unfolding value
+    value-deep also l = rw (opening-of k l, value)
 
-  value-empty : (lists : ℕ) (also l : List ℕ) → value (suc fuel) (suc lists) also (byte "[" ∷ byte "]" ∷ l) ≡ found emptyList l
-  unfolding value startsWith
-  value-empty lists also l = refl
+    value-empty : (brackets : ℕ) (also l : List ℕ) → mayBeEmpty k ≡ true
+        → value (suc fuel) (suc brackets) also (opener k ++ (closer k ∷ l)) ≡ found (emptyBracket k) l
+    unfolding value
+    value-empty brackets also l m =
+        rw (opening-of k (closer k ∷ l), value) (rw (inside-of k (closer k ∷ l))
+        (rw (m, starts-of (closer k ∷ []) l) (ap (λ (x : List ℕ). found (emptyBracket k) (drop 1 x)) (inside-of k (closer k ∷ l)))))
 
-  value-list : (lists : ℕ) (also l : List ℕ) → startsWith (bytes "]") l ≡ false → value (suc fuel) (suc lists) also (byte "[" ∷ l) ≡ itemThen fuel lists list l
-  unfolding value startsWith
-  value-list lists also l e = rw (e, value)
+    value-items : (brackets : ℕ) (also l : List ℕ) → begun k l ≡ true → value (suc fuel) (suc brackets) also (opener k ++ l) ≡ itemThen fuel k brackets (bracket k) l
+    unfolding value
+    value-items brackets also l e =
+        rw (opening-of k l, value) (rw (inside-of k l) (rw (not-true (mayBeEmpty k && startsWith (closer k ∷ []) l) e)
+        (ap (itemThen fuel k brackets (bracket k)) (inside-of k l))))
 
-  items-close : (lists : ℕ) (l : List ℕ) → items (suc fuel) lists (byte "]" ∷ l) ≡ found close l
-  unfolding items
-  items-close lists l = refl
+    items-close : (brackets : ℕ) (l : List ℕ) → items (suc fuel) k brackets (closer k ∷ l) ≡ found close l
+    unfolding items
+    items-close brackets l = rw (eq-eqb (closer k) (closer k) refl, items)
 
-  items-comma : (lists : ℕ) (l : List ℕ) → items (suc fuel) lists (byte "," ∷ l) ≡ itemThen fuel lists (comma (front isWhite l)) (behind isWhite l)
-  unfolding items
-  items-comma lists l = refl
+    items-comma : (brackets : ℕ) (l : List ℕ) → items (suc fuel) k brackets (byte "," ∷ l) ≡ itemThen fuel k brackets (comma (front isWhite l)) (behind isWhite l)
+    unfolding items
+    items-comma brackets l = rw (closer-comma k, items)
 
-  items-other : (lists : ℕ) (l : List ℕ) (b : ℕ) → eqb b (byte "]") ≡ false → eqb b (byte ",") ≡ false → items (suc fuel) lists (b ∷ l) ≡ fault 6 (b ∷ l)
-  unfolding items
-  items-other lists l b e f = rw (e, items, f)
+    items-other : (brackets : ℕ) (l : List ℕ) (b : ℕ) → eqb b (closer k) ≡ false → eqb b (byte ",") ≡ false → items (suc fuel) k brackets (b ∷ l) ≡ fault 6 (b ∷ l)
+    unfolding items
+    items-other brackets l b e f = rw (e, items, f)
 
 -- ---- what is read
 
--- the value stood in front, keeps the rules, has no more lists in one another, and is not cut before "/>"
-pub record ReadValue (lists : ℕ) (also s : List ℕ) (v : Value) (left : List ℕ) : Type 0 where
+-- the value stood in front, keeps the rules, has no more brackets in one another, and is not cut before "/>"
+pub record ReadValue (brackets : ℕ) (also s : List ℕ) (v : Value) (left : List ℕ) : Type 0 where
   pub covers : s ≡ valueOnto v left
   pub rule : valueRule also v ≡ true
-  pub depth : listDepth v ≤ lists
+  pub depth : bracketDepth v ≤ brackets
   pub slash : valueInSlash v ≡ true → startsIn (is (byte ">")) left ≡ false
   pub shorter : length left < length s
 
 -- the same of what stands behind an item
-pub record ReadMore (lists : ℕ) (s : List ℕ) (more : More) (left : List ℕ) : Type 0 where
-  pub covers : s ≡ moreOnto more left
-  pub rule : moreRule more ≡ true
-  pub depth : moreDepth more ≤ lists
+pub record ReadMore (k : Bracket) (brackets : ℕ) (s : List ℕ) (more : More) (left : List ℕ) : Type 0 where
+  pub covers : s ≡ moreOnto k more left
+  pub rule : moreRule k more ≡ true
+  pub depth : moreDepth more ≤ brackets
   pub shorter : length left < length s
 
-leaf-read : (lists : ℕ) (also s : List ℕ) (v : Leaf) (left : List ℕ) → ReadLeaf also s v left → ReadValue lists also s (leaf v) left
-unfolding valueOnto valueRule listDepth
-leaf-read lists also s v left h =
+leaf-read : (brackets : ℕ) (also s : List ℕ) (v : Leaf) (left : List ℕ) → ReadLeaf also s v left → ReadValue brackets also s (leaf v) left
+unfolding valueOnto valueRule bracketDepth
+leaf-read brackets also s v left h =
     record { covers = h .covers; rule = h .rule; depth = omega arith; slash = h .slash; shorter = rw (h .covers) (value-longer also (leaf v) left (h .rule)) }
 
-empty-read : (lists : ℕ) (also left : List ℕ) → ReadValue (suc lists) also (byte "[" ∷ byte "]" ∷ left) emptyList left
-unfolding valueOnto valueRule listDepth
-empty-read lists also left = record { covers = refl; rule = refl; depth = omega arith; slash = λ z. true-false (sym z); shorter = omega arith }
+module _ (k : Bracket) (brackets : ℕ) where
+  empty-read : (also left : List ℕ) → mayBeEmpty k ≡ true → ReadValue (suc brackets) also (opener k ++ (closer k ∷ left)) (emptyBracket k) left
+  unfolding valueOnto valueRule bracketDepth
+  empty-read also left m =
+      record {
+        covers = refl;
+        rule = m;
+        depth = omega arith;
+        slash = λ z. true-false (sym z);
+        shorter = omega (arith, length-append (opener k) (closer k ∷ left));
+      }
 
-list-read : (lists : ℕ) (also l : List ℕ) (v : Value) (mid : List ℕ) (more : More) (left : List ℕ) → ReadValue lists listEnders l v mid → ReadMore lists mid more left
-    → ReadValue (suc lists) also (byte "[" ∷ l) (list v more) left
-unfolding valueOnto valueRule listDepth
-list-read lists also l v mid more left h k =
-    record {
-      covers = ap (λ (x : List ℕ). byte "[" ∷ x) (h .covers ∙ ap (valueOnto v) (k .covers));
-      rule = and (h .rule) (k .rule);
-      depth = omega (arith, h .depth, k .depth);
-      slash = λ z. true-false (sym z);
-      shorter = omega (arith, h .shorter, k .shorter);
-    }
+  -- an item with its label, and what stands behind it
+  record ReadItem (s : List ℕ) (a : Label) (v : Value) (more : More) (left : List ℕ) : Type 0 where
+    covers : s ≡ labelOnto a (valueOnto v (moreOnto k more left))
+    labelled : labelRule k a ≡ true
+    rule : valueRule (enders k) v ≡ true
+    others : moreRule k more ≡ true
+    depth : max (bracketDepth v) (moreDepth more) ≤ brackets
+    shorter : length left < length s
 
-close-read : (lists : ℕ) (left : List ℕ) → ReadMore lists (byte "]" ∷ left) close left
-unfolding moreOnto moreRule moreDepth
-close-read lists left = record { covers = refl; rule = refl; depth = omega arith; shorter = omega arith }
+  item-read : (s : List ℕ) (a : Label) (valued : List ℕ) (v : Value) (mid : List ℕ) (more : More) (left : List ℕ) → ReadLabel k s a valued
+      → ReadValue brackets (enders k) valued v mid → ReadMore k brackets mid more left → ReadItem s a v more left
+  item-read s a valued v mid more left p h m =
+      record {
+        covers = p .covers ∙ ap (labelOnto a) (h .covers ∙ ap (valueOnto v) (m .covers));
+        labelled = p .rule;
+        rule = h .rule;
+        others = m .rule;
+        depth = omega (arith, h .depth, m .depth);
+        shorter = omega (arith, h .shorter, m .shorter, ap length (p .covers ∙ label-append a valued), length-append (labelOnto a []) valued);
+      }
 
-comma-read : (lists : ℕ) (l : List ℕ) (v : Value) (mid : List ℕ) (more : More) (left : List ℕ) → ReadValue lists listEnders (behind isWhite l) v mid
-    → ReadMore lists mid more left → ReadMore lists (byte "," ∷ l) (comma (front isWhite l) v more) left
-unfolding moreOnto moreRule moreDepth
-comma-read lists l v mid more left h k =
-    record {
-      covers = ap (λ (x : List ℕ). byte "," ∷ x) (sym (front-behind isWhite l) ∙ ap (λ (x : List ℕ). front isWhite l ++ x) (h .covers ∙ ap (valueOnto v) (k .covers)));
-      rule = and (and (front-all isWhite l) (h .rule)) (k .rule);
-      depth = omega (arith, h .depth, k .depth);
-      shorter = omega (arith, h .shorter, k .shorter, tail-length (tail-drop (lengthIn isWhite l) l));
-    }
+  bracket-read : (also l : List ℕ) (a : Label) (v : Value) (more : More) (left : List ℕ) → ReadItem l a v more left
+      → ReadValue (suc brackets) also (opener k ++ l) (bracket k a v more) left
+  unfolding valueOnto valueRule bracketDepth
+  bracket-read also l a v more left h =
+      record {
+        covers = ap (λ (x : List ℕ). opener k ++ x) (h .covers);
+        rule = and (and (h .labelled) (h .rule)) (h .others);
+        depth = omega (arith, h .depth);
+        slash = λ z. true-false (sym z);
+        shorter = omega (arith, h .shorter, length-append (opener k) l);
+      }
 
-module _ (fuel : ℕ) (ones : (lists : ℕ) (s : List ℕ) → Reads s (ReadValue lists listEnders s) (value fuel lists listEnders s))
-    (mores : (lists : ℕ) (s : List ℕ) → Reads s (ReadMore lists s) (items fuel lists s)) where
-  item-reads : {A : Type 0} (lists : ℕ) (make : Value → More → A) (s : List ℕ) (Q : A → List ℕ → Type 0)
-      → ((v : Value) (mid : List ℕ) (more : More) (left : List ℕ) → ReadValue lists listEnders s v mid → ReadMore lists mid more left → Q (make v more) left)
-      → Reads s Q (itemThen fuel lists make s)
-  item-reads lists make s Q so =
-      reads-two s (ReadValue lists listEnders s) (ReadMore lists) Q make (value fuel lists listEnders s) (items fuel lists) (ones lists s) (mores lists) so
+  close-read : (left : List ℕ) → ReadMore k brackets (closer k ∷ left) close left
+  unfolding moreOnto moreRule moreDepth
+  close-read left = record { covers = refl; rule = refl; depth = omega arith; shorter = omega arith }
 
-  bracket-reads : (lists : ℕ) (also l : List ℕ) → Reads (byte "[" ∷ l) (ReadValue lists also (byte "[" ∷ l)) (value (suc fuel) lists also (byte "[" ∷ l))
-  bracket-reads zero also l = rw (value-deep fuel also l, Reads) (faults 10 (omega arith) whole)
-  bracket-reads (suc lists) also l =
-      split (startsWith (bytes "]") l)
-      (λ e. rw (starts-is (bytes "]") l e, value-empty fuel lists also (drop 1 l), Reads) (past (past whole), empty-read lists also (drop 1 l)))
-      (λ e. rw (value-list fuel lists also l e) (reads-in (past whole) _ (itemThen fuel lists list l) (item-reads lists list l _ (list-read lists also l))))
+  comma-read : (l : List ℕ) (a : Label) (v : Value) (more : More) (left : List ℕ) → ReadItem (behind isWhite l) a v more left
+      → ReadMore k brackets (byte "," ∷ l) (comma (front isWhite l) a v more) left
+  unfolding moreOnto moreRule moreDepth
+  comma-read l a v more left h =
+      record {
+        covers = ap (λ (x : List ℕ). byte "," ∷ x) (sym (front-behind isWhite l) ∙ ap (λ (x : List ℕ). front isWhite l ++ x) (h .covers));
+        rule = and (and (and (front-all isWhite l) (h .labelled)) (h .rule)) (h .others);
+        depth = omega (arith, h .depth);
+        shorter = omega (arith, h .shorter, tail-length (tail-drop (lengthIn isWhite l) l));
+      }
 
-  behind-reads : (lists b : ℕ) (l : List ℕ) → Reads (b ∷ l) (ReadMore lists (b ∷ l)) (items (suc fuel) lists (b ∷ l))
-  behind-reads lists b l =
-      split (eqb b (byte "]"))
-      (λ e. rw (eqb-true b (byte "]") e, items-close fuel lists l, Reads) (past whole, close-read lists l))
+module _ (fuel : ℕ) (k : Bracket) (ones : (brackets : ℕ) (s : List ℕ) → Reads s (ReadValue brackets (enders k) s) (value fuel brackets (enders k) s))
+    (mores : (brackets : ℕ) (s : List ℕ) → Reads s (ReadMore k brackets s) (items fuel k brackets s)) where
+  item-reads : {A : Type 0} (brackets : ℕ) (make : Label → Value → More → A) (s : List ℕ) (Q : A → List ℕ → Type 0)
+      → ((a : Label) (v : Value) (more : More) (left : List ℕ) → ReadItem k brackets s a v more left → Q (make a v more) left)
+      → Reads s Q (itemThen fuel k brackets make s)
+  item-reads brackets make s Q so =
+      reads-then s (ReadLabel k s) Q _ (labelOf k s) (label-reads k s)
+      (λ a valued p. reads-two valued (ReadValue brackets (enders k) valued) (ReadMore k brackets) Q (make a) (value fuel brackets (enders k) valued)
+      (items fuel k brackets) (ones brackets valued) (mores brackets)
+      (λ v mid more left h m. so a v more left (item-read k brackets s a valued v mid more left p h m)))
+
+  bracket-reads : (brackets : ℕ) (also l : List ℕ) → Reads (opener k ++ l) (ReadValue brackets also (opener k ++ l)) (value (suc fuel) brackets also (opener k ++ l))
+  bracket-reads zero also l = rw (value-deep fuel k also l, Reads) (faults 10 (omega arith) (tail-drop (length (opener k) - 1) (opener k ++ l)))
+  bracket-reads (suc brackets) also l =
+      split (mayBeEmpty k && startsWith (closer k ∷ []) l)
+      (λ e. let h = both (mayBeEmpty k) (startsWith (closer k ∷ []) l) e in
+      rw (starts-is (closer k ∷ []) l (h .1), value-empty fuel k brackets also (drop 1 l) (h .0), Reads)
+      (tail-then (tail-append (opener k) (closer k ∷ drop 1 l)) (past whole), empty-read k brackets also (drop 1 l) (h .0)))
+      (λ e. rw (value-items fuel k brackets also l (is-not e))
+      (reads-in (tail-append (opener k) l) _ (itemThen fuel k brackets (bracket k) l)
+      (item-reads brackets (bracket k) l _ (bracket-read k brackets also l))))
+
+  behind-reads : (brackets b : ℕ) (l : List ℕ) → Reads (b ∷ l) (ReadMore k brackets (b ∷ l)) (items (suc fuel) k brackets (b ∷ l))
+  behind-reads brackets b l =
+      split (eqb b (closer k))
+      (λ e. rw (eqb-true b (closer k) e, items-close fuel k brackets l, Reads) (past whole, close-read k brackets l))
       (λ e. split (eqb b (byte ","))
-      (λ f. rw (eqb-true b (byte ",") f, items-comma fuel lists l)
-      (reads-in (past (tail-drop (lengthIn isWhite l) l)) _ (itemThen fuel lists (comma (front isWhite l)) (behind isWhite l))
-      (item-reads lists (comma (front isWhite l)) (behind isWhite l) _ (comma-read lists l))))
-      (λ f. rw (items-other fuel lists l b e f, Reads) (faults 6 (omega arith) whole)))
+      (λ f. rw (eqb-true b (byte ",") f, items-comma fuel k brackets l)
+      (reads-in (past (tail-drop (lengthIn isWhite l) l)) _ (itemThen fuel k brackets (comma (front isWhite l)) (behind isWhite l))
+      (item-reads brackets (comma (front isWhite l)) (behind isWhite l) _ (comma-read k brackets l))))
+      (λ f. rw (items-other fuel k brackets l b e f, Reads) (faults 6 (omega arith) whole)))
 
 mutual
   unfolding value
 
-  pub value-reads : (fuel lists : ℕ) (also s : List ℕ) → Reads s (ReadValue lists also s) (value fuel lists also s)
-  value-reads zero lists also s = faults 9 (omega arith) whole
-  value-reads (suc fuel) lists also s =
-      split (startsWith (bytes "[") s)
-      (λ e. rw (starts-is (bytes "[") s e) (bracket-reads fuel (λ n l. value-reads fuel n listEnders l) (λ n l. items-reads fuel n l) lists also (drop 1 s)))
-      (λ e. rw (value-leaf fuel lists also s e) (reads-map s (ReadLeaf also s) _ leaf (leafOf also s) (leaf-reads also s) (leaf-read lists also s)))
+  pub value-reads : (fuel brackets : ℕ) (also s : List ℕ) → Reads s (ReadValue brackets also s) (value fuel brackets also s)
+  value-reads zero brackets also s = faults 9 (omega arith) whole
+  value-reads (suc fuel) brackets also s =
+      byOpening s
+      (λ e. rw (value-leaf fuel brackets also s e) (reads-map s (ReadLeaf also s) _ leaf (leafOf also s) (leaf-reads also s) (leaf-read brackets also s)))
+      (λ k e. rw e (bracket-reads fuel k (λ n l. value-reads fuel n (enders k) l) (λ n l. items-reads fuel k n l) brackets also (inside k s)))
 
-  pub items-reads : (fuel lists : ℕ) (s : List ℕ) → Reads s (ReadMore lists s) (items fuel lists s)
-  items-reads zero lists s = faults 9 (omega arith) whole
-  items-reads (suc fuel) lists [] = faults 9 (omega arith) whole
-  items-reads (suc fuel) lists (b ∷ l) = behind-reads fuel (λ n m. value-reads fuel n listEnders m) (λ n m. items-reads fuel n m) lists b l
+  pub items-reads : (fuel : ℕ) (k : Bracket) (brackets : ℕ) (s : List ℕ) → Reads s (ReadMore k brackets s) (items fuel k brackets s)
+  items-reads zero k brackets s = faults 9 (omega arith) whole
+  items-reads (suc fuel) k brackets [] = faults 9 (omega arith) whole
+  items-reads (suc fuel) k brackets (b ∷ l) = behind-reads fuel k (λ n m. value-reads fuel n (enders k) m) (λ n m. items-reads fuel k n m) brackets b l
 
 -- ---- fuel above the length does not matter
 
-module _ (f g : ℕ) (ones : (lists : ℕ) (s : List ℕ) → length s < f → length s < g → value f lists listEnders s ≡ value g lists listEnders s)
-    (mores : (lists : ℕ) (s : List ℕ) → length s < f → length s < g → items f lists s ≡ items g lists s) where
-  item-fuel : {A : Type 0} (lists : ℕ) (make : Value → More → A) (s : List ℕ) → length s < f → length s < g → itemThen f lists make s ≡ itemThen g lists make s
-  item-fuel lists make s h k =
-      two-same s (ReadValue lists listEnders s) make _ _ (items f lists) (items g lists) (ones lists s h k) (value-reads g lists listEnders s)
-      (λ v left r. mores lists left (omega (arith, r .shorter)) (omega (arith, r .shorter)))
+-- an item that is read in two ways, which agree on what is not longer
+item-same : {A : Type 0} (k : Bracket) (brackets : ℕ) (one other : List ℕ → Found Value) (more others : List ℕ → Found More) (make : Label → Value → More → A)
+    (s : List ℕ) → ((t : List ℕ) → length t ≤ length s → one t ≡ other t) → ((t : List ℕ) → Reads t (ReadValue brackets (enders k) t) (other t))
+    → ((t : List ℕ) → length t < length s → more t ≡ others t) → itemBy k one more make s ≡ itemBy k other others make s
+item-same k brackets one other more others make s ones reads mores =
+    then-same s (ReadLabel k s) (labelOf k s) _ _ (label-reads k s)
+    (λ a valued t p. let n = tail-length t in
+    two-same valued (ReadValue brackets (enders k) valued) (make a) _ _ more others (ones valued n) (reads valued)
+    (λ v left r. mores left (omega (arith, r .shorter))))
 
-  bracket-fuel : (lists : ℕ) (also l : List ℕ) → length l < f → length l < g → value (suc f) lists also (byte "[" ∷ l) ≡ value (suc g) lists also (byte "[" ∷ l)
-  bracket-fuel zero also l h k = value-deep f also l ∙ sym (value-deep g also l)
-  bracket-fuel (suc lists) also l h k =
-      split (startsWith (bytes "]") l)
-      (λ e. rw (starts-is (bytes "]") l e) (value-empty f lists also (drop 1 l) ∙ sym (value-empty g lists also (drop 1 l))))
-      (λ e. value-list f lists also l e ∙ item-fuel lists list l h k ∙ sym (value-list g lists also l e))
+module _ (f g : ℕ) (k : Bracket)
+    (ones : (brackets : ℕ) (s : List ℕ) → length s < f → length s < g → value f brackets (enders k) s ≡ value g brackets (enders k) s)
+    (mores : (brackets : ℕ) (s : List ℕ) → length s < f → length s < g → items f k brackets s ≡ items g k brackets s) where
+  item-fuel : {A : Type 0} (brackets : ℕ) (make : Label → Value → More → A) (s : List ℕ) → length s < f → length s < g
+      → itemThen f k brackets make s ≡ itemThen g k brackets make s
+  item-fuel brackets make s h j =
+      item-same k brackets _ _ _ _ make s (λ t n. ones brackets t (omega arith) (omega arith)) (value-reads g brackets (enders k))
+      (λ t n. mores brackets t (omega arith) (omega arith))
 
-  behind-fuel : (lists b : ℕ) (l : List ℕ) → length l < f → length l < g → items (suc f) lists (b ∷ l) ≡ items (suc g) lists (b ∷ l)
-  behind-fuel lists b l h k =
+  bracket-fuel : (brackets : ℕ) (also l : List ℕ) → length l < f → length l < g
+      → value (suc f) brackets also (opener k ++ l) ≡ value (suc g) brackets also (opener k ++ l)
+  bracket-fuel zero also l h j = value-deep f k also l ∙ sym (value-deep g k also l)
+  bracket-fuel (suc brackets) also l h j =
+      split (mayBeEmpty k && startsWith (closer k ∷ []) l)
+      (λ e. let m = both (mayBeEmpty k) (startsWith (closer k ∷ []) l) e in
+      rw (starts-is (closer k ∷ []) l (m .1)) (value-empty f k brackets also (drop 1 l) (m .0) ∙ sym (value-empty g k brackets also (drop 1 l) (m .0))))
+      (λ e. value-items f k brackets also l (is-not e) ∙ item-fuel brackets (bracket k) l h j ∙ sym (value-items g k brackets also l (is-not e)))
+
+  behind-fuel : (brackets b : ℕ) (l : List ℕ) → length l < f → length l < g → items (suc f) k brackets (b ∷ l) ≡ items (suc g) k brackets (b ∷ l)
+  behind-fuel brackets b l h j =
       let n = tail-length (tail-drop (lengthIn isWhite l) l) in
-      split (eqb b (byte "]"))
-      (λ e. rw (eqb-true b (byte "]") e) (items-close f lists l ∙ sym (items-close g lists l)))
+      split (eqb b (closer k))
+      (λ e. rw (eqb-true b (closer k) e) (items-close f k brackets l ∙ sym (items-close g k brackets l)))
       (λ e. split (eqb b (byte ","))
-      (λ c. rw (eqb-true b (byte ",") c) (items-comma f lists l ∙ item-fuel lists (comma (front isWhite l)) (behind isWhite l) (omega arith) (omega arith) ∙ sym
-      (items-comma g lists l)))
-      (λ c. items-other f lists l b e c ∙ sym (items-other g lists l b e c)))
+      (λ c. rw (eqb-true b (byte ",") c) (items-comma f k brackets l ∙ item-fuel brackets (comma (front isWhite l)) (behind isWhite l) (omega arith) (omega arith)
+      ∙ sym (items-comma g k brackets l)))
+      (λ c. items-other f k brackets l b e c ∙ sym (items-other g k brackets l b e c)))
 
 mutual
   unfolding value
 
-  pub value-fuel : (f g lists : ℕ) (also s : List ℕ) → length s < f → length s < g → value f lists also s ≡ value g lists also s
-  value-fuel zero g lists also s h k = absurd (omega arith)
-  value-fuel (suc f) zero lists also s h k = absurd (omega arith)
-  value-fuel (suc f) (suc g) lists also s h k =
-      split (startsWith (bytes "[") s)
-      (λ e. let q = starts-is (bytes "[") s e in let n = ap length q in
-      rw q (bracket-fuel f g (λ m l a b. value-fuel f g m listEnders l a b) (λ m l a b. items-fuel f g m l a b) lists also (drop 1 s) (omega arith) (omega arith)))
-      (λ e. value-leaf f lists also s e ∙ sym (value-leaf g lists also s e))
+  pub value-fuel : (f g brackets : ℕ) (also s : List ℕ) → length s < f → length s < g → value f brackets also s ≡ value g brackets also s
+  value-fuel zero g brackets also s h j = absurd (omega arith)
+  value-fuel (suc f) zero brackets also s h j = absurd (omega arith)
+  value-fuel (suc f) (suc g) brackets also s h j =
+      byOpening s (λ e. value-leaf f brackets also s e ∙ sym (value-leaf g brackets also s e))
+      (λ k e. let n : length s ≡ length (opener k) + length (inside k s) = ap length e ∙ length-append (opener k) (inside k s) in
+      let some = opener-some k in
+      rw e (bracket-fuel f g k (λ m l a b. value-fuel f g m (enders k) l a b) (λ m l a b. items-fuel f g k m l a b) brackets also (inside k s)
+      (omega arith) (omega arith)))
 
-  pub items-fuel : (f g lists : ℕ) (s : List ℕ) → length s < f → length s < g → items f lists s ≡ items g lists s
-  items-fuel zero g lists s h k = absurd (omega arith)
-  items-fuel (suc f) zero lists s h k = absurd (omega arith)
-  items-fuel (suc f) (suc g) lists [] h k = refl
-  items-fuel (suc f) (suc g) lists (b ∷ l) h k =
-      behind-fuel f g (λ m l a c. value-fuel f g m listEnders l a c) (λ m l a c. items-fuel f g m l a c) lists b l (omega arith) (omega arith)
+  pub items-fuel : (f g : ℕ) (k : Bracket) (brackets : ℕ) (s : List ℕ) → length s < f → length s < g → items f k brackets s ≡ items g k brackets s
+  items-fuel zero g k brackets s h j = absurd (omega arith)
+  items-fuel (suc f) zero k brackets s h j = absurd (omega arith)
+  items-fuel (suc f) (suc g) k brackets [] h j = refl
+  items-fuel (suc f) (suc g) k brackets (b ∷ l) h j =
+      behind-fuel f g k (λ m l a c. value-fuel f g m (enders k) l a c) (λ m l a c. items-fuel f g k m l a c) brackets b l (omega arith) (omega arith)
 
 -- ---- the steps without fuel
 
-item-free : {A : Type 0} (fuel lists : ℕ) (make : Value → More → A) (s : List ℕ) → length s < fuel → itemThen fuel lists make s ≡ itemAnd lists make s
-item-free fuel lists make s h =
-    two-same s (ReadValue lists listEnders s) make _ _ (items fuel lists) (moreOf lists) (value-fuel fuel (suc (length s)) lists listEnders s h (omega arith))
-    (value-reads (suc (length s)) lists listEnders s)
-    (λ v left r. items-fuel fuel (suc (length left)) lists left (omega (arith, r .shorter)) (omega arith))
+-- no bracket
+pub value-of-leaf : (brackets : ℕ) (also s : List ℕ) → opensWith s ≡ noBracket → valueOf brackets also s ≡ andThen (leafOf also s) (λ v left. found (leaf v) left)
+value-of-leaf brackets also s e = value-leaf (length s) brackets also s e
 
--- too many lists in one another
-pub value-of-deep : (also l : List ℕ) → valueOf 0 also (byte "[" ∷ l) ≡ fault 10 (byte "[" ∷ l)
-value-of-deep also l = value-deep (suc (length l)) also l
+module _ (k : Bracket) where
+  -- too many brackets in one another
+  pub value-of-deep : (also l : List ℕ) → valueOf 0 also (opener k ++ l) ≡ fault 10 (atBracket k l)
+  value-of-deep also l = value-deep (length (opener k ++ l)) k also l
 
-module _ (lists : ℕ) where
-  -- no list
-  pub value-of-leaf : (also s : List ℕ) → startsWith (bytes "[") s ≡ false → valueOf lists also s ≡ andThen (leafOf also s) (λ v left. found (leaf v) left)
-  value-of-leaf also s e = value-leaf (length s) lists also s e
+  module _ (brackets : ℕ) where
+    -- fuel that is more than enough for an item and those behind it
+    item-free : {A : Type 0} (fuel : ℕ) (make : Label → Value → More → A) (s : List ℕ) → length s < fuel → itemThen fuel k brackets make s ≡ itemAnd k brackets make s
+    item-free fuel make s h =
+        item-same k brackets _ _ _ _ make s (λ t n. value-fuel fuel (suc (length t)) brackets (enders k) t (omega arith) (omega arith))
+        (λ t. value-reads (suc (length t)) brackets (enders k) t) (λ t n. items-fuel fuel (suc (length t)) k brackets t (omega arith) (omega arith))
 
-  -- a list without items, and one with items
-  pub value-of-empty : (also l : List ℕ) → valueOf (suc lists) also (byte "[" ∷ byte "]" ∷ l) ≡ found emptyList l
-  value-of-empty also l = value-empty (suc (suc (length l))) lists also l
+    -- a bracket without items, and one with items
+    pub value-of-empty : (also l : List ℕ) → mayBeEmpty k ≡ true → valueOf (suc brackets) also (opener k ++ (closer k ∷ l)) ≡ found (emptyBracket k) l
+    value-of-empty also l m = value-empty (length (opener k ++ (closer k ∷ l))) k brackets also l m
 
-  pub value-of-list : (also l : List ℕ) → startsWith (bytes "]") l ≡ false → valueOf (suc lists) also (byte "[" ∷ l) ≡ itemAnd lists list l
-  value-of-list also l e = value-list (suc (length l)) lists also l e ∙ item-free (suc (length l)) lists list l (omega arith)
+    pub value-of-items : (also l : List ℕ) → begun k l ≡ true → valueOf (suc brackets) also (opener k ++ l) ≡ itemAnd k brackets (bracket k) l
+    value-of-items also l e =
+        value-items (length (opener k ++ l)) k brackets also l e
+        ∙ item-free (length (opener k ++ l)) (bracket k) l (omega (arith, length-append (opener k) l, opener-some k))
 
-  -- behind an item: the end of input, what closes, what separates, any other byte
-  pub more-of-end : moreOf lists [] ≡ fault 9 []
-  unfolding items
-  more-of-end = refl
+    -- behind an item: the end of input, what closes, what separates, any other byte
+    pub more-of-end : moreOf k brackets [] ≡ fault 9 []
+    unfolding items
+    more-of-end = refl
 
-  pub more-of-close : (l : List ℕ) → moreOf lists (byte "]" ∷ l) ≡ found close l
-  more-of-close l = items-close (suc (length l)) lists l
+    pub more-of-close : (l : List ℕ) → moreOf k brackets (closer k ∷ l) ≡ found close l
+    more-of-close l = items-close (suc (length l)) k brackets l
 
-  pub more-of-comma : (l : List ℕ) → moreOf lists (byte "," ∷ l) ≡ itemAnd lists (comma (front isWhite l)) (behind isWhite l)
-  more-of-comma l =
-      let n =
-      tail-length (tail-drop (lengthIn isWhite l) l) in items-comma (suc (length l)) lists l
-      ∙ item-free (suc (length l)) lists (comma (front isWhite l)) (behind isWhite l) (omega arith)
+    pub more-of-comma : (l : List ℕ) → moreOf k brackets (byte "," ∷ l) ≡ itemAnd k brackets (comma (front isWhite l)) (behind isWhite l)
+    more-of-comma l =
+        let n = tail-length (tail-drop (lengthIn isWhite l) l) in
+        items-comma (suc (length l)) k brackets l ∙ item-free (suc (length l)) (comma (front isWhite l)) (behind isWhite l) (omega arith)
 
-  pub more-of-other : (b : ℕ) (l : List ℕ) → eqb b (byte "]") ≡ false → eqb b (byte ",") ≡ false → moreOf lists (b ∷ l) ≡ fault 6 (b ∷ l)
-  more-of-other b l e f = items-other (suc (length l)) lists l b e f
+    pub more-of-other : (b : ℕ) (l : List ℕ) → eqb b (closer k) ≡ false → eqb b (byte ",") ≡ false → moreOf k brackets (b ∷ l) ≡ fault 6 (b ∷ l)
+    more-of-other b l e f = items-other (suc (length l)) k brackets l b e f
 
 -- ---- a spelt value is read back
 
-no-list : (also : List ℕ) (v : Leaf) (next : List ℕ) → leafRule also v ≡ true → startsWith (bytes "[") (leafOnto v next) ≡ false
-unfolding elem
-no-list also v next r = starts-not (without beginsNoLeaf) (byte "[") (leafOnto v next) (leaf-begins also v next r) refl
+-- what is spelt behind an opener is not closed at once
+pub begins : (k : Bracket) (a : Label) (v : Value) (next : List ℕ) → labelRule k a ≡ true → valueRule (enders k) v ≡ true → begun k (labelOnto a (valueOnto v next)) ≡ true
+begins k a v next p r = is-not (and-not (mayBeEmpty k) (item-open k a v next p r))
+  where
+    and-not : (b : Bool) {c : Bool} → c ≡ false → b && c ≡ false
+    and-not true e = e
+    and-not false e = refl
 
-no-close : (v : Value) (next : List ℕ) → valueRule listEnders v ≡ true → startsWith (bytes "]") (valueOnto v next) ≡ false
-unfolding elem
-no-close v next r = no-closer listEnders v next (byte "]") r refl
-
-follows-more : (inSlash : Bool) (more : More) (next : List ℕ) → Follows listEnders inSlash (moreOnto more next)
-unfolding moreOnto isEnder isWhite isBlank isLineEnd elem
-follows-more inSlash close next = follows-ender listEnders inSlash (byte "]") next refl refl
-follows-more inSlash (comma white v more) next = follows-ender listEnders inSlash (byte ",") _ refl refl
+follows-more : (k : Bracket) (inSlash : Bool) (more : More) (next : List ℕ) → Follows (enders k) inSlash (moreOnto k more next)
+unfolding moreOnto
+follows-more k inSlash close next = follows-ender (enders k) inSlash (closer k) next (closer-ends k) (closer-greater k)
+follows-more k inSlash (comma white a v more) next = follows-ender (enders k) inSlash (byte ",") _ (comma-ends k) refl
 
 mutual
-  unfolding valueOnto valueRule listDepth
+  unfolding valueOnto valueRule bracketDepth
 
-  pub value-back : (v : Value) (lists : ℕ) (also next : List ℕ) → valueRule also v ≡ true → listDepth v ≤ lists → Follows also (valueInSlash v) next
-      → valueOf lists also (valueOnto v next) ≡ found v next
-  value-back (leaf v) lists also next r d f = value-of-leaf lists also (leafOnto v next) (no-list also v next r) ∙ rw (leaf-back also v next r f)
-  value-back emptyList zero also next r d f = absurd (omega arith)
-  value-back emptyList (suc lists) also next r d f = value-of-empty lists also next
-  value-back (list v more) zero also next r d f = absurd (omega arith)
-  value-back (list v more) (suc lists) also next r d f =
-      let h = both (valueRule listEnders v) (moreRule more) r in
-      value-of-list lists also _ (no-close v (moreOnto more next) (h .0))
+  pub value-back : (v : Value) (brackets : ℕ) (also next : List ℕ) → valueRule also v ≡ true → bracketDepth v ≤ brackets → Follows also (valueInSlash v) next
+      → valueOf brackets also (valueOnto v next) ≡ found v next
+  value-back (leaf v) brackets also next r d f = value-of-leaf brackets also (leafOnto v next) (no-bracket also v next r) ∙ rw (leaf-back also v next r f)
+  value-back (emptyBracket k) zero also next r d f = absurd (omega arith)
+  value-back (emptyBracket k) (suc brackets) also next r d f = value-of-empty k brackets also next r
+  value-back (bracket k a v more) zero also next r d f = absurd (omega arith)
+  value-back (bracket k a v more) (suc brackets) also next r d f =
+      let h = both (labelRule k a && valueRule (enders k) v) (moreRule k more) r in
+      let p = both (labelRule k a) (valueRule (enders k) v) (h .0) in
+      let rest = moreOnto k more next in
+      value-of-items k brackets also _ (begins k a v rest (p .0) (p .1))
       ∙ rw (
-        value-back v lists listEnders (moreOnto more next) (h .0) (omega arith) (follows-more (valueInSlash v) more next),
-        more-back more lists next (h .1) (omega arith),
+        label-on k a v rest (p .0) (p .1),
+        value-back v brackets (enders k) rest (p .1) (omega arith) (follows-more k (valueInSlash v) more next),
+        more-back k more brackets next (h .1) (omega arith),
       )
 
-  pub more-back : (more : More) (lists : ℕ) (next : List ℕ) → moreRule more ≡ true → moreDepth more ≤ lists → moreOf lists (moreOnto more next) ≡ found more next
-  more-back close lists next r d = more-of-close lists next
-  more-back (comma white v more) lists next r d =
-      let h = both (all isWhite white && valueRule listEnders v) (moreRule more) r in
-      let k = both (all isWhite white) (valueRule listEnders v) (h .0) in
-      more-of-comma lists (white ++ valueOnto v (moreOnto more next))
+  pub more-back : (k : Bracket) (more : More) (brackets : ℕ) (next : List ℕ) → moreRule k more ≡ true → moreDepth more ≤ brackets
+      → moreOf k brackets (moreOnto k more next) ≡ found more next
+  more-back k close brackets next r d = more-of-close k brackets next
+  more-back k (comma white a v more) brackets next r d =
+      let h = both (all isWhite white && labelRule k a && valueRule (enders k) v) (moreRule k more) r in
+      let p = both (all isWhite white && labelRule k a) (valueRule (enders k) v) (h .0) in
+      let q = both (all isWhite white) (labelRule k a) (p .0) in
+      let rest = moreOnto k more next in
+      more-of-comma k brackets (white ++ labelOnto a (valueOnto v rest))
       ∙ rw (
-        white-front listEnders v white (moreOnto more next) (k .1) (k .0),
-        white-behind listEnders v white (moreOnto more next) (k .1) (k .0),
-        value-back v lists listEnders (moreOnto more next) (k .1) (omega arith) (follows-more (valueInSlash v) more next),
-        more-back more lists next (h .1) (omega arith),
+        white-front k a v rest (q .1) (p .1) white (q .0),
+        white-behind k a v rest (q .1) (p .1) white (q .0),
+        label-on k a v rest (q .1) (p .1),
+        value-back v brackets (enders k) rest (p .1) (omega arith) (follows-more k (valueInSlash v) more next),
+        more-back k more brackets next (h .1) (omega arith),
       )
 
 -- with any fuel above the length
-pub value-complete : (fuel lists : ℕ) (also : List ℕ) (v : Value) (next : List ℕ) → valueRule also v ≡ true → listDepth v ≤ lists → Follows also (valueInSlash v) next
-    → length (valueOnto v next) < fuel → value fuel lists also (valueOnto v next) ≡ found v next
-value-complete fuel lists also v next r d f h =
-    value-fuel fuel (suc (length (valueOnto v next))) lists also (valueOnto v next) h (omega arith) ∙ value-back v lists also next r d f
+pub value-complete : (fuel brackets : ℕ) (also : List ℕ) (v : Value) (next : List ℕ) → valueRule also v ≡ true → bracketDepth v ≤ brackets → Follows also (valueInSlash v) next
+    → length (valueOnto v next) < fuel → value fuel brackets also (valueOnto v next) ≡ found v next
+value-complete fuel brackets also v next r d f h =
+    value-fuel fuel (suc (length (valueOnto v next))) brackets also (valueOnto v next) h (omega arith) ∙ value-back v brackets also next r d f
 
 -- ---- a spelling is that of one value
 
 -- two values that keep the rules and are spelt alike are one
 pub spelling-only : (also : List ℕ) (v w : Value) → valueRule also v ≡ true → valueRule also w ≡ true → spelling v ≡ spelling w → v ≡ w
 spelling-only also v w p q e =
-    let lists = max (listDepth v) (listDepth w) in
+    let brackets = max (bracketDepth v) (bracketDepth w) in
     let next = space ∷ [] in
     let same : valueOnto v next ≡ valueOnto w next = value-append v next ∙ rw e (sym (value-append w next)) in
-    let a = value-back v lists also next p (omega arith) (follows-space also (valueInSlash v) []) in
-    let b = value-back w lists also next q (omega arith) (follows-space also (valueInSlash w) []) in
-    let c : found v next ≡ found w next = sym a ∙ ap (valueOf lists also) same ∙ b in
+    let a = value-back v brackets also next p (omega arith) (follows-space also (valueInSlash v) []) in
+    let b = value-back w brackets also next q (omega arith) (follows-space also (valueInSlash w) []) in
+    let c : found v next ≡ found w next = sym a ∙ ap (valueOf brackets also) same ∙ b in
     cc
 
 -- so what it means is a function of the spelling

@@ -122,7 +122,7 @@ within-enters room wide at valued t left l =
   where
     none : (room : ℕ) → leb (traitSize t) room ≡ false → Full (enters room at valued t left)
     none zero e = record { left = at; is = rw (e, enters) }
-    none (suc items) e = record { left = drop (getD (map (λ e. e .start) (itemEntries 0 0 0 (t .value))) items 0) valued; is = rw (e, enters) }
+    none (suc items) e = record { left = drop (getD (map (λ e. e .nameStart) (itemEntries 0 0 0 (t .value))) items 0) valued; is = rw (e, enters) }
 
 within-opened : (by : Bounds) (room wide : ℕ) (w s : List ℕ) → room ≤ wide → Within (opened by room w s) (opened by wide w s)
 unfolding opened trait traitTurn traitDue
@@ -134,7 +134,7 @@ within-opened by room wide w s l =
     one room wide white s l =
         within-on (name (isName isLower (by .names)) s) _ _
         (λ v left. within-on (due (byte "=") left) _ _
-        (λ b valued. within-on (valueOf (by .lists) [] valued) _ _ (λ x left. within-enters room wide s valued _ left l)))
+        (λ b valued. within-on (valueOf (by .brackets) [] valued) _ _ (λ x left. within-enters room wide s valued _ left l)))
 
     due-one : (room wide : ℕ) (s white rest : List ℕ) → room ≤ wide → Turns (traitDue by room s white rest) (traitDue by wide s white rest)
     due-one room wide s white [] l = inl refl

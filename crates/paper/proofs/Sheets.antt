@@ -23,7 +23,7 @@ pub record ReadSheet (m : Modes) (by : Bounds) (deeper room : ℕ) (s : List ℕ
   pub covers : s ≡ sheetOnto t []
   pub rule : sheetRule t ≡ true
   pub modes : sheetModes m t ≡ true
-  pub within : conceptFits (by .names) (by .lists) (t .root) ≡ true
+  pub within : conceptFits (by .names) (by .brackets) (t .root) ≡ true
   pub depth : conceptDepth (t .root) ≤ deeper
   pub fits : sheetSize t ≤ room
 
@@ -76,7 +76,7 @@ ends-root (b ∷ after) last r e = blank-ends b (blanksOnto after (last ++ [])) 
 pub record Keeps (m : Modes) (by : Bounds) (deeper room : ℕ) (t : Sheet) : Type 0 where
   pub rule : sheetRule t ≡ true
   pub modes : sheetModes m t ≡ true
-  pub within : conceptFits (by .names) (by .lists) (t .root) ≡ true
+  pub within : conceptFits (by .names) (by .brackets) (t .root) ≡ true
   pub depth : conceptDepth (t .root) ≤ deeper
   pub fits : sheetSize t ≤ room
 

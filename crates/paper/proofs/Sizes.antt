@@ -4,10 +4,10 @@ use mathlib.Core.Path.{_≡_, refl, ap, ap₂}
 use mathlib.Core.List.{List, [], _∷_, _++_}
 use native.Mathlib.Omega.{arith}
 use lib.ListN.{length, replicate, length-append}
-use Rattle.paper.specs.Values.{Value, leaf, emptyList, list, More, close, comma}
+use Rattle.paper.specs.Values.{opener, Value, leaf, emptyBracket, bracket, More, close, comma}
 use Rattle.paper.specs.Tree.{Trait, Annotation, Concept, selfClosed, children, content, Body, done, blankLine, element, Sheet}
 use Rattle.paper.specs.Grammar.{blankOnto, blanksOnto, annotationOnto, annotationsOnto, traitOnto, linesOnto}
-use Rattle.paper.specs.Entries.{Entry, allCells, valueWidth, itemSize, moreSize, itemEntries, moreEntries, traitSize, traitsSize, traitValue, traitEntries}
+use Rattle.paper.specs.Entries.{Entry, allCells, valueWidth, labelWidth, itemSize, moreSize, itemEntries, moreEntries, traitSize, traitsSize, traitValue, traitEntries}
 use Rattle.paper.specs.Entries.{annotationEntries, unnamed, conceptSize, bodySize, conceptWidth, conceptEntry, markerName, bodyStart, insideEntries, bodyEntries}
 use Rattle.paper.specs.Entries.{noParent, rootStart, sheetSize, entries, entryCells, filled}
 
@@ -18,25 +18,25 @@ mutual
 
   pub item-size : (v : Value) (parent next at : ℕ) → length (itemEntries parent next at v) ≡ itemSize v
   item-size (leaf v) parent next at = refl
-  item-size emptyList parent next at = refl
-  item-size (list v more) parent next at =
+  item-size (emptyBracket k) parent next at = refl
+  item-size (bracket k a v more) parent next at =
+      let start = at + length (opener k) + labelWidth a in
       omega (
         arith,
-        length-append (itemEntries next (next + 1) (at + 1) v) (moreEntries parent (next + 1 + itemSize v) (at + 1 + valueWidth v) more),
-        item-size v next (next + 1) (at + 1),
-        more-size more parent (next + 1 + itemSize v) (at + 1 + valueWidth v),
+        length-append (itemEntries next (next + 1) start v) (moreEntries parent (next + 1 + itemSize v) (start + valueWidth v) more),
+        item-size v next (next + 1) start,
+        more-size more parent (next + 1 + itemSize v) (start + valueWidth v),
       )
 
   more-size : (more : More) (parent next at : ℕ) → length (moreEntries parent next at more) ≡ moreSize more
   more-size close parent next at = refl
-  more-size (comma white v more) parent next at =
+  more-size (comma white a v more) parent next at =
+      let start = at + 1 + length white + labelWidth a in
       omega (
         arith,
-        length-append (itemEntries next (next + 1) (at + 1 + length white) v)
-            (moreEntries parent (next + 1 + itemSize v) (at + 1 + length white + valueWidth v) more),
-        item-size v next (next + 1)
-            (at + 1 + length white),
-        more-size more parent (next + 1 + itemSize v) (at + 1 + length white + valueWidth v),
+        length-append (itemEntries next (next + 1) start v) (moreEntries parent (next + 1 + itemSize v) (start + valueWidth v) more),
+        item-size v next (next + 1) start,
+        more-size more parent (next + 1 + itemSize v) (start + valueWidth v),
       )
 
 pub traits-size : (ts : List Trait) (parent next at : ℕ) → length (traitEntries parent next at ts) ≡ traitsSize ts

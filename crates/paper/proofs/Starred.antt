@@ -135,6 +135,21 @@ cases =
     ∷ refusedCase "<Lab n=[[1],[2,'a\n" (refused 6 17) ∷ refusedCase "<Lab n=[[1],[2,'ab']] />" (refused 6 17)
     ∷ refusedCase "<Lab n=[[1],[2,'']] />" (refused 6 16) ∷ refusedCase "<Lab n=[[1],[2,04]] />" (refused 6 15)
     ∷ refusedCase "<Lab n=[[1],[2,{noon}]] />" (refused 6 15) ∷ refusedCase "<Lab n=[[1],[2 ]] />" (refused 6 14)
+    -- request Five: an empty tuple, a bad key and a cut one, no colon, a word that "]" does not end, no bracket, a ninth one, and a key that has no entry left
+    ∷ refusedCase "<Lab n=() />" (refused 6 8) ∷ refusedCase "<Lab n=map[\"x\\q\":1] />" (refused 6 11) ∷ refusedCase "<Lab n=map[A" (refused 9 12)
+    ∷ refusedCase "<Lab n=map[a] />" (refused 6 12) ∷ refusedCase "<Lab n=(1] />" (refused 6 8) ∷ refusedCase "<Lab n=set [1] />" (refused 6 7)
+    ∷ refusedCase "<Lab n=[[[[[[[[set[1]]]]]]]]] />" (refused 10 18)
+    ∷ record { sheet = "<Lab n=map[a:1] />"; lent = 16; answer = refused 11 11; entries = []; form = "" }
+    ∷ record {
+      sheet = "<Lab n=map[\"k\":set[1],b: (x:a])] />";
+      lent = 48;
+      answer = accepted 35 6;
+      entries =
+          1 ∷ 1 ∷ 4294967295 ∷ 1 ∷ 1 ∷ 4 ∷ 0 ∷ 35 ∷ 2 ∷ 15 ∷ 0 ∷ 2 ∷ 5 ∷ 6 ∷ 7 ∷ 32
+          ∷ 3 ∷ 14 ∷ 1 ∷ 1 ∷ 11 ∷ 14 ∷ 15 ∷ 21 ∷ 3 ∷ 4 ∷ 2 ∷ 0 ∷ 19 ∷ 19 ∷ 19 ∷ 20
+          ∷ 3 ∷ 16 ∷ 1 ∷ 1 ∷ 22 ∷ 23 ∷ 25 ∷ 31 ∷ 3 ∷ 11 ∷ 4 ∷ 0 ∷ 26 ∷ 26 ∷ 26 ∷ 30 ∷ [];
+      form = "<Lab n=map[\"k\": set[1], b: (x:a])] />\n";
+    }
     ∷ []
 
 pub starred : map seen cases ≡ map due cases
@@ -152,8 +167,9 @@ unfolding table cases formOf seen many
     Times.isZonedTime Times.isZoned Times.areParts Times.isSpan Times.isDuration Times.isReserved Times.firstFit
     Values.isToken Values.hexGroups Bytes.areDigits Values.isCount Values.unsigned Values.isDecimal
     Values.isScientific Values.isFraction Values.inRanges Values.isIriScalar Values.isIriBody Values.isScheme Values.isIri
+    Values.isBare Values.isKeyForm Values.keyOnto Values.labelOnto Values.keyRule Values.labelRule
     Values.wordForm Values.isEnder Values.endsWord Values.leafOnto Values.valueOnto Values.leafRule Values.valueRule
-    Values.endsInSlash Values.listDepth
+    Values.endsInSlash Values.bracketDepth
     Grammar.blanksOnto Grammar.annotationsOnto Grammar.traitsOnto Grammar.linesOnto Grammar.conceptOnto
     Grammar.sheetOnto Grammar.annotationText Grammar.annotationRule Grammar.traitRule Grammar.markerRule
     Grammar.slashLast Grammar.opensBlock Grammar.inMode Grammar.conceptRule Grammar.sheetRule
@@ -163,14 +179,15 @@ unfolding table cases formOf seen many
     ReadingValues.judged ReadingValues.fourDigits ReadingValues.bracedDigits ReadingValues.escape
     ReadingValues.insideOf ReadingValues.pieceTurn ReadingValues.closeCharacter ReadingValues.characterOf
     ReadingValues.backtickTurn ReadingValues.wordLength ReadingValues.wordOf ReadingValues.temporalOf ReadingValues.firstOf
-    ReadingValues.leafOf ReadingValues.value
+    ReadingValues.leafOf ReadingValues.opensWith ReadingValues.keyWord ReadingValues.keyOf ReadingValues.colon ReadingValues.labelOf
+    ReadingValues.value
     Reading.lineEnd Reading.blankTurn Reading.noSpace Reading.nameOf Reading.due Reading.makes Reading.textOf
     Reading.annotation Reading.annotationTurn Reading.enters Reading.trait Reading.traitDue Reading.traitTurn
     Reading.ending Reading.opened Reading.admitted Reading.closing Reading.atLineEnd Reading.closesLine
     Reading.textLine Reading.otherLine Reading.lineTurn Reading.contentOf Reading.concept Reading.lastBlanks
     Reading.sheetTree Reading.sheetOf Reading.reading
-    Canonical.lower Canonical.leafSense Canonical.valueSense Canonical.conceptSense Canonical.meaning
-    Canonical.hexOnto Canonical.byteOnto Canonical.bytesOnto Canonical.printValue Canonical.printBeside
+    Canonical.lower Canonical.leafSense Canonical.keySense Canonical.labelSense Canonical.valueSense Canonical.conceptSense Canonical.meaning
+    Canonical.hexOnto Canonical.byteOnto Canonical.bytesOnto Canonical.printLeaf Canonical.printLabel Canonical.printValue Canonical.printBeside
     Canonical.printBelow Canonical.lastInSlash Canonical.printMarker Canonical.printNotes Canonical.printLine
     Canonical.printLines Canonical.printConcept Canonical.print
 starred = refl

@@ -1,4 +1,4 @@
--- What the entries of a sheet tell beside offsets: names, and what values, annotations and Content mean. The entries of its canonical form tell the same.
+-- What the entries of a sheet tell beside offsets: names, and what keys, values, annotations and Content mean. The entries of its canonical form tell the same.
 -- Document 01, "Entries" and "Canonical form"; demand 2. Assumes nothing.
 use Prim.Native.Nat.{ℕ, _+_, _-_}
 use mathlib.Core.Path.{_≡_, refl, sym, ap, _∙_}
@@ -10,31 +10,33 @@ use lib.Dec.{leb}
 use lib.Seq.{take-append-seam}
 use Rattle.paper.specs.Bytes.{byte, tab, all, isBlank, isWhite, isLower, isUpper}
 use Rattle.paper.specs.Names.{nameRule}
-use Rattle.paper.specs.Values.{Leaf, string, character, backtick, word, Value, leaf, emptyList, list, More, close, comma, valueOnto, moreOnto, spelling, collapse}
-use Rattle.paper.specs.Values.{valueRule, moreRule, listEnders, temporal}
+use Rattle.paper.specs.declared.brackets.Bracket.{Bracket}
+use Rattle.paper.specs.Values.{opener, enders, Label, noLabel, label, Value, leaf, emptyBracket, bracket, More, close, comma, keyOnto, labelOnto, valueOnto}
+use Rattle.paper.specs.Values.{moreOnto, spelling, collapse, labelRule, valueRule, moreRule}
 use Rattle.paper.specs.Tree.{Blank, Trait, Marker, Annotation, Line, Concept, selfClosed, children, content, Body, done, blankLine, element, Sheet, block}
 use Rattle.paper.specs.Grammar.{blankOnto, blanksOnto, tabsOnto, annotationOnto, annotationsOnto, traitOnto, traitsOnto, markerOnto, endingOnto, closingOnto}
 use Rattle.paper.specs.Grammar.{linesOnto, conceptOnto, bodyOnto, sheetOnto, blankRule, annotationRule, traitRule, markerRule, lineRule, opensBlock, conceptRule}
 use Rattle.paper.specs.Grammar.{bodyRule, sheetRule}
-use Rattle.paper.specs.Entries.{Entry, valueWidth, itemEntries, moreEntries, itemSize, traitEntries, traitSize, traitName, traitValue, traitsSize}
-use Rattle.paper.specs.Entries.{annotationEntries, conceptSize, conceptWidth, markerName, markerOf, bodyStart, insideEntries, bodyEntries, noParent}
-use Rattle.paper.specs.Entries.{rootStart, entries}
-use Rattle.paper.specs.Canonical.{ValueSense, quoted, letter, spelt, listed, ItemsSense, none, item, TraitSense, ConceptSense, bare, around, saying}
-use Rattle.paper.specs.Canonical.{BodySense, empty, with, SheetSense, leafSense, valueSense, moreSense, markerSense, lineSense, annotationSense, conceptSense}
-use Rattle.paper.specs.Canonical.{bodySense, meaning, timed}
+use Rattle.paper.specs.Entries.{Entry, valueWidth, keyWidth, labelWidth, itemEntry, itemEntries, moreEntries, itemSize, traitEntries, traitSize, traitName}
+use Rattle.paper.specs.Entries.{traitValue, traitsSize, annotationEntries, conceptSize, conceptWidth, markerName, markerOf, bodyStart, insideEntries}
+use Rattle.paper.specs.Entries.{bodyEntries, noParent, rootStart, entries}
+use Rattle.paper.specs.Canonical.{LabelSense, ValueSense, single, held, ItemsSense, none, item, TraitSense, ConceptSense, bare, around, saying, BodySense}
+use Rattle.paper.specs.Canonical.{empty, with, SheetSense, labelSense, valueSense, moreSense, markerSense, lineSense, annotationSense, conceptSense, bodySense}
+use Rattle.paper.specs.Canonical.{meaning}
 use Rattle.paper.proofs.Lists.{both, all-head}
 use Rattle.paper.proofs.Concepts.{element-parts}
+use Rattle.paper.proofs.Labels.{key-append, label-append}
 use Rattle.paper.proofs.ReadValues.{value-append}
 use Rattle.paper.proofs.Fronts.{blank-front, blanks-front, note-front, notes-front, trait-front, marker-front}
 use Rattle.paper.proofs.Fronts.{lines-front, whole-front, concept-ends, past-bytes, past-front, front-append}
 
 -- ---- what an entry tells
 
--- a Concept's name; a trait's name and its value; a list item; an annotation's text, collapsed; Content's lines
+-- a Concept's name; a trait's name and its value; an item's key, if it has one, and its value; an annotation's text, collapsed; Content's lines
 pub data Sense : Type 0 where
   named : List ℕ → Sense
   trait : List ℕ → ValueSense → Sense
-  value : ValueSense → Sense
+  member : LabelSense → ValueSense → Sense
   note : List ℕ → Sense
   lines : List (List ℕ) → Sense
 
@@ -45,10 +47,23 @@ part s from to = take (to - from) (drop from s)
 -- these bytes are the spelling of a value by the rules, which means this
 pub record Spells (w : List ℕ) (v : ValueSense) : Type 0 where
   pub it : Value
-  pub enders : List ℕ
-  pub rule : valueRule enders it ≡ true
+  pub also : List ℕ
+  pub rule : valueRule also it ≡ true
   pub is : spelling it ≡ w
   pub means : valueSense it ≡ v
+
+-- the bytes of a label's key; none where there is no label
+abbrev pub keySpelling : Label → List ℕ
+keySpelling noLabel = []
+keySpelling (label key white) = keyOnto key []
+
+-- these bytes are those of the key of an item by the rules, which means this
+pub record SpellsKey (w : List ℕ) (a : LabelSense) : Type 0 where
+  pub it : Label
+  pub kind : Bracket
+  pub rule : labelRule kind it ≡ true
+  pub is : keySpelling it ≡ w
+  pub means : labelSense it ≡ a
 
 -- these bytes are lines of Content by the rules, whose texts are these
 pub record Says (w : List ℕ) (texts : List (List ℕ)) : Type 0 where
@@ -61,7 +76,7 @@ pub record Says (w : List ℕ) (texts : List (List ℕ)) : Type 0 where
 abbrev pub Tells : List ℕ → Entry → Sense → Type 0
 Tells s e (named w) = (e .kind ≡ 1) × (part s (e .nameStart) (e .nameEnd) ≡ w)
 Tells s e (trait w v) = (e .kind ≡ 2) × (part s (e .nameStart) (e .nameEnd) ≡ w) × Spells (part s (e .start) (e .end)) v
-Tells s e (value v) = (e .kind ≡ 3) × Spells (part s (e .start) (e .end)) v
+Tells s e (member a v) = (e .kind ≡ 3) × SpellsKey (part s (e .nameStart) (e .nameEnd)) a × Spells (part s (e .start) (e .end)) v
 Tells s e (note w) = (e .kind ≡ 4) × (collapse (part s (e .start) (e .end)) ≡ w)
 Tells s e (lines ls) = (e .kind ≡ 5) × Says (part s (e .start) (e .end)) ls
 
@@ -73,15 +88,12 @@ pub data AllTell (s : List ℕ) : List Entry → List Sense → Type 0 where
 
 unfoldable mutual
   pub itemSenses : ValueSense → List Sense
-  itemSenses (quoted l) = []
-  itemSenses (letter l) = []
-  itemSenses (spelt form w) = []
-  itemSenses (timed kind w) = []
-  itemSenses (listed items) = itemsSenses items
+  itemSenses (single x) = []
+  itemSenses (held k items) = itemsSenses items
 
   pub itemsSenses : ItemsSense → List Sense
   itemsSenses none = []
-  itemsSenses (item v items) = value v ∷ (itemSenses v ++ itemsSenses items)
+  itemsSenses (item a v items) = member a v ∷ (itemSenses v ++ itemsSenses items)
 
 unfoldable pub traitSenses : List TraitSense → List Sense
 traitSenses [] = []
@@ -122,47 +134,61 @@ past-byte : (s : List ℕ) (at b : ℕ) (rest : List ℕ) → drop at s ≡ b �
 past-byte s at b rest e = past-bytes s at (b ∷ []) rest e
 
 module _ (s : List ℕ) where
-  spells : (v : Value) (enders : List ℕ) (at : ℕ) (rest : List ℕ) → valueRule enders v ≡ true → drop at s ≡ valueOnto v rest
+  spells : (v : Value) (also : List ℕ) (at : ℕ) (rest : List ℕ) → valueRule also v ≡ true → drop at s ≡ valueOnto v rest
       → Spells (part s at (at + valueWidth v)) (valueSense v)
-  spells v enders at rest r e =
-      record { it = v; enders = enders; rule = r; is = sym (part-is s at (spelling v) rest (e ∙ value-append v rest)); means = refl }
+  spells v also at rest r e =
+      record { it = v; also = also; rule = r; is = sym (part-is s at (spelling v) rest (e ∙ value-append v rest)); means = refl }
 
   past-value : (v : Value) (at : ℕ) (rest : List ℕ) → drop at s ≡ valueOnto v rest → drop (at + valueWidth v) s ≡ rest
   past-value v at rest e = past-bytes s at (spelling v) rest (e ∙ value-append v rest)
 
-  leaf-tells : (v : Leaf) → AllTell s [] (itemSenses (leafSense v))
-  unfolding itemSenses leafSense
-  leaf-tells (string ps) = none-left
-  leaf-tells (character ps) = none-left
-  leaf-tells (backtick ps) = none-left
-  leaf-tells (word form w) = none-left
-  leaf-tells (temporal kind w) = none-left
+  key-is : (a : Label) (at : ℕ) (rest : List ℕ) → drop at s ≡ labelOnto a rest → part s at (at + keyWidth a) ≡ keySpelling a
+  unfolding labelOnto
+  key-is noLabel at rest e = part-is s at [] rest e
+  key-is (label key white) at rest e = part-is s at (keyOnto key []) (byte ":" ∷ (white ++ rest)) (e ∙ key-append key (byte ":" ∷ (white ++ rest)))
+
+  past-label : (a : Label) (at : ℕ) (rest : List ℕ) → drop at s ≡ labelOnto a rest → drop (at + labelWidth a) s ≡ rest
+  past-label a at rest e = past-bytes s at (labelOnto a []) rest (e ∙ label-append a rest)
+
+  item-tells : (k : Bracket) (a : Label) (v : Value) (parent at : ℕ) (rest : List ℕ) → labelRule k a ≡ true → valueRule (enders k) v ≡ true
+      → drop at s ≡ labelOnto a (valueOnto v rest) → Tells s (itemEntry parent at a v) (member (labelSense a) (valueSense v))
+  item-tells k a v parent at rest l r e = (
+    refl,
+    record { it = a; kind = k; rule = l; is = sym (key-is a at (valueOnto v rest) e); means = refl },
+    spells v (enders k) (at + labelWidth a) rest r (past-label a at (valueOnto v rest) e),
+  )
 
   mutual
     unfolding itemEntries itemSenses valueSense valueOnto valueRule
 
-    items-tell : (v : Value) (enders : List ℕ) (parent next at : ℕ) (rest : List ℕ) → valueRule enders v ≡ true → drop at s ≡ valueOnto v rest
+    items-tell : (v : Value) (also : List ℕ) (parent next at : ℕ) (rest : List ℕ) → valueRule also v ≡ true → drop at s ≡ valueOnto v rest
         → AllTell s (itemEntries parent next at v) (itemSenses (valueSense v))
-    items-tell (leaf v) enders parent next at rest r e = leaf-tells v
-    items-tell emptyList enders parent next at rest r e = none-left
-    items-tell (list v more) enders parent next at rest r e =
-        let p = both (valueRule listEnders v) (moreRule more) r in
-        let first = past-byte s at (byte "[") (valueOnto v (moreOnto more rest)) e in
-        tells {x = value (valueSense v)} (refl, spells v listEnders (at + 1) (moreOnto more rest) (p .0) first)
-        (tell-append (items-tell v listEnders next (next + 1) (at + 1) (moreOnto more rest) (p .0) first)
-        (more-tell more parent (next + 1 + itemSize v) (at + 1 + valueWidth v) rest (p .1) (past-value v (at + 1) (moreOnto more rest) first)))
+    items-tell (leaf v) also parent next at rest r e = none-left
+    items-tell (emptyBracket k) also parent next at rest r e = none-left
+    items-tell (bracket k a v more) also parent next at rest r e =
+        let p = both (labelRule k a && valueRule (enders k) v) (moreRule k more) r in
+        let q = both (labelRule k a) (valueRule (enders k) v) (p .0) in
+        let behind = moreOnto k more rest in
+        let start = at + length (opener k) in
+        let first = past-bytes s at (opener k) (labelOnto a (valueOnto v behind)) e in
+        let valued = past-label a start (valueOnto v behind) first in
+        tells {x = member (labelSense a) (valueSense v)} (item-tells k a v parent start behind (q .0) (q .1) first)
+        (tell-append (items-tell v (enders k) next (next + 1) (start + labelWidth a) behind (q .1) valued)
+        (more-tell k more parent (next + 1 + itemSize v) (start + labelWidth a + valueWidth v) rest (p .1) (past-value v (start + labelWidth a) behind valued)))
 
-    more-tell : (more : More) (parent next at : ℕ) (rest : List ℕ) → moreRule more ≡ true → drop at s ≡ moreOnto more rest
+    more-tell : (k : Bracket) (more : More) (parent next at : ℕ) (rest : List ℕ) → moreRule k more ≡ true → drop at s ≡ moreOnto k more rest
         → AllTell s (moreEntries parent next at more) (itemsSenses (moreSense more))
-    more-tell close parent next at rest r e = none-left
-    more-tell (comma white v more) parent next at rest r e =
-        let p = both (all isWhite white && valueRule listEnders v) (moreRule more) r in
-        let q = both (all isWhite white) (valueRule listEnders v) (p .0) in
+    more-tell k close parent next at rest r e = none-left
+    more-tell k (comma white a v more) parent next at rest r e =
+        let p = element-parts (all isWhite white) (labelRule k a) (valueRule (enders k) v) (moreRule k more) r in
+        let behind = moreOnto k more rest in
         let start = at + 1 + length white in
-        let first = past-bytes s (at + 1) white (valueOnto v (moreOnto more rest)) (past-byte s at (byte ",") (white ++ valueOnto v (moreOnto more rest)) e) in
-        tells {x = value (valueSense v)} (refl, spells v listEnders start (moreOnto more rest) (q .1) first)
-        (tell-append (items-tell v listEnders next (next + 1) start (moreOnto more rest) (q .1) first)
-        (more-tell more parent (next + 1 + itemSize v) (start + valueWidth v) rest (p .1) (past-value v start (moreOnto more rest) first)))
+        let labelled = labelOnto a (valueOnto v behind) in
+        let first = past-bytes s (at + 1) white labelled (past-byte s at (byte ",") (white ++ labelled) e) in
+        let valued = past-label a start (valueOnto v behind) first in
+        tells {x = member (labelSense a) (valueSense v)} (item-tells k a v parent start behind (p .1) (p .2) first)
+        (tell-append (items-tell v (enders k) next (next + 1) (start + labelWidth a) behind (p .2) valued)
+        (more-tell k more parent (next + 1 + itemSize v) (start + labelWidth a + valueWidth v) rest (p .3) (past-value v (start + labelWidth a) behind valued)))
 
   -- the value of a trait stands behind its white space, its name and "="
   traits-tell : (ts : List Trait) (parent next at : ℕ) (rest : List ℕ) → all traitRule ts ≡ true → drop at s ≡ traitsOnto ts rest

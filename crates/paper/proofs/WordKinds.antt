@@ -11,7 +11,7 @@ use Rattle.paper.specs.Found.{pick}
 use Rattle.paper.specs.Bytes.{byte, bytes, isUpper, isLower, isDigit, isLetter, isHex, all, elem, same, startsIn, lengthIn, space, tab, lf, cr}
 use Rattle.paper.specs.Bytes.{is, upTo, onward, past, areDigits}
 use Rattle.paper.specs.Values.{isToken, hexGroups, isUuid, isCount, unsigned, isInteger, isDecimal, isExponent, isScientific}
-use Rattle.paper.specs.Values.{isFraction, isScheme, isIri, wordForm, listEnders}
+use Rattle.paper.specs.Values.{isFraction, isScheme, isIri, wordForm}
 use Rattle.paper.proofs.Tests.{split, true-false, either, or-left, or-right}
 use Rattle.paper.proofs.Lists.{both, is-not, all-nil, all-cons, all-head, all-weaken, front-behind, byMark, all-append, starts-weaken}
 use Rattle.paper.proofs.Lists.{starts-append, starts-apart, elem-apart, elem-more, elem-right, without, same-is}
@@ -390,13 +390,13 @@ any-order ks a w =
 
 -- ---- how a word begins
 
--- bytes that begin no value: those that stand behind an item of a list, and white space
+-- bytes that begin no value: those that stand behind an item, and white space
 abbrev pub beginsNone : List ℕ
-beginsNone = listEnders ++ (space ∷ tab ∷ lf ∷ cr ∷ [])
+beginsNone = bytes ",])" ++ (space ∷ tab ∷ lf ∷ cr ∷ [])
 
--- those, and the bracket of a list
+-- those, and the brackets that are one byte
 abbrev pub beginsNoLeaf : List ℕ
-beginsNoLeaf = bytes "[" ++ beginsNone
+beginsNoLeaf = bytes "[(" ++ beginsNone
 
 -- those, the quotes of the other values, and the brace of a time
 abbrev pub beginsNoWord : List ℕ

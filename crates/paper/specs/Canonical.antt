@@ -1,5 +1,5 @@
 -- The meaning of a tree, with no offset and no layout, and the canonical form, which is the printed meaning.
--- Document 01, "Canonical form"; 000 §10.5; document 02, Two.
+-- Document 01, "Canonical form"; 000 §10.5; document 02, Two and Five.
 use Prim.Native.Nat.{ℕ, suc, _+_, _-_, _/_, _%_}
 use mathlib.Core.Bool.{Bool, true, false, _||_}
 use mathlib.Core.List.{List, [], _∷_, _++_, map}
@@ -7,26 +7,37 @@ use lib.ListN.{length}
 use lib.Dec.{leb, ltb, eqb}
 use Rattle.paper.specs.Found.{pick}
 use Rattle.paper.specs.Bytes.{byte, isUpper, lf, cr, tab, space}
-use Rattle.paper.specs.Values.{piecesMean, collapse, endsInSlash, Leaf, string, character, backtick, word, temporal, Value, leaf, emptyList, list, More, close}
-use Rattle.paper.specs.Values.{comma}
+use Rattle.paper.specs.Values.{piecesMean, collapse, endsInSlash, Leaf, string, character, backtick, word, temporal, opener}
+use Rattle.paper.specs.Values.{closer, Key, bareKey, leafKey, Label, noLabel, label, Value, leaf, emptyBracket, bracket, More, close, comma}
 use Rattle.paper.specs.Times.{TimeKind}
+use Rattle.paper.specs.declared.brackets.Bracket.{Bracket}
 use Rattle.paper.specs.Tree.{Marker, Annotation, Line, blank, text, Concept, selfClosed, children, content, Body, done, blankLine, element, Sheet, Ending, block}
 use Rattle.paper.specs.Tree.{self}
 use Rattle.paper.specs.Grammar.{tabsOnto, endingOnto, closingOnto}
 
 -- ---- meanings
 
+-- the bytes of a string or of a character, the form and spelling of a word, the kind and inside of a time
+pub data LeafSense : Type 0 where
+  quoted letter : List ℕ → LeafSense
+  spelt : ℕ → List ℕ → LeafSense
+  timed : TimeKind → List ℕ → LeafSense
+
+-- what stands before an item: nothing, a bare name, or another key; a bare name is not the string of its letters
+pub data LabelSense : Type 0 where
+  unlabelled : LabelSense
+  bareName : List ℕ → LabelSense
+  keyName : LeafSense → LabelSense
+
 mutual
-  -- the bytes of a string or of a character, the form and spelling of a word, the kind and inside of a time, or the items of a list
+  -- a value without items, or the items of a bracket
   pub data ValueSense : Type 0 where
-    quoted letter : List ℕ → ValueSense
-    spelt : ℕ → List ℕ → ValueSense
-    timed : TimeKind → List ℕ → ValueSense
-    listed : ItemsSense → ValueSense
+    single : LeafSense → ValueSense
+    held : Bracket → ItemsSense → ValueSense
 
   pub data ItemsSense : Type 0 where
     none : ItemsSense
-    item : ValueSense → ItemsSense → ItemsSense
+    item : LabelSense → ValueSense → ItemsSense → ItemsSense
 
 pub record TraitSense : Type 0 where
   pub name : List ℕ
@@ -56,22 +67,30 @@ pub record SheetSense : Type 0 where
 unfoldable pub lower : ℕ → ℕ
 lower b = pick (isUpper b) (b + 32) b
 
-unfoldable pub leafSense : Leaf → ValueSense
+unfoldable pub leafSense : Leaf → LeafSense
 leafSense (string ps) = quoted (piecesMean ps)
 leafSense (character ps) = letter (piecesMean ps)
 leafSense (backtick ps) = quoted (collapse (piecesMean ps))
 leafSense (word form w) = spelt form (pick (eqb form 10) (map lower w) w)
 leafSense (temporal kind w) = timed kind w
 
+unfoldable pub keySense : Key → LabelSense
+keySense (bareKey w) = bareName w
+keySense (leafKey v) = keyName (leafSense v)
+
+unfoldable pub labelSense : Label → LabelSense
+labelSense noLabel = unlabelled
+labelSense (label key white) = keySense key
+
 unfoldable mutual
   pub valueSense : Value → ValueSense
-  valueSense (leaf v) = leafSense v
-  valueSense emptyList = listed none
-  valueSense (list v more) = listed (item (valueSense v) (moreSense more))
+  valueSense (leaf v) = single (leafSense v)
+  valueSense (emptyBracket k) = held k none
+  valueSense (bracket k a v more) = held k (item (labelSense a) (valueSense v) (moreSense more))
 
   pub moreSense : More → ItemsSense
   moreSense close = none
-  moreSense (comma white v more) = item (valueSense v) (moreSense more)
+  moreSense (comma white a v more) = item (labelSense a) (valueSense v) (moreSense more)
 
 abbrev pub markerSense : Marker → MarkerSense
 markerSense k = record { name = k .name; traits = map (λ t. record { name = t .name; value = valueSense (t .value) }) (k .traits) }
@@ -120,22 +139,31 @@ unfoldable pub bytesOnto : ℕ → List ℕ → List ℕ → List ℕ
 bytesOnto quote [] next = next
 bytesOnto quote (b ∷ l) next = byteOnto quote b (bytesOnto quote l next)
 
--- list items: comma and one space
+unfoldable pub printLeaf : LeafSense → List ℕ → List ℕ
+printLeaf (quoted l) next = byte "\"" ∷ bytesOnto (byte "\"") l (byte "\"" ∷ next)
+printLeaf (letter l) next = byte "'" ∷ bytesOnto (byte "'") l (byte "'" ∷ next)
+printLeaf (spelt form w) next = w ++ next
+printLeaf (timed kind w) next = byte "{" ∷ (w ++ (byte "}" ∷ next))
+
+-- a key as such a value is written, then colon and one space
+unfoldable pub printLabel : LabelSense → List ℕ → List ℕ
+printLabel unlabelled next = next
+printLabel (bareName w) next = w ++ (byte ":" ∷ space ∷ next)
+printLabel (keyName x) next = printLeaf x (byte ":" ∷ space ∷ next)
+
+-- items: comma and one space
 unfoldable mutual
   pub printValue : ValueSense → List ℕ → List ℕ
-  printValue (quoted l) next = byte "\"" ∷ bytesOnto (byte "\"") l (byte "\"" ∷ next)
-  printValue (letter l) next = byte "'" ∷ bytesOnto (byte "'") l (byte "'" ∷ next)
-  printValue (spelt form w) next = w ++ next
-  printValue (timed kind w) next = byte "{" ∷ (w ++ (byte "}" ∷ next))
-  printValue (listed items) next = byte "[" ∷ printItems items (byte "]" ∷ next)
+  printValue (single x) next = printLeaf x next
+  printValue (held k items) next = opener k ++ printItems items (closer k ∷ next)
 
   pub printItems : ItemsSense → List ℕ → List ℕ
   printItems none next = next
-  printItems (item v items) next = printValue v (printBehind items next)
+  printItems (item a v items) next = printLabel a (printValue v (printBehind items next))
 
   pub printBehind : ItemsSense → List ℕ → List ℕ
   printBehind none next = next
-  printBehind (item v items) next = byte "," ∷ space ∷ printValue v (printBehind items next)
+  printBehind (item a v items) next = byte "," ∷ space ∷ printLabel a (printValue v (printBehind items next))
 
 abbrev pub printTrait : TraitSense → List ℕ → List ℕ
 printTrait t next = t .name ++ (byte "=" ∷ printValue (t .value) next)
@@ -151,11 +179,11 @@ printBelow tabs (t ∷ ts) next = lf ∷ tabsOnto tabs (printTrait t (printBelow
 
 -- the last of the traits ends in "/"
 abbrev pub senseInSlash : ValueSense → Bool
-senseInSlash (quoted l) = false
-senseInSlash (letter l) = false
-senseInSlash (spelt form w) = endsInSlash w
-senseInSlash (timed kind w) = false
-senseInSlash (listed items) = false
+senseInSlash (single (quoted l)) = false
+senseInSlash (single (letter l)) = false
+senseInSlash (single (spelt form w)) = endsInSlash w
+senseInSlash (single (timed kind w)) = false
+senseInSlash (held k items) = false
 
 unfoldable pub lastInSlash : List TraitSense → Bool
 lastInSlash [] = false

@@ -1,9 +1,9 @@
 -- The entries of a tree: eight cells each, in the paper's order, with offsets from the bytes that it covers.
--- Document 01, "Entries".
+-- Document 01, "Entries"; document 02, Five.
 use Prim.Native.Nat.{ℕ, suc, _+_, _-_, _*_}
 use mathlib.Core.List.{List, [], _∷_, _++_}
 use lib.ListN.{length, replicate}
-use Rattle.paper.specs.Values.{Value, leaf, emptyList, list, More, close, comma, spelling, valueForm}
+use Rattle.paper.specs.Values.{opener, keyOnto, Label, noLabel, label, labelOnto, Value, leaf, emptyBracket, bracket, More, close, comma, spelling, valueForm}
 use Rattle.paper.specs.Tree.{Blank, Trait, Marker, Annotation, Concept, selfClosed, children, content, Body, done, blankLine, element, Sheet}
 use Rattle.paper.specs.Grammar.{blankOnto, blanksOnto, annotationOnto, annotationsOnto, traitOnto, markerOnto, linesOnto, conceptOnto}
 
@@ -36,50 +36,70 @@ abbrev pub unnamed : ℕ → ℕ → ℕ → ℕ → ℕ → ℕ → Entry
 unnamed kind form parent count start end =
     record { kind = kind; form = form; parent = parent; count = count; nameStart = start; nameEnd = start; start = start; end = end }
 
--- ---- list items
+-- ---- items
 
--- how many items a list has, and how many stand in it at any depth
+-- how many items a value has, and how many stand in it at any depth
 unfoldable mutual
   pub itemsOf : Value → ℕ
   itemsOf (leaf v) = 0
-  itemsOf emptyList = 0
-  itemsOf (list v more) = suc (moreItems more)
+  itemsOf (emptyBracket k) = 0
+  itemsOf (bracket k a v more) = suc (moreItems more)
 
   pub moreItems : More → ℕ
   moreItems close = 0
-  moreItems (comma white v more) = suc (moreItems more)
+  moreItems (comma white a v more) = suc (moreItems more)
 
 unfoldable mutual
   pub itemSize : Value → ℕ
   itemSize (leaf v) = 0
-  itemSize emptyList = 0
-  itemSize (list v more) = suc (itemSize v) + moreSize more
+  itemSize (emptyBracket k) = 0
+  itemSize (bracket k a v more) = suc (itemSize v) + moreSize more
 
   pub moreSize : More → ℕ
   moreSize close = 0
-  moreSize (comma white v more) = suc (itemSize v) + moreSize more
+  moreSize (comma white a v more) = suc (itemSize v) + moreSize more
 
 abbrev pub valueWidth : Value → ℕ
 valueWidth v = length (spelling v)
 
--- an item's own entry
-abbrev pub itemEntry : ℕ → ℕ → Value → Entry
-itemEntry parent at v = unnamed 3 (valueForm v) parent (itemsOf v) at (at + valueWidth v)
+-- how many bytes a key takes, and a key with its colon and white space; none where there is no label
+abbrev pub keyWidth : Label → ℕ
+keyWidth noLabel = 0
+keyWidth (label key white) = length (keyOnto key [])
+
+abbrev pub labelWidth : Label → ℕ
+labelWidth a = length (labelOnto a [])
+
+-- the entry of an item whose label starts at `at`: a map's item has its key as its name, any other has none
+abbrev pub itemEntry : ℕ → ℕ → Label → Value → Entry
+itemEntry parent at a v =
+    record {
+      kind = 3;
+      form = valueForm v;
+      parent = parent;
+      count = itemsOf v;
+      nameStart = at;
+      nameEnd = at + keyWidth a;
+      start = at + labelWidth a;
+      end = at + labelWidth a + valueWidth v;
+    }
 
 -- the items in a value that starts at `at`: those of entry `parent`, numbered from `next` on, depth first
 unfoldable mutual
   pub itemEntries : ℕ → ℕ → ℕ → Value → List Entry
   itemEntries parent next at (leaf v) = []
-  itemEntries parent next at emptyList = []
-  itemEntries parent next at (list v more) =
-      itemEntry parent (at + 1) v ∷ (itemEntries next (next + 1) (at + 1) v ++ moreEntries parent (next + 1 + itemSize v) (at + 1 + valueWidth v) more)
+  itemEntries parent next at (emptyBracket k) = []
+  itemEntries parent next at (bracket k a v more) =
+      itemEntry parent (at + length (opener k)) a v
+      ∷ (itemEntries next (next + 1) (at + length (opener k) + labelWidth a) v
+      ++ moreEntries parent (next + 1 + itemSize v) (at + length (opener k) + labelWidth a + valueWidth v) more)
 
   pub moreEntries : ℕ → ℕ → ℕ → More → List Entry
   moreEntries parent next at close = []
-  moreEntries parent next at (comma white v more) =
-      itemEntry parent (at + 1 + length white) v
-      ∷ (itemEntries next (next + 1) (at + 1 + length white) v
-      ++ moreEntries parent (next + 1 + itemSize v) (at + 1 + length white + valueWidth v) more)
+  moreEntries parent next at (comma white a v more) =
+      itemEntry parent (at + 1 + length white) a v
+      ∷ (itemEntries next (next + 1) (at + 1 + length white + labelWidth a) v
+      ++ moreEntries parent (next + 1 + itemSize v) (at + 1 + length white + labelWidth a + valueWidth v) more)
 
 -- ---- traits and annotations
 

@@ -7,7 +7,7 @@ use lib.ListN.{length}
 use lib.Dec.{leb}
 use Rattle.paper.specs.Bytes.{all}
 use Rattle.paper.specs.Names.{nameLimit}
-use Rattle.paper.specs.Values.{listDepth}
+use Rattle.paper.specs.Values.{bracketDepth}
 use Rattle.paper.specs.Tree.{Trait, Marker, Concept, selfClosed, children, content, Body, done, blankLine, element, Sheet}
 
 abbrev pub sheetLimit : ℕ
@@ -19,26 +19,26 @@ entryLimit = 1024
 abbrev pub conceptLimit : ℕ
 conceptLimit = 32
 
-abbrev pub listLimit : ℕ
-listLimit = 8
+abbrev pub bracketLimit : ℕ
+bracketLimit = 8
 
--- a trait's name is short, and no more lists stand in one another than are allowed
+-- a trait's name is short, and no more brackets stand in one another than are allowed
 unfoldable pub traitFits : ℕ → ℕ → Trait → Bool
-traitFits names lists t = leb (length (t .name)) names && leb (listDepth (t .value)) lists
+traitFits names brackets t = leb (length (t .name)) names && leb (bracketDepth (t .value)) brackets
 
 unfoldable pub markerFits : ℕ → ℕ → Marker → Bool
-markerFits names lists k = leb (length (k .name)) names && all (traitFits names lists) (k .traits)
+markerFits names brackets k = leb (length (k .name)) names && all (traitFits names brackets) (k .traits)
 
 unfoldable mutual
   pub conceptFits : ℕ → ℕ → Concept → Bool
-  conceptFits names lists (selfClosed k) = markerFits names lists k
-  conceptFits names lists (children k rest body back) = markerFits names lists k && bodyFits names lists body
-  conceptFits names lists (content k rest lines) = markerFits names lists k
+  conceptFits names brackets (selfClosed k) = markerFits names brackets k
+  conceptFits names brackets (children k rest body back) = markerFits names brackets k && bodyFits names brackets body
+  conceptFits names brackets (content k rest lines) = markerFits names brackets k
 
   pub bodyFits : ℕ → ℕ → Body → Bool
-  bodyFits names lists done = true
-  bodyFits names lists (blankLine b body) = bodyFits names lists body
-  bodyFits names lists (element notes tabs c rest body) = conceptFits names lists c && bodyFits names lists body
+  bodyFits names brackets done = true
+  bodyFits names brackets (blankLine b body) = bodyFits names brackets body
+  bodyFits names brackets (element notes tabs c rest body) = conceptFits names brackets c && bodyFits names brackets body
 
 -- how many Concepts stand in one another
 unfoldable mutual
@@ -53,4 +53,4 @@ unfoldable mutual
   bodyDepth (element notes tabs c rest body) = max (conceptDepth c) (bodyDepth body)
 
 unfoldable pub withinLimits : List ℕ → Sheet → Bool
-withinLimits s t = leb (length s) sheetLimit && conceptFits nameLimit listLimit (t .root) && leb (conceptDepth (t .root)) conceptLimit
+withinLimits s t = leb (length s) sheetLimit && conceptFits nameLimit bracketLimit (t .root) && leb (conceptDepth (t .root)) conceptLimit

@@ -15,18 +15,18 @@ use Rattle.paper.specs.Modes.{Modes, modeTable}
 use Rattle.paper.specs.Tree.{LF, CRLF, Blank, Trait, Marker, Annotation, Line, blank, text, Concept, selfClosed, children, content, Body, done, Annotated}
 use Rattle.paper.specs.Tree.{BodyPiece, blankPiece, elementPiece, before, Sheet, Ending, block, self}
 use Rattle.paper.specs.Grammar.{tabsOnto, closingOnto, inMode}
-use Rattle.paper.specs.Limits.{sheetLimit, entryLimit, conceptLimit, listLimit}
+use Rattle.paper.specs.Limits.{sheetLimit, entryLimit, conceptLimit, bracketLimit}
 use Rattle.paper.specs.Entries.{entryCells, itemEntries, traitSize, traitsSize, bodySize, entries, filled}
 use Rattle.paper.specs.ReadingValues.{valueOf}
 
--- how long names and how deep lists may be
+-- how long names and how deep brackets may be
 pub record Bounds : Type 0 where
   pub names : ℕ
-  pub lists : ℕ
+  pub brackets : ℕ
 
 -- the paper's own limits
 abbrev pub bounds : Bounds
-bounds = record { names = nameLimit; lists = listLimit }
+bounds = record { names = nameLimit; brackets = bracketLimit }
 
 -- ---- lines
 
@@ -120,17 +120,17 @@ annotations room s = manyOf (λ a. 1) annotationTurn room s
 
 -- ---- markers
 
--- the entries of a trait: its own at its name, its items' each at its value
+-- the entries of a trait: its own at its name, its items' each at its key, or at its value where it has none
 unfoldable pub enters : ℕ → List ℕ → List ℕ → Trait → List ℕ → Found Trait
 enters room named valued t left =
     elim (leb (traitSize t) room) [
       | true ↦ found t left
-      | false ↦ elim room [ zero ↦ fault 11 named | suc items ↦ fault 11 (drop (getD (map (λ e. e .start) (itemEntries 0 0 0 (t .value))) items 0) valued) ]
+      | false ↦ elim room [ zero ↦ fault 11 named | suc items ↦ fault 11 (drop (getD (map (λ e. e .nameStart) (itemEntries 0 0 0 (t .value))) items 0) valued) ]
     ]
 
 unfoldable pub trait : Bounds → ℕ → List ℕ → List ℕ → Found Trait
 trait by room white s =
-    andThen (name (isName isLower (by .names)) s) (λ w left. andThen (due (byte "=") left) (λ b valued. andThen (valueOf (by .lists) [] valued) (λ v left.
+    andThen (name (isName isLower (by .names)) s) (λ w left. andThen (due (byte "=") left) (λ b valued. andThen (valueOf (by .brackets) [] valued) (λ v left.
     enters room s valued (record { white = white; name = w; value = v }) left)))
 
 -- behind the name or a value: another trait after white space, or the end of the marker

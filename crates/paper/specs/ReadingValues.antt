@@ -1,16 +1,18 @@
 -- Reading a value from the front of a list: its tree and what is left, or the fault met first.
--- Document 01, "The grammar", Values, and refusals 9 and 10 of "Refusal numbers" and "Order"; document 02, Two, and Four: the place of a 6.
-use Prim.Native.Nat.{ℕ, zero, suc}
-use mathlib.Core.Bool.{true, false}
+-- Document 01, "The grammar", Values, and refusals 9 and 10 of "Refusal numbers" and "Order"; document 02, Two, Four: the place of a 6, and Five.
+use Prim.Native.Nat.{ℕ, zero, suc, _-_}
+use mathlib.Core.Bool.{true, false, _&&_}
 use mathlib.Core.List.{List, [], _∷_, map}
 use mathlib.Core.Option.{none, some}
 use lib.ListN.{length, take, drop}
 use lib.Dec.{leb, eqb}
 use Rattle.paper.specs.Found.{Found, found, fault, andThen, Turn, more, over, stop, turnOf, manyOf, pick}
-use Rattle.paper.specs.Bytes.{byte, bytes, isHex, isWhite, isLineEnd, lengthIn, front, behind, startsWith, is, upTo, onward, scalar, encode}
+use Rattle.paper.specs.Bytes.{byte, bytes, isHex, isWhite, isLineEnd, elem, lengthIn, front, behind, startsWith, is, upTo, onward, scalar, encode}
 use Rattle.paper.specs.Times.{timeKind}
-use Rattle.paper.specs.Values.{Piece, direct, escaped, four, braces, pieceRule, wordForm, endsWord, listEnders, Leaf, string, character, backtick, word, temporal, Value}
-use Rattle.paper.specs.Values.{leaf, emptyList, list, More, close, comma}
+use Rattle.paper.specs.declared.brackets.Bracket.{Bracket}
+use Rattle.paper.specs.Values.{Piece, direct, escaped, four, braces, pieceRule, wordForm, endsWord, Leaf, string, character, backtick, word, temporal}
+use Rattle.paper.specs.Values.{opener, closer, mayBeEmpty, keyed, enders, keyEnders, Key, bareKey, leafKey, isBare, isKeyForm, Label, noLabel, label}
+use Rattle.paper.specs.Values.{Value, leaf, emptyBracket, bracket, More, close, comma}
 
 -- ---- strings, characters and backticks
 
@@ -125,7 +127,7 @@ firstOf b =
     (pick (eqb b (byte "`")) tick
     (pick (eqb b (byte "{")) brace other)))
 
--- a value that is no list
+-- a value that holds no items
 unfoldable pub leafOf : List ℕ → List ℕ → Found Leaf
 leafOf also [] = fault 9 []
 leafOf also (b ∷ l) =
@@ -137,42 +139,96 @@ leafOf also (b ∷ l) =
       | other ↦ wordLeaf also (b ∷ l)
     ]
 
--- a value where so many lists are still allowed; a fault of an item is that of its list, place and all. The fuel is above the length
+-- ---- brackets
+
+-- the bracket that a value begins with
+pub data Opening : Type 0 where
+  noBracket : Opening
+  opens : Bracket → Opening
+
+unfoldable pub opensWith : List ℕ → Opening
+opensWith s =
+    pick (startsWith (opener Bracket.List) s) (opens Bracket.List)
+    (pick (startsWith (opener Bracket.Set) s) (opens Bracket.Set)
+    (pick (startsWith (opener Bracket.Map) s) (opens Bracket.Map)
+    (pick (startsWith (opener Bracket.Tuple) s) (opens Bracket.Tuple) noBracket)))
+
+-- what stands behind it
+abbrev pub inside : Bracket → List ℕ → List ℕ
+inside k s = drop (length (opener k)) s
+
+-- a key that is a word, which the end of input cuts, or which is judged by what it may be
+unfoldable pub keyWord : List ℕ → List ℕ → List ℕ → Found Key
+keyWord s w [] = fault 9 []
+keyWord s w (b ∷ l) =
+    elim (isBare w) [
+      | true ↦ found (bareKey w) (b ∷ l)
+      | false ↦ elim (isKeyForm (wordForm w)) [ true ↦ found (leafKey (word (wordForm w) w)) (b ∷ l) | false ↦ fault 6 s ]
+    ]
+
+-- a 6 is told at the start
+abbrev pub atStart : {A : Type 0} → List ℕ → Found A → Found A
+atStart s (found a left) = found a left
+atStart s (fault n left) = fault n (pick (eqb n 6) s left)
+
+-- a key: a string or a character by its quote, else a word up to these bytes. A bad one is at its start, whatever its fault
+unfoldable pub keyOf : List ℕ → List ℕ → Found Key
+keyOf also [] = fault 9 []
+keyOf also (b ∷ l) =
+    elim (elem b (bytes "\"'")) [
+      | true ↦ atStart (b ∷ l) (andThen (leafOf also (b ∷ l)) (λ v left. found (leafKey v) left))
+      | false ↦ keyWord (b ∷ l) (take (wordLength also (b ∷ l)) (b ∷ l)) (drop (wordLength also (b ∷ l)) (b ∷ l))
+    ]
+
+-- the colon behind a key, and white space
+unfoldable pub colon : Key → List ℕ → Found Label
+colon key [] = fault 9 []
+colon key (b ∷ l) = elim (eqb b (byte ":")) [ true ↦ found (label key (front isWhite l)) (behind isWhite l) | false ↦ fault 6 (b ∷ l) ]
+
+-- what stands before an item
+unfoldable pub labelOf : Bracket → List ℕ → Found Label
+labelOf k s = elim (keyed k) [ false ↦ found noLabel s | true ↦ andThen (keyOf (keyEnders k) s) colon ]
+
+-- a value where so many brackets are still allowed; a fault of an item is that of its bracket, place and all. The fuel is above the length.
+-- A tuple is read as if it held an item, so that an empty one is at fault where its first item is due
 unfoldable mutual
   pub value : ℕ → ℕ → List ℕ → List ℕ → Found Value
-  value zero lists also s = fault 9 s
-  value (suc fuel) lists also s =
-      elim (startsWith (bytes "[") s) [
-        | false ↦ andThen (leafOf also s) (λ v left. found (leaf v) left)
-        | true ↦ elim lists [
-          | zero ↦ fault 10 s
-          | suc fewer ↦ elim (startsWith (bytes "[]") s) [
-            | true ↦ found emptyList (drop 2 s)
-            | false ↦ andThen (value fuel fewer listEnders (drop 1 s)) (λ v left. andThen (items fuel fewer left) (λ more end. found (list v more) end))
+  value zero brackets also s = fault 9 s
+  value (suc fuel) brackets also s =
+      elim (opensWith s) [
+        | noBracket ↦ andThen (leafOf also s) (λ v left. found (leaf v) left)
+        | opens k ↦ elim brackets [
+          | zero ↦ fault 10 (drop (length (opener k) - 1) s)
+          | suc fewer ↦ elim (mayBeEmpty k && startsWith (closer k ∷ []) (inside k s)) [
+            | true ↦ found (emptyBracket k) (drop 1 (inside k s))
+            | false ↦ andThen (labelOf k (inside k s)) (λ a valued. andThen (value fuel fewer (enders k) valued) (λ v left.
+                andThen (items fuel k fewer left) (λ more end. found (bracket k a v more) end)))
           ]
         ]
       ]
 
   -- behind an item
-  pub items : ℕ → ℕ → List ℕ → Found More
-  items zero lists s = fault 9 s
-  items (suc fuel) lists [] = fault 9 []
-  items (suc fuel) lists (b ∷ l) =
-      elim (eqb b (byte "]")) [
+  pub items : ℕ → Bracket → ℕ → List ℕ → Found More
+  items zero k brackets s = fault 9 s
+  items (suc fuel) k brackets [] = fault 9 []
+  items (suc fuel) k brackets (b ∷ l) =
+      elim (eqb b (closer k)) [
         | true ↦ found close l
         | false ↦ elim (eqb b (byte ",")) [
-          | true ↦ andThen (value fuel lists listEnders (behind isWhite l)) (λ v left.
-              andThen (items fuel lists left) (λ more end. found (comma (front isWhite l) v more) end))
+          | true ↦ andThen (labelOf k (behind isWhite l)) (λ a valued. andThen (value fuel brackets (enders k) valued) (λ v left.
+              andThen (items fuel k brackets left) (λ more end. found (comma (front isWhite l) a v more) end)))
           | false ↦ fault 6 (b ∷ l)
         ]
       ]
 
--- the same with fuel that is enough; an item and what stands behind it, made into something
+-- the same with fuel that is enough; an item with its label and what stands behind it, made into something
 abbrev pub valueOf : ℕ → List ℕ → List ℕ → Found Value
-valueOf lists also s = value (suc (length s)) lists also s
+valueOf brackets also s = value (suc (length s)) brackets also s
 
-abbrev pub moreOf : ℕ → List ℕ → Found More
-moreOf lists s = items (suc (length s)) lists s
+abbrev pub moreOf : Bracket → ℕ → List ℕ → Found More
+moreOf k brackets s = items (suc (length s)) k brackets s
 
-abbrev pub itemAnd : {A : Type 0} → ℕ → (Value → More → A) → List ℕ → Found A
-itemAnd lists make s = andThen (valueOf lists listEnders s) (λ v left. andThen (moreOf lists left) (λ more end. found (make v more) end))
+abbrev pub itemAnd : {A : Type 0} → Bracket → ℕ → (Label → Value → More → A) → List ℕ → Found A
+itemAnd k brackets make s =
+    andThen (labelOf k s) (λ a valued. andThen (valueOf brackets (enders k) valued) (λ v left.
+    andThen (moreOf k brackets left) (λ more end. found (make a v more) end)))

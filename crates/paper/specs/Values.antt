@@ -1,5 +1,5 @@
 -- Values: their trees, their spelling, the rules that a spelling keeps, and what it means.
--- Document 01, "The grammar", Values; 001 §8 to §16, §18 and §19; document 02, One and Two.
+-- Document 01, "The grammar", Values; 001 §8 to §16 and §18 to §22; document 02, One, Two and Five.
 use Prim.Native.Nat.{ℕ, zero, suc, _+_, _-_, _*_, max}
 use mathlib.Core.Bool.{Bool, true, false, not, _&&_, _||_}
 use mathlib.Core.List.{List, [], _∷_, _++_}
@@ -9,6 +9,7 @@ use Rattle.paper.specs.Found.{found, fault, pick}
 use Rattle.paper.specs.Bytes.{byte, bytes, within, isUpper, isLower, isDigit, isLetter, isNameByte, isHex, isWhite, isLineEnd, all, elem, same, startsIn}
 use Rattle.paper.specs.Bytes.{is, upTo, onward, past, areDigits, scalar, isScalar, encode, lf, cr, tab, space}
 use Rattle.paper.specs.Times.{TimeKind, isOf}
+use Rattle.paper.specs.declared.brackets.Bracket.{Bracket}
 
 -- ---- strings, characters and backticks
 
@@ -190,9 +191,46 @@ unfoldable pub endsWord : List ℕ → List ℕ → Bool
 endsWord also [] = true
 endsWord also (b ∷ l) = isEnder also b || (eqb b (byte "/") && startsIn (is (byte ">")) l)
 
--- the bytes that end a word in a list
-abbrev pub listEnders : List ℕ
-listEnders = bytes ",]"
+-- ---- brackets
+
+-- of the kinds of values that hold items, 001 §19 to §22: what opens one, and what closes it
+abbrev pub opener : Bracket → List ℕ
+opener Bracket.List = bytes "["
+opener Bracket.Set = bytes "set["
+opener Bracket.Map = bytes "map["
+opener Bracket.Tuple = bytes "("
+
+abbrev pub closer : Bracket → ℕ
+closer Bracket.List = byte "]"
+closer Bracket.Set = byte "]"
+closer Bracket.Map = byte "]"
+closer Bracket.Tuple = byte ")"
+
+-- its form of "Entries", whether it may be empty, and whether its items have keys
+abbrev pub bracketForm : Bracket → ℕ
+bracketForm Bracket.List = 12
+bracketForm Bracket.Set = 14
+bracketForm Bracket.Map = 15
+bracketForm Bracket.Tuple = 16
+
+abbrev pub mayBeEmpty : Bracket → Bool
+mayBeEmpty Bracket.List = true
+mayBeEmpty Bracket.Set = true
+mayBeEmpty Bracket.Map = true
+mayBeEmpty Bracket.Tuple = false
+
+abbrev pub keyed : Bracket → Bool
+keyed Bracket.List = false
+keyed Bracket.Set = false
+keyed Bracket.Map = true
+keyed Bracket.Tuple = false
+
+-- the bytes that end a word directly in it, and those that end a word that is a key
+abbrev pub enders : Bracket → List ℕ
+enders k = byte "," ∷ closer k ∷ []
+
+abbrev pub keyEnders : Bracket → List ℕ
+keyEnders k = byte ":" ∷ enders k
 
 -- ---- all values
 
@@ -201,16 +239,27 @@ pub data Leaf : Type 0 where
   word : ℕ → List ℕ → Leaf
   temporal : TimeKind → List ℕ → Leaf
 
+-- a map's key: a bare name, or a value of a kind that a key may be
+pub data Key : Type 0 where
+  bareKey : List ℕ → Key
+  leafKey : Leaf → Key
+
+-- what stands before an item: nothing, or a key, a colon and white space
+pub data Label : Type 0 where
+  noLabel : Label
+  label : Key → List ℕ → Label
+
 mutual
+  -- the opening bracket, and the first item with its label
   pub data Value : Type 0 where
     leaf : Leaf → Value
-    emptyList : Value
-    list : Value → More → Value
+    emptyBracket : Bracket → Value
+    bracket : Bracket → Label → Value → More → Value
 
   -- behind an item: the closing bracket, or a comma, white space and the next
   pub data More : Type 0 where
     close : More
-    comma : List ℕ → Value → More → More
+    comma : List ℕ → Label → Value → More → More
 
 -- the spelling, in front of what follows
 unfoldable pub leafOnto : Leaf → List ℕ → List ℕ
@@ -220,15 +269,23 @@ leafOnto (backtick ps) next = byte "`" ∷ piecesOnto ps (byte "`" ∷ next)
 leafOnto (word form w) next = w ++ next
 leafOnto (temporal kind w) next = byte "{" ∷ (w ++ (byte "}" ∷ next))
 
+unfoldable pub keyOnto : Key → List ℕ → List ℕ
+keyOnto (bareKey w) next = w ++ next
+keyOnto (leafKey v) next = leafOnto v next
+
+unfoldable pub labelOnto : Label → List ℕ → List ℕ
+labelOnto noLabel next = next
+labelOnto (label key white) next = keyOnto key (byte ":" ∷ (white ++ next))
+
 unfoldable mutual
   pub valueOnto : Value → List ℕ → List ℕ
   valueOnto (leaf v) next = leafOnto v next
-  valueOnto emptyList next = byte "[" ∷ byte "]" ∷ next
-  valueOnto (list v more) next = byte "[" ∷ valueOnto v (moreOnto more next)
+  valueOnto (emptyBracket k) next = opener k ++ (closer k ∷ next)
+  valueOnto (bracket k a v more) next = opener k ++ labelOnto a (valueOnto v (moreOnto k more next))
 
-  pub moreOnto : More → List ℕ → List ℕ
-  moreOnto close next = byte "]" ∷ next
-  moreOnto (comma white v more) next = byte "," ∷ (white ++ valueOnto v (moreOnto more next))
+  pub moreOnto : Bracket → More → List ℕ → List ℕ
+  moreOnto k close next = closer k ∷ next
+  moreOnto k (comma white a v more) next = byte "," ∷ (white ++ labelOnto a (valueOnto v (moreOnto k more next)))
 
 abbrev pub spelling : Value → List ℕ
 spelling v = valueOnto v []
@@ -241,15 +298,38 @@ leafRule also (backtick ps) = backtickRule false ps
 leafRule also (word form w) = eqb (wordForm w) form && leb 1 form && all (λ b. not (isEnder also b)) w
 leafRule also (temporal kind w) = isOf kind w
 
+-- 001 §21's keys: a bare name, which may be "true", of any length; a string or a character; of the words an integer or a "$" token
+unfoldable pub isBare : List ℕ → Bool
+isBare w = startsIn isLower w && all isNameByte w
+
+unfoldable pub isKeyForm : ℕ → Bool
+isKeyForm form = eqb form 4 || eqb form 8
+
+abbrev pub isKeyLeaf : Leaf → Bool
+isKeyLeaf (string ps) = true
+isKeyLeaf (character ps) = true
+isKeyLeaf (backtick ps) = false
+isKeyLeaf (word form w) = isKeyForm form
+isKeyLeaf (temporal kind w) = false
+
+unfoldable pub keyRule : List ℕ → Key → Bool
+keyRule also (bareKey w) = isBare w
+keyRule also (leafKey v) = isKeyLeaf v && leafRule also v
+
+-- every item of a map has a key, and no other item has one
+unfoldable pub labelRule : Bracket → Label → Bool
+labelRule k noLabel = not (keyed k)
+labelRule k (label key white) = keyed k && keyRule (keyEnders k) key && all isWhite white
+
 unfoldable mutual
   pub valueRule : List ℕ → Value → Bool
   valueRule also (leaf v) = leafRule also v
-  valueRule also emptyList = true
-  valueRule also (list v more) = valueRule listEnders v && moreRule more
+  valueRule also (emptyBracket k) = mayBeEmpty k
+  valueRule also (bracket k a v more) = labelRule k a && valueRule (enders k) v && moreRule k more
 
-  pub moreRule : More → Bool
-  moreRule close = true
-  moreRule (comma white v more) = all isWhite white && valueRule listEnders v && moreRule more
+  pub moreRule : Bracket → More → Bool
+  moreRule k close = true
+  moreRule k (comma white a v more) = all isWhite white && labelRule k a && valueRule (enders k) v && moreRule k more
 
 -- the forms of "Entries"
 abbrev pub leafForm : Leaf → ℕ
@@ -261,8 +341,8 @@ leafForm (temporal kind w) = 13
 
 abbrev pub valueForm : Value → ℕ
 valueForm (leaf v) = leafForm v
-valueForm emptyList = 12
-valueForm (list v more) = 12
+valueForm (emptyBracket k) = bracketForm k
+valueForm (bracket k a v more) = bracketForm k
 
 -- the last byte of a list is "/"
 unfoldable pub endsInSlash : List ℕ → Bool
@@ -280,16 +360,16 @@ leafInSlash (temporal kind w) = false
 
 abbrev pub valueInSlash : Value → Bool
 valueInSlash (leaf v) = leafInSlash v
-valueInSlash emptyList = false
-valueInSlash (list v more) = false
+valueInSlash (emptyBracket k) = false
+valueInSlash (bracket k a v more) = false
 
--- how many lists stand in one another
+-- how many brackets stand in one another, whichever their kinds
 unfoldable mutual
-  pub listDepth : Value → ℕ
-  listDepth (leaf v) = 0
-  listDepth emptyList = 1
-  listDepth (list v more) = suc (max (listDepth v) (moreDepth more))
+  pub bracketDepth : Value → ℕ
+  bracketDepth (leaf v) = 0
+  bracketDepth (emptyBracket k) = 1
+  bracketDepth (bracket k a v more) = suc (max (bracketDepth v) (moreDepth more))
 
   pub moreDepth : More → ℕ
   moreDepth close = 0
-  moreDepth (comma white v more) = max (listDepth v) (moreDepth more)
+  moreDepth (comma white a v more) = max (bracketDepth v) (moreDepth more)

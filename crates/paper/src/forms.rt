@@ -1,5 +1,5 @@
-// The forms of entries, by their numbers: those of Concepts, and those of the values of traits and list items.
-// Document 01, "Entries".
+// The forms of entries, by their numbers: those of Concepts, and those of the values of traits and items.
+// Document 01, "Entries"; document 02, Two and Five.
 ghost use mathlib.Core.Path.{_≡_};
 ghost use Rattle.paper.specs.Found.{pick};
 
@@ -39,6 +39,12 @@ pub const IRI: u32 = 11;
 pub const LIST: u32 = 12;
 
 pub const TIME: u32 = 13;
+
+pub const SET: u32 = 14;
+
+pub const MAP: u32 = 15;
+
+pub const TUPLE: u32 = 16;
 
 // The form where its test holds, else none.
 pub fn only_if(holds: bool, form: u32) -> u32

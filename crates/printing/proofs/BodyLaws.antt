@@ -10,7 +10,7 @@ use Rattle.paper.specs.Bytes.{all, lf, tab}
 use Rattle.paper.specs.Names.{nameLimit}
 use Rattle.paper.specs.Tree.{Annotation, Concept, Body, done, blankLine, element}
 use Rattle.paper.specs.Grammar.{blankOnto, annotationsOnto, tabsOnto, conceptOnto, bodyOnto, blankRule, annotationRule, conceptRule, bodyRule}
-use Rattle.paper.specs.Limits.{listLimit, conceptFits, bodyFits, bodyDepth}
+use Rattle.paper.specs.Limits.{bracketLimit, conceptFits, bodyFits, bodyDepth}
 use Rattle.paper.specs.Entries.{Entry, annotationEntries, conceptSize, bodySize, bodyCount, conceptWidth, conceptEntry, insideEntries, bodyEntries}
 use Rattle.paper.specs.Canonical.{ConceptSense, BodySense, empty, with, annotationSense, conceptSense, bodySense, printNotes, printConcept, printBody}
 use Rattle.paper.specs.Canonical.{printMore}
@@ -119,7 +119,7 @@ first s cells left n parent at (element notes tabs c rest body) of keeps none h 
     let stands : Stand cells own concepts = rw size at (stand-back cells n noted concepts (of .stand)) in
     let more : own + length (conceptEntry parent start tabs c ∷ inside) ≡ own + conceptSize c = ap (λ (k : ℕ). own + k) (inside-size c own start tabs) in
     let r = element-parts (all annotationRule notes) (conceptRule c) (blankRule rest) (bodyRule body) (keeps .rule) in
-    let w = both (conceptFits nameLimit listLimit c) (bodyFits nameLimit listLimit body) (keeps .within) in
+    let w = both (conceptFits nameLimit bracketLimit c) (bodyFits nameLimit bracketLimit body) (keeps .within) in
     let of-behind : OfBody s cells (own + conceptSize c) parent end body =
     record {
       after = of .after;

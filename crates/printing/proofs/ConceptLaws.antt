@@ -6,20 +6,18 @@ use mathlib.Core.List.{List, [], _∷_, _++_, map}
 use native.Mathlib.Omega.{arith}
 use lib.ListN.{length, take, drop}
 use lib.Dec.{eqb}
-use borrow.Author.Tests.{eq-eqb, ne-eqb}
+use borrow.Author.Tests.{eqb-true, eq-eqb, ne-eqb}
 use Rattle.paper.specs.Found.{pick}
 use Rattle.paper.specs.Bytes.{byte, bytes, all, lf}
 use Rattle.paper.specs.Names.{nameLimit}
-use Rattle.paper.specs.Values.{Value, leaf, emptyList, list, More, close, comma}
 use Rattle.paper.specs.Tree.{Blank, Trait, Marker, Line, Concept, selfClosed, children, content, Body, block, self}
 use Rattle.paper.specs.Grammar.{blankOnto, tabsOnto, markerOnto, traitOnto, endingOnto, closingOnto, linesOnto, conceptOnto, bodyOnto, blankRule}
 use Rattle.paper.specs.Grammar.{markerRule, opensBlock, lineRule, conceptRule, bodyRule}
-use Rattle.paper.specs.Limits.{listLimit, markerFits, conceptFits, bodyFits, conceptDepth}
-use Rattle.paper.specs.Entries.{Entry, valueWidth, itemSize, itemEntries, moreEntries, traitSize, traitValue, traitEntries, traitsSize}
-use Rattle.paper.specs.Entries.{conceptSize, bodySize, bodyCount, markerOf, conceptForm, markerName, bodyStart, conceptEntry, insideEntries}
-use Rattle.paper.specs.Entries.{bodyEntries}
+use Rattle.paper.specs.Limits.{bracketLimit, markerFits, conceptFits, bodyFits, conceptDepth}
+use Rattle.paper.specs.Entries.{Entry, itemEntries, traitSize, traitValue, traitEntries, traitsSize, conceptSize, bodySize, bodyCount, markerOf, conceptForm}
+use Rattle.paper.specs.Entries.{markerName, bodyStart, conceptEntry, insideEntries, bodyEntries}
 use Rattle.paper.specs.Canonical.{markerSense, lineSense, conceptSense, bodySense, printMarker, printLines, printConcept, printBody}
-use Rattle.paper.proofs.Lists.{both}
+use Rattle.paper.proofs.Lists.{both, all-head}
 use Rattle.paper.proofs.Sizes.{traits-size}
 use Rattle.paper.proofs.Concepts.{element-parts}
 use Rattle.paper.proofs.Fronts.{marker-front, blank-front, past-front, past-bytes}
@@ -28,7 +26,8 @@ use Rattle.quoting.specs.Page.{page, Puts}
 use Rattle.printing.specs.Standing.{Stand, Ends, OfConcept, OfBody}
 use Rattle.printing.specs.Walking.{OfContent, Keeps, traitsIn, Elements, ContentPut, ConceptPut, BodyPut}
 use Rattle.printing.specs.Wholes.{MarkerPut}
-use Rattle.printing.proofs.Standing.{stand-entry, stand-front, stand-back}
+use Rattle.printing.proofs.Standing.{stand-entry, stand-front, stand-back, ofKind}
+use Rattle.printing.proofs.Three.{item-kinds}
 use Rattle.quoting.proofs.Parts.{part-is}
 use Rattle.printing.proofs.BodyLaws.{own-entry}
 
@@ -54,34 +53,10 @@ traits-append (e ∷ a) b = go (eqb (e .kind) 2) (traits-append a b)
     go false h = h
 
 -- no item is a trait
-mutual
-  unfolding traitsIn itemEntries
-
-  items-none : (v : Value) (parent next at : ℕ) → traitsIn (itemEntries parent next at v) ≡ 0
-  items-none (leaf v) parent next at = refl
-  items-none emptyList parent next at = refl
-  items-none (list v more) parent next at =
-      let end = at + 1 + valueWidth v in
-      omega (
-        arith,
-        traits-append (itemEntries next (next + 1) (at + 1) v) (moreEntries parent (next + 1 + itemSize v) end more),
-        items-none v next (next + 1)
-            (at + 1),
-        more-none more parent (next + 1 + itemSize v) end,
-      )
-
-  more-none : (more : More) (parent next at : ℕ) → traitsIn (moreEntries parent next at more) ≡ 0
-  more-none close parent next at = refl
-  more-none (comma white v more) parent next at =
-      let start = at + 1 + length white in
-      let end = start + valueWidth v in
-      omega (
-        arith,
-        traits-append (itemEntries next (next + 1) start v) (moreEntries parent (next + 1 + itemSize v) end more),
-        items-none v next (next + 1)
-            start,
-        more-none more parent (next + 1 + itemSize v) end,
-      )
+no-traits : (es : List Entry) → all (ofKind 3) es ≡ true → traitsIn es ≡ 0
+unfolding traitsIn
+no-traits [] a = refl
+no-traits (e ∷ es) a = let h = all-head (ofKind 3) e es a in rw (eqb-true (e .kind) 3 (h .0)) (no-traits es (h .1))
 
 traits-count : (ts : List Trait) (parent next at : ℕ) → traitsIn (traitEntries parent next at ts) ≡ length ts
 unfolding traitsIn traitEntries
@@ -92,7 +67,7 @@ traits-count (t ∷ ts) parent next at =
     omega (
       arith,
       traits-append items (traitEntries parent (next + traitSize t) end ts),
-      items-none (t .value) next (next + 1) (traitValue at t),
+      no-traits items (item-kinds (t .value) next (next + 1) (traitValue at t)),
       traits-count
           ts parent (next + traitSize t) end,
     )
@@ -288,7 +263,7 @@ module _ (s cells : List ℕ) (n depth left : ℕ) {out mid marked : List ℕ} {
       unfolding conceptSize conceptSense printConcept conceptRule conceptFits conceptDepth
       children-one parent place tabs k rest body back of keeps =
           let r = element-parts (markerRule k) (opensBlock k) (blankRule rest) (bodyRule body) (keeps .rule) in
-          let w = both (markerFits nameLimit listLimit k) (bodyFits nameLimit listLimit body) (keeps .within) in
+          let w = both (markerFits nameLimit bracketLimit k) (bodyFits nameLimit bracketLimit body) (keeps .within) in
           let p = marker parent place tabs (children k rest body back) of (r .0) (w .0) in
           let there = traits-there s cells n parent place tabs k rest body back of in
           let far : next ≡ n + length (front s cells n parent place tabs k rest body back of) = p .0

@@ -1,6 +1,6 @@
 -- Laws that the proofs of this crate use, over plain lists and numbers.
 pub mod Standing
-pub mod Listing
+pub mod ItemLaws
 pub mod TraitParts
 pub mod Three
 pub mod Slashes

@@ -13,13 +13,14 @@ use Rattle.paper.specs.Values.{spelling, endsInSlash}
 use Rattle.paper.specs.Tree.{Trait, Marker, Concept, selfClosed, children, content, Body, done, blankLine, element, Ending, block, self}
 use Rattle.paper.specs.Grammar.{traitOnto, traitsOnto, markerOnto, endingOnto, tabsOnto, blankOnto, conceptOnto, traitRule, markerRule, bodyOnto, closingOnto}
 use Rattle.paper.specs.Grammar.{linesOnto}
-use Rattle.paper.specs.Limits.{listLimit, traitFits, markerFits}
+use Rattle.paper.specs.Limits.{bracketLimit, traitFits, markerFits}
 use Rattle.paper.specs.Entries.{Entry, unnamed, traitSize, traitsSize, traitEntries, annotationEntries, conceptSize, bodySize, conceptForm, conceptEntry}
 use Rattle.paper.specs.Entries.{markerOf, markerName, bodyStart, insideEntries, bodyEntries}
 use Rattle.paper.specs.Canonical.{TraitSense, MarkerSense, markerSense, printTrait, printBeside, printBelow, printMarker, lastInSlash, spaced}
 use Rattle.paper.proofs.Tests.{true-false}
 use Rattle.paper.proofs.Lists.{both, all-head}
 use Rattle.paper.proofs.Sizes.{traits-size}
+use Rattle.paper.proofs.Fronts.{past-bytes}
 use Rattle.entries.specs.Laid.{entryAt}
 use Rattle.quoting.specs.Page.{page, Puts}
 use Rattle.printing.specs.Standing.{Stand, Ends, kindAt, OfTraits, OfConcept}
@@ -27,8 +28,8 @@ use Rattle.printing.specs.Marking.{traitSense, endingOf, isSelf, leadOnt
 use Rattle.printing.specs.Wholes.{TraitPut, TraitsPut}
 use Rattle.quoting.proofs.Parts.{part-is}
 use Rattle.printing.proofs.Standing.{stand-front, stand-back, stand-entry}
-use Rattle.printing.proofs.Listing.{spelling-is}
-use Rattle.printing.proofs.TraitParts.{behind-part, trait-value, first-kind, front-of, back-of}
+use Rattle.printing.proofs.ItemLaws.{spelling-is}
+use Rattle.printing.proofs.TraitParts.{trait-value, first-kind, front-of, back-of}
 use Rattle.printing.proofs.Three.{ends-there}
 use Rattle.printing.proofs.Slashes.{value-slash, lastOr, last-first, last-step}
 
@@ -42,14 +43,14 @@ pub record Left (s cells : List ℕ) (n : ℕ) (ts : List Trait) (below : Bool) 
   pub of : OfTraits s cells next parent place rest
   pub ends : Ends cells (next + traitsSize rest)
   pub rule : all traitRule rest ≡ true
-  pub fits : all (traitFits nameLimit listLimit) rest ≡ true
+  pub fits : all (traitFits nameLimit bracketLimit) rest ≡ true
   pub total : next + traitsSize rest ≡ n + traitsSize ts
   pub last : lastInSlash (map traitSense ts) ≡ lastOr slash (map traitSense rest)
   pub same : (x : List ℕ) → page out₀ at₀ (traitsPrint below depth (map traitSense ts) x) ≡ page out to (traitsPrint below depth (map traitSense rest) x)
 
 pub left-first : (s cells : List ℕ) (n parent place : ℕ) (ts : List Trait) (below : Bool) (depth : ℕ) (out : List ℕ) (at : ℕ)
     → OfTraits s cells n parent place ts → Ends cells (n + traitsSize ts)
-    → all traitRule ts ≡ true → all (traitFits nameLimit listLimit) ts ≡ true → Left s cells n ts below depth out at n false out at
+    → all traitRule ts ≡ true → all (traitFits nameLimit bracketLimit) ts ≡ true → Left s cells n ts below depth out at n false out at
 left-first s cells n parent place ts below depth out at o e r f =
     record {
       parent = parent;
@@ -78,7 +79,7 @@ traits-none false depth x = refl
 
 module _ (s cells : List ℕ) (n : ℕ) (ts : List Trait) (below : Bool) (depth : ℕ) (out₀ : List ℕ) (at₀ next : ℕ) (slash : Bool) (out : List ℕ) (to : ℕ) where
   left-go : (parent place : ℕ) (rest : List Trait) → OfTraits s cells next parent place rest → Ends cells (next + traitsSize rest)
-      → all traitRule rest ≡ true → all (traitFits nameLimit listLimit) rest ≡ true
+      → all traitRule rest ≡ true → all (traitFits nameLimit bracketLimit) rest ≡ true
       → next + traitsSize rest ≡ n + traitsSize ts → lastInSlash (map traitSense ts) ≡ lastOr slash (map traitSense rest)
       → ((x : List ℕ) → page out₀ at₀ (traitsPrint below depth (map traitSense ts) x) ≡ page out to (traitsPrint below depth (map traitSense rest) x))
       → kindAt cells next ≡ 2 → (e : Entry) → e ≡ entryAt cells next → (w : List ℕ) → w ≡ take (e .end - e .start) (drop (e .start) s) → (slash′ : Bool)
@@ -90,7 +91,7 @@ module _ (s cells : List ℕ) (n : ℕ) (ts : List Trait) (below : Bool) (depth 
   left-go parent place [] o e r f t l m k own g w q slash′ sl p next′ d = absurd (ends-there cells next (next + 0) e (add-zero next) .no-trait k)
   left-go parent place (x ∷ xs) o e r f t l m k own g w q slash′ sl p next′ d =
       let rules = all-head traitRule x xs r in
-      let fit = all-head (traitFits nameLimit listLimit) x xs f in
+      let fit = all-head (traitFits nameLimit bracketLimit) x xs f in
       let front = front-of s cells next parent place x xs o in
       let got = d parent place x front (rules .0) (fit .0) in
       let spelt : w ≡ spelling (x .value) = spelling-is s cells next own g w q (x .value) (trait-value s cells next parent place x front) in
@@ -225,7 +226,7 @@ module _ (s cells : List ℕ) (n depth : ℕ) (e : Entry) (g : e ≡ entryAt cel
     (p₃ : Puts o₂ to₂ (breakOnto below sp depth) o₃ to₃)
     (p₄ : (e : Ending) → closed ≡ isSelf e → Puts o₃ to₃ (λ x. endingOnto e (lf ∷ x)) after to) where
   pub marker-put : (parent place tabs : ℕ) (c : Concept) → OfConcept s cells n parent place tabs c → markerRule (markerOf c) ≡ true
-      → markerFits nameLimit listLimit (markerOf c) ≡ true
+      → markerFits nameLimit bracketLimit (markerOf c) ≡ true
       → (next ≡ n + 1 + traitsSize (markerOf c .traits)) × Puts out at (λ x. printMarker depth (markerSense (markerOf c)) (endingOf c) (lf ∷ x)) after to
   unfolding markerRule markerFits
   marker-put parent place tabs c o r f =
@@ -238,10 +239,10 @@ module _ (s cells : List ℕ) (n depth : ℕ) (e : Entry) (g : e ≡ entryAt cel
       let named : w ≡ name = q ∙ ap (λ (x : Entry). take (x .nameEnd - x .start) (drop (x .start) s)) own
       ∙ part-is s place (markerName place k) name behind (m .spelt) size in
       let traits : OfTraits s cells (n + 1) n (markerName place k) (k .traits) =
-      record { after = k .white ++ m .after; spelt = ap (λ (i : ℕ). drop i s) size ∙ behind-part s place name behind (m .spelt); stand = m .stand } in
+      record { after = k .white ++ m .after; spelt = ap (λ (i : ℕ). drop i s) size ∙ past-bytes s place name behind (m .spelt); stand = m .stand } in
       let rules = both (nameRule isUpper (k .name) && all traitRule (k .traits)) (all isWhite (k .white)) r in
       let rule = both (nameRule isUpper (k .name)) (all traitRule (k .traits)) (rules .0) .1 in
-      let fit = both (leb (length (k .name)) nameLimit) (all (traitFits nameLimit listLimit) (k .traits)) f .1 in
+      let fit = both (leb (length (k .name)) nameLimit) (all (traitFits nameLimit bracketLimit) (k .traits)) f .1 in
       let got = p₂ n (markerName place k) (k .traits) traits (m .ends) rule fit in
       let ends : closed ≡ isSelf (endingOf c) = shut ∙ ap (λ (x : Entry). eqb (x .form) 1) own ∙ closed-is c in
       let few : below ≡ not (leb (length (map traitSense (k .traits))) 2) =

@@ -1,4 +1,4 @@
--- Values that end in "/", by their last byte. Document 01, "Canonical form". Assumes nothing.
+-- Values that end in "/", by their last byte. Document 01, "Canonical form"; document 02, Five. Assumes nothing.
 use Prim.Native.Nat.{ℕ, suc, _+_, _-_}
 use mathlib.Core.Path.{_≡_, refl, sym, ap, _∙_}
 use mathlib.Core.Bool.{Bool, false}
@@ -7,13 +7,17 @@ use native.Mathlib.Omega.{arith}
 use lib.ListN.{length, getD}
 use lib.Dec.{eqb}
 use borrow.Author.Tests.{ne-eqb}
-use Rattle.paper.specs.Bytes.{byte, isUpper}
-use Rattle.paper.specs.Values.{Piece, piecesOnto, string, character, backtick, word, leafOnto, Value, leaf, emptyList, list, More, close, comma, valueOnto}
-use Rattle.paper.specs.Values.{moreOnto, spelling, endsInSlash, temporal}
+use Rattle.paper.specs.declared.brackets.Bracket.{Bracket}
+use Rattle.paper.specs.Bytes.{byte, isUpper, elem}
+use Rattle.paper.specs.Values.{Piece, piecesOnto, string, character, backtick, word, temporal, leafOnto, opener, closer, Label, labelOnto, Value, leaf, emptyBracket}
+use Rattle.paper.specs.Values.{bracket, More, close, comma, valueOnto, moreOnto, spelling, endsInSlash}
 use Rattle.paper.specs.Tree.{Trait}
-use Rattle.paper.specs.Canonical.{TraitSense, lower, leafSense, valueSense, senseInSlash, lastInSlash}
-use Rattle.paper.proofs.Tests.{split, in-range}
+use Rattle.paper.specs.Canonical.{single, TraitSense, lower, leafSense, valueSense, senseInSlash, lastInSlash}
+use Rattle.paper.proofs.Tests.{split, in-range, apart}
 use Rattle.paper.proofs.Pieces.{pieces-append}
+use Rattle.paper.proofs.WordKinds.{beginsNone}
+use Rattle.paper.proofs.BracketKinds.{closer-none}
+use Rattle.paper.proofs.Labels.{label-append}
 use Rattle.paper.proofs.ReadValues.{value-append}
 use Rattle.printing.specs.Marking.{traitSense}
 
@@ -28,20 +32,22 @@ ends-append (a ∷ c ∷ x) b y = ends-append (c ∷ x) b y
 ends-quoted : (q : ℕ) (ps : List Piece) → endsInSlash (q ∷ piecesOnto ps (q ∷ [])) ≡ endsInSlash (q ∷ [])
 ends-quoted q ps = ap (λ (l : List ℕ). endsInSlash (q ∷ l)) (pieces-append ps (q ∷ [])) ∙ ends-append (q ∷ piecesOnto ps []) q []
 
-ends-more : (x : List ℕ) (more : More) → endsInSlash (x ++ moreOnto more []) ≡ endsInSlash (moreOnto more [])
-unfolding moreOnto
-ends-more x close = ends-append x (byte "]") []
-ends-more x (comma white v more) = ends-append x (byte ",") (white ++ valueOnto v (moreOnto more []))
+-- a bracket ends in what closes it, whatever stands before
+closed-item : (a : Label) (v : Value) (rest : List ℕ) → ((x : List ℕ) → endsInSlash (x ++ rest) ≡ false) → (x : List ℕ)
+    → endsInSlash (x ++ labelOnto a (valueOnto v rest)) ≡ false
+closed-item a v rest h x =
+    let front = labelOnto a [] in
+    let parts : x ++ labelOnto a (valueOnto v rest) ≡ ((x ++ front) ++ spelling v) ++ rest =
+    ap (λ (l : List ℕ). x ++ l) (label-append a (valueOnto v rest) ∙ ap (λ (l : List ℕ). front ++ l) (value-append v rest))
+    ∙ sym (append-assoc x front (spelling v ++ rest)) ∙ sym (append-assoc (x ++ front) (spelling v) rest) in
+    ap endsInSlash parts ∙ h ((x ++ front) ++ spelling v)
 
-more-slash : (more : More) → endsInSlash (moreOnto more []) ≡ false
-unfolding moreOnto endsInSlash
-more-slash close = refl
-more-slash (comma white v more) =
-    let front = byte "," ∷ (white ++ spelling v) in
-    let parts : byte "," ∷ (white ++ valueOnto v (moreOnto more [])) ≡ front ++ moreOnto more [] =
-    ap (λ (l : List ℕ). byte "," ∷ (white ++ l)) (value-append v (moreOnto more []))
-    ∙ ap (λ (l : List ℕ). byte "," ∷ l) (sym (append-assoc white (spelling v) (moreOnto more []))) in
-    ap endsInSlash parts ∙ ends-more front more ∙ more-slash more
+closed-more : (k : Bracket) (more : More) (x : List ℕ) → endsInSlash (x ++ moreOnto k more []) ≡ false
+unfolding moreOnto endsInSlash elem
+closed-more k close x = ends-append x (closer k) [] ∙ apart (λ b. elem b beginsNone) (closer k) (byte "/") (closer-none k) refl
+closed-more k (comma white a v more) x =
+    ap endsInSlash (sym (append-assoc x (byte "," ∷ white) (labelOnto a (valueOnto v (moreOnto k more [])))))
+    ∙ closed-item a v (moreOnto k more []) (closed-more k more) (x ++ (byte "," ∷ white))
 
 lower-slash : (b : ℕ) → eqb (lower b) (byte "/") ≡ eqb b (byte "/")
 unfolding lower isUpper
@@ -57,7 +63,7 @@ ends-lower [] = refl
 ends-lower (b ∷ []) = lower-slash b
 ends-lower (b ∷ c ∷ w) = ends-lower (c ∷ w)
 
-word-slash : (form : ℕ) (w : List ℕ) → endsInSlash (w ++ []) ≡ senseInSlash (leafSense (word form w))
+word-slash : (form : ℕ) (w : List ℕ) → endsInSlash (w ++ []) ≡ senseInSlash (single (leafSense (word form w)))
 unfolding leafSense
 word-slash form w = split (eqb form 10) (λ e. rw (append-nil w, e) (sym (ends-lower w))) (λ e. rw (append-nil w, e))
 
@@ -68,9 +74,8 @@ value-slash (leaf (character ps)) = ends-quoted (byte "'") ps
 value-slash (leaf (backtick ps)) = ends-quoted (byte "`") ps
 value-slash (leaf (word form w)) = word-slash form w
 value-slash (leaf (temporal kind w)) = ends-append (byte "{" ∷ w) (byte "}") []
-value-slash emptyList = refl
-value-slash (list v more) = ap (λ (l : List ℕ). endsInSlash (byte "[" ∷ l)) (value-append v (moreOnto more [])) ∙ ends-more (byte "[" ∷ spelling v) more
-    ∙ more-slash more
+value-slash (emptyBracket k) = closed-more k close (opener k)
+value-slash (bracket k a v more) = closed-item a v (moreOnto k more []) (closed-more k more) (opener k)
 
 -- the last of the traits, or what was said before them
 abbrev pub lastOr : Bool → List TraitSense → Bool

@@ -1,4 +1,4 @@
--- Whether three traits stand: the kinds of their entries, with list items between them. Document 01, "Entries". Assumes nothing.
+-- Whether three traits stand: the kinds of their entries, with items between them. Document 01, "Entries". Assumes nothing.
 use Prim.Native.Nat.{ℕ, suc, _+_, _≤_, _<_}
 use mathlib.Core.Path.{_≡_, refl, sym, ap, _∙_}
 use mathlib.Core.Bool.{true, false, not}
@@ -9,10 +9,10 @@ use lib.ListN.{length}
 use lib.Dec.{leb, eqb}
 use borrow.Author.Tests.{leb-true, lt-leb, eq-eqb, ne-eqb, leb-false}
 use Rattle.paper.specs.Bytes.{all}
-use Rattle.paper.specs.Values.{Value, leaf, emptyList, list, More, close, comma}
+use Rattle.paper.specs.Values.{opener, Value, leaf, emptyBracket, bracket, More, close, comma}
 use Rattle.paper.specs.Tree.{Trait}
 use Rattle.paper.specs.Grammar.{traitOnto}
-use Rattle.paper.specs.Entries.{itemEntries, moreEntries, itemSize, valueWidth, traitSize, traitsSize, traitValue, traitEntry, traitEntries}
+use Rattle.paper.specs.Entries.{itemEntries, moreEntries, itemSize, valueWidth, labelWidth, traitSize, traitsSize, traitValue, traitEntry, traitEntries}
 use Rattle.paper.proofs.Tests.{split, upTo}
 use Rattle.paper.proofs.Lists.{all-append}
 use Rattle.paper.proofs.Sizes.{item-size}
@@ -25,19 +25,20 @@ use Rattle.printing.proofs.TraitParts.{trait-front, trait-back, first-k
 mutual
   unfolding itemEntries all
 
-  item-kinds : (v : Value) (parent next at : ℕ) → all (ofKind 3) (itemEntries parent next at v) ≡ true
+  pub item-kinds : (v : Value) (parent next at : ℕ) → all (ofKind 3) (itemEntries parent next at v) ≡ true
   item-kinds (leaf v) parent next at = refl
-  item-kinds emptyList parent next at = refl
-  item-kinds (list v more) parent next at =
-      all-append (ofKind 3) (itemEntries next (next + 1) (at + 1) v) (moreEntries parent (next + 1 + itemSize v) (at + 1 + valueWidth v) more)
-      (item-kinds v next (next + 1) (at + 1)) (more-kinds more parent (next + 1 + itemSize v) (at + 1 + valueWidth v))
+  item-kinds (emptyBracket k) parent next at = refl
+  item-kinds (bracket k a v more) parent next at =
+      let start = at + length (opener k) + labelWidth a in
+      all-append (ofKind 3) (itemEntries next (next + 1) start v) (moreEntries parent (next + 1 + itemSize v) (start + valueWidth v) more)
+      (item-kinds v next (next + 1) start) (more-kinds more parent (next + 1 + itemSize v) (start + valueWidth v))
 
   more-kinds : (more : More) (parent next at : ℕ) → all (ofKind 3) (moreEntries parent next at more) ≡ true
   more-kinds close parent next at = refl
-  more-kinds (comma white v more) parent next at =
-      all-append (ofKind 3) (itemEntries next (next + 1) (at + 1 + length white) v)
-      (moreEntries parent (next + 1 + itemSize v) (at + 1 + length white + valueWidth v) more) (item-kinds v next (next + 1) (at + 1 + length white))
-      (more-kinds more parent (next + 1 + itemSize v) (at + 1 + length white + valueWidth v))
+  more-kinds (comma white a v more) parent next at =
+      let start = at + 1 + length white + labelWidth a in
+      all-append (ofKind 3) (itemEntries next (next + 1) start v) (moreEntries parent (next + 1 + itemSize v) (start + valueWidth v) more)
+      (item-kinds v next (next + 1) start) (more-kinds more parent (next + 1 + itemSize v) (start + valueWidth v))
 
 pub ends-there : (cells : List ℕ) (n : ℕ) (m : ℕ) → Ends cells m → m ≡ n → Ends cells n
 ends-there cells n m e q = rw q at e
@@ -115,7 +116,7 @@ module _ (cells : List ℕ) (n : ℕ) where
           third-go cells (n + traitSize t) parent (at + length (traitOnto t [])) t u ts (trait-back cells n parent at t (u ∷ ts) s)
           (ends-behind cells n parent at t (u ∷ ts) s e) third (rw q at p′)
 
--- ---- a walk over list items
+-- ---- a walk over items
 
 pub items-step : (cells : List ℕ) (n i : ℕ) → kindAt cells i ≡ 3 → ((j : ℕ) → n ≤ j → j < i → kindAt cells j ≡ 3) → (j : ℕ) → n ≤ j → j < i + 1
     → kindAt cells j ≡ 3

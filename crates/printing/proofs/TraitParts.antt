@@ -5,18 +5,18 @@ use mathlib.Core.Bool.{true, _&&_}
 use mathlib.Core.List.{List, [], _∷_, _++_, append-assoc}
 use native.Mathlib.Omega.{arith}
 use lib.ListN.{length, take, drop, length-append}
-use lib.Seq.{drop-drop, drop-append-seam}
 use lib.Dec.{leb}
 use borrow.Author.Tests.{leb-true}
 use Rattle.paper.specs.Bytes.{byte, isWhite, all, isLower}
 use Rattle.paper.specs.Names.{nameLimit, nameRule}
-use Rattle.paper.specs.Values.{valueOnto, spelling, valueRule, listDepth}
+use Rattle.paper.specs.Values.{valueOnto, spelling, valueRule, bracketDepth}
 use Rattle.paper.specs.Tree.{Trait}
 use Rattle.paper.specs.Grammar.{traitOnto, traitsOnto, traitRule}
-use Rattle.paper.specs.Limits.{listLimit, traitFits}
+use Rattle.paper.specs.Limits.{bracketLimit, traitFits}
 use Rattle.paper.specs.Entries.{Entry, itemEntries, traitSize, traitName, traitValue, traitEntry, traitEntries}
 use Rattle.paper.specs.Canonical.{valueSense, printValue, printTrait}
 use Rattle.paper.proofs.Lists.{both}
+use Rattle.paper.proofs.Fronts.{past-bytes}
 use Rattle.paper.proofs.ReadValues.{value-append}
 use Rattle.paper.proofs.Sizes.{item-size}
 use Rattle.text.proofs.Places.{front-behind}
@@ -36,17 +36,13 @@ trait-append t next =
     ∙ ap (λ (l : List ℕ). t .white ++ l) (sym (append-assoc (t .name) (byte "=" ∷ spelling (t .value)) next))
     ∙ sym (append-assoc (t .white) (t .name ++ (byte "=" ∷ spelling (t .value))) next)
 
--- what is left behind bytes that stand at a place
-pub behind-part : (s : List ℕ) (at : ℕ) (w after : List ℕ) → drop at s ≡ w ++ after → drop (at + length w) s ≡ after
-behind-part s at w after e = sym (drop-drop (length w) at s) ∙ ap (drop (length w)) e ∙ drop-append-seam w after
-
 module _ (s cells : List ℕ) (n parent at : ℕ) (t : Trait) (o : OfTrait s cells n parent at t) where
   named : drop (traitName at t) s ≡ t .name ++ (byte "=" ∷ valueOnto (t .value) (o .after))
-  named = behind-part s at (t .white) (t .name ++ (byte "=" ∷ valueOnto (t .value) (o .after))) (o .spelt)
+  named = past-bytes s at (t .white) (t .name ++ (byte "=" ∷ valueOnto (t .value) (o .after))) (o .spelt)
 
   pub trait-value : OfValue s cells n (t .value)
   trait-value =
-      let sign : drop (traitName at t + length (t .name)) s ≡ byte "=" ∷ valueOnto (t .value) (o .after) = behind-part s (traitName at t) (t .name)
+      let sign : drop (traitName at t + length (t .name)) s ≡ byte "=" ∷ valueOnto (t .value) (o .after) = past-bytes s (traitName at t) (t .name)
       (byte "=" ∷ valueOnto (t .value) (o .after)) named in
       record {
         own = traitEntry parent at t;
@@ -68,13 +64,13 @@ module _ (s cells : List ℕ) (n parent at : ℕ) (t : Trait) (o : OfTrait s cel
         (named ∙ sym (append-assoc (t .name) (byte "=" ∷ []) (valueOnto (t .value) (o .after)))) size
 
     pub trait-put : (w : List ℕ) → w ≡ take (e .start - e .nameStart) (drop (e .nameStart) s) → {out mid after : List ℕ} {to value end next : ℕ}
-        → Puts out to (λ x. w ++ x) mid value → ValuePut s cells n listLimit mid value next after end
-        → traitRule t ≡ true → traitFits nameLimit listLimit t ≡ true → (next ≡ n + traitSize t) × Puts out to (printTrait (traitSense t)) after end
+        → Puts out to (λ x. w ++ x) mid value → ValuePut s cells n bracketLimit mid value next after end
+        → traitRule t ≡ true → traitFits nameLimit bracketLimit t ≡ true → (next ≡ n + traitSize t) × Puts out to (printTrait (traitSense t)) after end
     unfolding traitRule traitFits
     trait-put w q {out} {to = to} p f r l =
         let rule = both (leb 1 (length (t .white)) && all isWhite (t .white) && nameRule isLower (t .name)) (valueRule [] (t .value)) r in
-        let depth = both (leb (length (t .name)) nameLimit) (leb (listDepth (t .value)) listLimit) l in
-        let got = f [] (t .value) trait-value (rule .1) (leb-true (listDepth (t .value)) listLimit (depth .1)) in
+        let depth = both (leb (length (t .name)) nameLimit) (leb (bracketDepth (t .value)) bracketLimit) l in
+        let got = f [] (t .value) trait-value (rule .1) (leb-true (bracketDepth (t .value)) bracketLimit (depth .1)) in
         let said : (x : List ℕ) → t .name ++ (byte "=" ∷ x) ≡ w ++ x = λ x. sym
         (ap (λ (l : List ℕ). l ++ x) (name-is w q) ∙ append-assoc (t .name) (byte "=" ∷ []) x) in (
           omega (arith, got .0),
@@ -116,6 +112,6 @@ module _ (s cells : List ℕ) (n parent at : ℕ) (t : Trait) (ts : List Trait) 
   back-of =
       record {
         after = o .after;
-        spelt = behind-part s at (traitOnto t []) (traitsOnto ts (o .after)) (o .spelt ∙ trait-append t (traitsOnto ts (o .after)));
+        spelt = past-bytes s at (traitOnto t []) (traitsOnto ts (o .after)) (o .spelt ∙ trait-append t (traitsOnto ts (o .after)));
         stand = trait-back cells n parent at t ts (o .stand);
       }

@@ -1,15 +1,17 @@
 -- Trees that stand before the writer: their entries in the cells, their bytes in the sheet.
--- Document 01, "Entries".
+-- Document 01, "Entries"; document 02, Five.
 use Prim.Native.Nat.{ℕ, _+_, _*_, _/_, _≤_, _<_}
 use mathlib.Core.Path.{_≡_}
 use mathlib.Core.List.{List, _∷_, _++_}
 use lib.ListN.{length, drop}
-use Rattle.paper.specs.Values.{Value, valueOnto, valueForm}
+use Rattle.paper.specs.declared.brackets.Bracket.{Bracket}
+use Rattle.paper.specs.Values.{bracketForm, Label, labelOnto, Value, valueOnto, valueForm}
 use Rattle.paper.specs.Tree.{Trait, Concept, Body}
 use Rattle.paper.specs.Grammar.{traitOnto, traitsOnto, conceptOnto, bodyOnto}
-use Rattle.paper.specs.Entries.{Entry, entryCells, allCells, itemsOf, valueWidth, itemEntries, traitValue, traitEntry, traitEntries, conceptSize, conceptEntry}
-use Rattle.paper.specs.Entries.{insideEntries, bodyEntries}
+use Rattle.paper.specs.Entries.{Entry, entryCells, allCells, itemsOf, valueWidth, labelWidth, itemEntry, itemEntries, traitValue, traitEntry, traitEntries}
+use Rattle.paper.specs.Entries.{conceptSize, conceptEntry, insideEntries, bodyEntries}
 use Rattle.entries.specs.Laid.{entryAt}
+use Rattle.printing.specs.declared.items.Holding.{Holding}
 
 -- these entries stand in the cells from number n on
 pub record Stand (cells : List ℕ) (n : ℕ) (es : List Entry) : Type 0 where
@@ -20,12 +22,12 @@ pub record Stand (cells : List ℕ) (n : ℕ) (es : List Entry) : Type 0 where
 abbrev pub kindAt : List ℕ → ℕ → ℕ
 kindAt cells n = entryAt cells n .kind
 
--- no trait and no list item goes on at entry n
+-- no trait and no item goes on at entry n
 pub record Ends (cells : List ℕ) (n : ℕ) : Type 0 where
   pub no-trait : kindAt cells n ≡ 2 → ⊥
   pub no-item : kindAt cells n ≡ 3 → ⊥
 
--- from entry n on stand list items, up to r, where none does
+-- from entry n on stand items, up to r, where none does
 pub record Past (cells : List ℕ) (n r : ℕ) : Type 0 where
   pub on : n ≤ r
   pub stops : kindAt cells r ≡ 3 → ⊥
@@ -36,7 +38,12 @@ pub record Ahead (cells : List ℕ) (n next : ℕ) : Type 0 where
   pub same : n ≤ next
   pub on : n < length cells / entryCells → n < next
 
--- the value of entry n, a trait's or a list item's
+-- what a value of this form holds
+abbrev pub Holds : ℕ → Holding → Type 0
+Holds form Holding.NoItems = (k : Bracket) → form ≡ bracketForm k → ⊥
+Holds form (Holding.Items k) = form ≡ bracketForm k
+
+-- the value of entry n, a trait's or an item's
 pub record OfValue (s cells : List ℕ) (n : ℕ) (v : Value) : Type 0 where
   pub own : Entry
   pub after : List ℕ
@@ -45,6 +52,12 @@ pub record OfValue (s cells : List ℕ) (n : ℕ) (v : Value) : Type 0 where
   pub end : own .end ≡ own .start + valueWidth v
   pub spelt : drop (own .start) s ≡ valueOnto v after
   pub stand : Stand cells n (own ∷ itemEntries n (n + 1) (own .start) v)
+
+-- the item of entry n, whose label starts at `at`
+pub record OfItem (s cells : List ℕ) (n parent at : ℕ) (a : Label) (v : Value) : Type 0 where
+  pub after : List ℕ
+  pub spelt : drop at s ≡ labelOnto a (valueOnto v after)
+  pub stand : Stand cells n (itemEntry parent at a v ∷ itemEntries n (n + 1) (at + labelWidth a) v)
 
 -- the trait of entry n, whose white space starts at `at`; and traits from entry n on
 pub record OfTrait (s cells : List ℕ) (n parent at : ℕ) (t : Trait) : Type 0 where

@@ -11,7 +11,7 @@ use Rattle.paper.specs.Bytes.{all, lf}
 use Rattle.paper.specs.Names.{nameLimit}
 use Rattle.paper.specs.Tree.{Annotation, Line, Concept, Body, Sheet}
 use Rattle.paper.specs.Grammar.{tabsOnto, annotationsOnto, closingOnto, linesOnto, sheetOnto, lineRule, conceptRule, bodyRule}
-use Rattle.paper.specs.Limits.{listLimit, conceptLimit, conceptFits, bodyFits, conceptDepth, bodyDepth}
+use Rattle.paper.specs.Limits.{bracketLimit, conceptLimit, conceptFits, bodyFits, conceptDepth, bodyDepth}
 use Rattle.paper.specs.Entries.{Entry, unnamed, annotationEntries, conceptSize, bodySize, bodyCount, allCells, entries}
 use Rattle.paper.specs.Canonical.{BodySense, annotationSense, lineSense, conceptSense, bodySense, printNotes, printLines, printConcept, printBody, printMore}
 use Rattle.paper.specs.Canonical.{canonical}
@@ -36,12 +36,12 @@ pub record OfContent (s cells : List ℕ) (n at tabs : ℕ) (lines : List Line) 
 -- what a Concept, and a body, keeps where so many Concepts may still be opened
 pub record Keeps (left : ℕ) (c : Concept) : Type 0 where
   pub rule : conceptRule c ≡ true
-  pub within : conceptFits nameLimit listLimit c ≡ true
+  pub within : conceptFits nameLimit bracketLimit c ≡ true
   pub deep : conceptDepth c ≤ left
 
 pub record KeepsBody (left : ℕ) (body : Body) : Type 0 where
   pub rule : bodyRule body ≡ true
-  pub within : bodyFits nameLimit listLimit body ≡ true
+  pub within : bodyFits nameLimit bracketLimit body ≡ true
   pub deep : bodyDepth body ≤ left
 
 -- a sheet that reads to this tree, and its entries' cells

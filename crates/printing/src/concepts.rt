@@ -2,22 +2,19 @@
 // Document 01, "Canonical form": each Concept and its annotations at as many tabs as its depth; one empty line between sibling Concepts.
 use crate::content::put_content;
 use crate::items::Walk;
+use crate::items::name_of;
 use crate::markers::put_marker;
 use crate::notes::put_notes;
-use entries::Entry;
 use entries::get;
 use paper::forms;
 use paper::kinds;
 use quoting::page::put;
 use quoting::page::put_byte;
 use quoting::page::put_tabs;
-use quoting::spans::part;
 use text::nesting::Deeper;
 use text::nesting::Nesting;
-ghost use mathlib.Core.Path.{_≡_};
 ghost use mathlib.Core.List.{_∷_};
-ghost use Prim.Native.Nat.{_+_, _-_, _≤_};
-ghost use lib.ListN.{take, drop};
+ghost use Prim.Native.Nat.{_+_, _≤_};
 ghost use Rattle.paper.specs.Found.{pick};
 ghost use Rattle.paper.specs.Bytes.{lf};
 ghost use Rattle.paper.specs.Limits.{conceptLimit};
@@ -132,13 +129,6 @@ fn put_between(out: &mut [u8], at: usize, between: bool) -> usize
         return put_byte(out, at, b'\n');
     }
     at
-}
-
-// The name that an entry has in the sheet.
-fn name_of(s: &[u8], own: Entry) -> &[u8]
-    ensures { λ r. ⌜ now r ≡ take (own .«name_end» - own .«name_start») (drop (own .«name_start») (now (s .entry))) ⌝ }
-{
-    part(s, own.name_start as usize, own.name_end as usize)
 }
 
 // Puts the closing marker of this name, with its line end.

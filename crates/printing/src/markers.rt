@@ -35,7 +35,7 @@ pub fn kind_of(cells: &[u32], n: usize) -> u32
     get(cells, n).kind
 }
 
-// The first entry from n on that is no list item.
+// The first entry from n on that is no item.
 fn past_items(cells: &[u32], n: usize) -> usize
     ensures { λ r. ⌜ Past (now (cells .entry)) n r ⌝ }
 {
@@ -70,7 +70,7 @@ fn put_trait(out: &mut [u8], at: usize, s: &[u8], cells: &[u32], n: usize) -> Wa
     let own = get(cells, n);
     let name = part(s, own.name_start as usize, own.start as usize);
     let value = put(out, at, name);
-    put_value(out, value, s, cells, n, Nesting::LISTS)
+    put_value(out, value, s, cells, n, Nesting::BRACKETS)
 }
 
 // Whether the last byte is "/".

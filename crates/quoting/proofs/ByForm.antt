@@ -10,14 +10,14 @@ use borrow.Author.Tests.{eq-eqb, ne-eqb}
 use Rattle.paper.specs.Bytes.{byte, bytes, all, startsWith}
 use Rattle.paper.specs.Values.{Piece, piecesOnto, pieceRule, piecesMean, backtickRule, collapse, Leaf, string, character, backtick, word, leafOnto, leafForm}
 use Rattle.paper.specs.Values.{leafRule, wordForm, temporal}
-use Rattle.paper.specs.Canonical.{bytesOnto, lower, leafSense, printValue}
+use Rattle.paper.specs.Canonical.{bytesOnto, lower, leafSense, printLeaf}
 use Rattle.paper.proofs.Tests.{true-false}
 use Rattle.paper.proofs.Lists.{both}
 use Rattle.paper.proofs.Pieces.{pieces-append}
 use Rattle.paper.proofs.WordKinds.{Kind, formOf, kinds, byKind, word-form}
 use Rattle.paper.proofs.Leaves.{word-rule, leaf-append}
 use Rattle.quoting.specs.Page.{page, Puts}
-use Rattle.values.specs.Plain.{isPlain}
+use Rattle.leaves.specs.Plain.{isPlain}
 use Rattle.quoting.proofs.Plainly.{plain-pieces}
 
 -- ---- between two quotes
@@ -88,8 +88,8 @@ module _ (also w : List ℕ) {out after : List ℕ} {at to : ℕ} where
   pub string-there : startsWith (bytes "`") (drop 0 w) ≡ false
       → ((ps : List Piece) → w ≡ byte "\"" ∷ piecesOnto ps (byte "\"" ∷ []) → all (pieceRule (byte "\"")) ps ≡ true
       → Puts out at (λ next. byte "\"" ∷ bytesOnto (byte "\"") (piecesMean ps) (byte "\"" ∷ next)) after to)
-      → (v : Leaf) → w ≡ leafOnto v [] → 1 ≡ leafForm v → leafRule also v ≡ true → Puts out at (printValue (leafSense v)) after to
-  unfolding leafOnto leafRule leafSense printValue startsWith
+      → (v : Leaf) → w ≡ leafOnto v [] → 1 ≡ leafForm v → leafRule also v ≡ true → Puts out at (printLeaf (leafSense v)) after to
+  unfolding leafOnto leafRule leafSense printLeaf startsWith
   string-there s f (string ps) e q r = f ps e r
   string-there s f (character ps) e q r = absurd (omega arith)
   string-there s f (backtick ps) e q r = true-false (rw e at s)
@@ -99,8 +99,8 @@ module _ (also w : List ℕ) {out after : List ℕ} {at to : ℕ} where
   pub backtick-there : startsWith (bytes "`") (drop 0 w) ≡ true
       → ((ps : List Piece) → w ≡ byte "`" ∷ piecesOnto ps (byte "`" ∷ []) → backtickRule false ps ≡ true
       → Puts out at (λ next. byte "\"" ∷ bytesOnto (byte "\"") (collapse (piecesMean ps)) (byte "\"" ∷ next)) after to)
-      → (v : Leaf) → w ≡ leafOnto v [] → 1 ≡ leafForm v → leafRule also v ≡ true → Puts out at (printValue (leafSense v)) after to
-  unfolding leafOnto leafRule leafSense printValue startsWith
+      → (v : Leaf) → w ≡ leafOnto v [] → 1 ≡ leafForm v → leafRule also v ≡ true → Puts out at (printLeaf (leafSense v)) after to
+  unfolding leafOnto leafRule leafSense printLeaf startsWith
   backtick-there s f (string ps) e q r = true-false (sym (rw e at s))
   backtick-there s f (character ps) e q r = absurd (omega arith)
   backtick-there s f (backtick ps) e q r = f ps e r
@@ -109,8 +109,8 @@ module _ (also w : List ℕ) {out after : List ℕ} {at to : ℕ} where
 
   pub character-there : ((ps : List Piece) → w ≡ byte "'" ∷ piecesOnto ps (byte "'" ∷ []) → all (pieceRule (byte "'")) ps ≡ true
       → Puts out at (λ next. byte "'" ∷ bytesOnto (byte "'") (piecesMean ps) (byte "'" ∷ next)) after to)
-      → (v : Leaf) → w ≡ leafOnto v [] → 2 ≡ leafForm v → leafRule also v ≡ true → Puts out at (printValue (leafSense v)) after to
-  unfolding leafOnto leafRule leafSense printValue
+      → (v : Leaf) → w ≡ leafOnto v [] → 2 ≡ leafForm v → leafRule also v ≡ true → Puts out at (printLeaf (leafSense v)) after to
+  unfolding leafOnto leafRule leafSense printLeaf
   character-there f (string ps) e q r = absurd (omega arith)
   character-there f (character ps) e q r = f ps e (both (all (pieceRule (byte "'")) ps) _ r .0)
   character-there f (backtick ps) e q r = absurd (omega arith)
@@ -118,8 +118,8 @@ module _ (also w : List ℕ) {out after : List ℕ} {at to : ℕ} where
   character-there f (temporal kind u) e q r = absurd (omega arith)
 
   pub uuid-there : Puts out at (λ next. map lower w ++ next) after to → (v : Leaf) → w ≡ leafOnto v [] → 10 ≡ leafForm v
-      → Puts out at (printValue (leafSense v)) after to
-  unfolding leafOnto leafSense printValue
+      → Puts out at (printLeaf (leafSense v)) after to
+  unfolding leafOnto leafSense printLeaf
   uuid-there p (string ps) e q = absurd (omega arith)
   uuid-there p (character ps) e q = absurd (omega arith)
   uuid-there p (backtick ps) e q = absurd (omega arith)
@@ -127,8 +127,8 @@ module _ (also w : List ℕ) {out after : List ℕ} {at to : ℕ} where
   uuid-there p (temporal kind u) e q = absurd (omega arith)
 
   pub word-there : Puts out at (λ next. w ++ next) after to → (form : ℕ) → (form ≡ 1 → ⊥) → (form ≡ 2 → ⊥) → (form ≡ 10 → ⊥)
-      → (v : Leaf) → w ≡ leafOnto v [] → form ≡ leafForm v → Puts out at (printValue (leafSense v)) after to
-  unfolding leafOnto leafSense printValue
+      → (v : Leaf) → w ≡ leafOnto v [] → form ≡ leafForm v → Puts out at (printLeaf (leafSense v)) after to
+  unfolding leafOnto leafSense printLeaf
   word-there p form a b c (string ps) e q = absurd (a q)
   word-there p form a b c (character ps) e q = absurd (b q)
   word-there p form a b c (backtick ps) e q = absurd (a q)

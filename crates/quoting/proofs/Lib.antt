@@ -7,3 +7,4 @@ pub mod Collapsing
 pub mod Ticks
 pub mod Parts
 pub mod ByForm
+pub mod Keys

@@ -14,7 +14,7 @@ use Rattle.paper.specs.Canonical.{byteOnto, bytesOnto}
 use Rattle.paper.proofs.Tests.{true-false, split}
 use Rattle.paper.proofs.Lists.{all-head, all-run}
 use Rattle.text.proofs.Stretch.{Stretch}
-use Rattle.values.specs.Plain.{isPlain}
+use Rattle.leaves.specs.Plain.{isPlain}
 use Rattle.quoting.specs.Page.{page, Puts}
 use Rattle.quoting.proofs.Sequences.{Left}
 use Rattle.quoting.proofs.Spelling.{byte-direct, pieceRun}

@@ -2,13 +2,13 @@
 // Document 01, "Canonical form": `"` or `'` and `\` after a backslash, `\n` `\r` `\t`, other controls as `\u{..}`, all else direct.
 use crate::page::put;
 use crate::page::put_byte;
+use leaves::escapes::hex_value;
+use leaves::plain::is_control;
+use leaves::plain::is_marked;
+use leaves::plain::plain_end;
 use text::parts::starts_with;
 use text::runs;
 use text::runs::Class;
-use values::escapes::hex_value;
-use values::plain::is_control;
-use values::plain::is_marked;
-use values::plain::plain_end;
 ghost use mathlib.Core.Path.{_≡_};
 ghost use mathlib.Core.Bool.{true};
 ghost use mathlib.Core.List.{List, [], _∷_, _++_};
@@ -18,7 +18,7 @@ ghost use Rattle.paper.specs.Bytes.{byte, isHex, all, lengthIn, encode};
 ghost use Rattle.paper.specs.Values.{Piece, pieceOnto, piecesOnto, pieceRule, pieceMeans, piecesMean, letterMeans, hexValue, spellsScalar};
 ghost use Rattle.paper.specs.Canonical.{hexLetter, hexOnto, byteOnto, bytesOnto};
 ghost use Rattle.quoting.specs.Page.{Puts};
-ghost use Rattle.values.specs.Plain.{isPlain};
+ghost use Rattle.leaves.specs.Plain.{isPlain};
 
 // Where the page goes on, and where the spelling does.
 pub struct Put {

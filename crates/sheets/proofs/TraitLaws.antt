@@ -12,16 +12,18 @@ use borrow.Author.Tests.{leb-true, leb-false, lt-leb}
 use Rattle.paper.specs.declared.Refusal.{Refusal}
 use Rattle.paper.specs.declared.Refusal.the-variants.{NoEntryLeft}
 use Rattle.paper.specs.Found.{Found, found, fault, andThen, placeIn}
-use Rattle.paper.specs.Limits.{sheetLimit, entryLimit, listLimit}
-use Rattle.paper.specs.Values.{Value, leaf, emptyList, list, More, close, comma, valueOnto, moreOnto, valueForm}
+use Rattle.paper.specs.Limits.{sheetLimit, entryLimit, bracketLimit}
+use Rattle.paper.specs.declared.brackets.Bracket.{Bracket}
+use Rattle.paper.specs.Values.{opener, Label, labelOnto, Value, leaf, emptyBracket, bracket, More, close, comma, valueOnto, moreOnto, valueForm}
 use Rattle.paper.specs.Tree.{Trait}
 use Rattle.paper.specs.ReadingValues.{valueOf}
-use Rattle.paper.specs.Entries.{Entry, valueWidth, itemsOf, itemSize, itemEntry, itemEntries, moreEntries, traitSize}
+use Rattle.paper.specs.Entries.{Entry, labelWidth, valueWidth, itemsOf, itemSize, itemEntry, itemEntries, moreEntries, traitSize}
 use Rattle.paper.specs.Reading.{enters, name, due, trait, bounds}
 use Rattle.paper.specs.Bytes.{byte}
 use Rattle.paper.specs.Names.{isTraitName}
 use Rattle.paper.proofs.Tests.{upTo}
 use Rattle.paper.proofs.Sizes.{item-size}
+use Rattle.paper.proofs.Labels.{label-append}
 use Rattle.paper.proofs.ReadValues.{ReadValue, value-length, value-reads}
 use Rattle.paper.proofs.Markers.{enters-complete}
 use Rattle.text.proofs.Places.{place-back}
@@ -29,12 +31,12 @@ use Rattle.entries.specs.Laid.{lay, slotUnder, Fits}
 use Rattle.entries.specs.declared.Slot.{Slot}
 use Rattle.entries.proofs.Laying.{lay-before}
 use Rattle.entries.proofs.Slots.{fits-under}
-use Rattle.values.specs.declared.judged.Judged.{Judged}
+use Rattle.leaves.specs.declared.judged.Judged.{Judged}
 use Rattle.values.specs.declared.entering.Entered.{Entered}
 use Rattle.values.specs.declared.entering.Entered.the-variants.{Items, Full}
-use Rattle.values.specs.Shown.{Shown, shown, shownOf, Judges}
+use Rattle.leaves.specs.Shown.{Shown, shown, shownOf, Judges}
 use Rattle.values.specs.Entering.{Ready, leftOf, firstOver, Ahead, Enters}
-use Rattle.values.proofs.Showing.{stands}
+use Rattle.leaves.proofs.Showing.{stands}
 use Rattle.lines.specs.Parts.{Seen, seen, passed, In}
 use Rattle.lines.specs.declared.part.Part.{Part}
 use Rattle.lines.specs.declared.part.Part.the-variants.{Read, Refused}
@@ -47,7 +49,7 @@ use Rattle.sheets.specs.Traits.{valueIn, MakesTrait, MakesValued}
 -- entries that start so far behind others, and not past a bound
 data Moved (by bound : ℕ) : List Entry → List Entry → Type 0 where
   none : Moved by bound [] []
-  one : (e f : Entry) {es fs : List Entry} → e .start ≡ by + f .start → e .start ≤ bound → Moved by bound es fs → Moved by bound (e ∷ es) (f ∷ fs)
+  one : (e f : Entry) {es fs : List Entry} → e .nameStart ≡ by + f .nameStart → e .nameStart ≤ bound → Moved by bound es fs → Moved by bound (e ∷ es) (f ∷ fs)
 
 moved-append : (by bound : ℕ) {es fs gs hs : List Entry} → Moved by bound es fs → Moved by bound gs hs → Moved by bound (es ++ gs) (fs ++ hs)
 moved-append by bound none m = m
@@ -59,31 +61,42 @@ moved-first by bound n none h = absurd (omega arith)
 moved-first by bound zero (one e f s l m) h = (s, l)
 moved-first by bound (suc n) (one e f s l m) h = moved-first by bound n m (omega arith)
 
+-- how long an item is with its label and what stands behind it
+item-length : (a : Label) (v : Value) (rest : List ℕ) → length (labelOnto a (valueOnto v rest)) ≡ labelWidth a + valueWidth v + length rest
+item-length a v rest =
+    omega (arith, ap length (label-append a (valueOnto v rest)), length-append (labelOnto a []) (valueOnto v rest), value-length v rest)
+
 mutual
   unfolding itemEntries valueOnto
 
   item-moved : (v : Value) (by bound parent next at owner other from : ℕ) → at ≡ by + from → at + valueWidth v ≤ bound
       → Moved by bound (itemEntries parent next at v) (itemEntries owner other from v)
   item-moved (leaf v) by bound parent next at owner other from e h = none
-  item-moved emptyList by bound parent next at owner other from e h = none
-  item-moved (list v more) by bound parent next at owner other from e h =
-      let n = value-length v (moreOnto more []) in
-      one (itemEntry parent (at + 1) v) (itemEntry owner (from + 1) v) (omega arith) (omega arith)
-      (moved-append by bound (item-moved v by bound next (next + 1) (at + 1) other (other + 1) (from + 1) (omega arith) (omega arith))
-      (more-moved more by bound parent (next + 1 + itemSize v) (at + 1 + valueWidth v) owner (other + 1 + itemSize v) (from + 1 + valueWidth v) (omega arith)
-      (omega arith)))
+  item-moved (emptyBracket k) by bound parent next at owner other from e h = none
+  item-moved (bracket k a v more) by bound parent next at owner other from e h =
+      let n = item-length a v (moreOnto k more []) in
+      let m = length-append (opener k) (labelOnto a (valueOnto v (moreOnto k more []))) in
+      let here = at + length (opener k) in
+      let there = from + length (opener k) in
+      one (itemEntry parent here a v) (itemEntry owner there a v) (omega arith) (omega arith)
+      (moved-append by bound
+      (item-moved v by bound next (next + 1) (here + labelWidth a) other (other + 1) (there + labelWidth a) (omega arith) (omega arith))
+      (more-moved k more by bound parent (next + 1 + itemSize v) (here + labelWidth a + valueWidth v) owner (other + 1 + itemSize v)
+      (there + labelWidth a + valueWidth v) (omega arith) (omega arith)))
 
-  more-moved : (more : More) (by bound parent next at owner other from : ℕ) → at ≡ by + from → at + length (moreOnto more []) ≤ bound
+  more-moved : (k : Bracket) (more : More) (by bound parent next at owner other from : ℕ) → at ≡ by + from → at + length (moreOnto k more []) ≤ bound
       → Moved by bound (moreEntries parent next at more) (moreEntries owner other from more)
-  more-moved close by bound parent next at owner other from e h = none
-  more-moved (comma white v more) by bound parent next at owner other from e h =
-      let n = value-length v (moreOnto more []) in
-      let m = length-append white (valueOnto v (moreOnto more [])) in
-      one (itemEntry parent (at + 1 + length white) v) (itemEntry owner (from + 1 + length white) v) (omega arith) (omega arith)
-      (moved-append by bound (item-moved v by bound next (next + 1) (at + 1 + length white) other (other + 1) (from + 1 + length white) (omega arith)
-      (omega arith))
-      (more-moved more by bound parent (next + 1 + itemSize v) (at + 1 + length white + valueWidth v) owner (other + 1 + itemSize v)
-      (from + 1 + length white + valueWidth v) (omega arith) (omega arith)))
+  more-moved k close by bound parent next at owner other from e h = none
+  more-moved k (comma white a v more) by bound parent next at owner other from e h =
+      let n = item-length a v (moreOnto k more []) in
+      let m = length-append white (labelOnto a (valueOnto v (moreOnto k more []))) in
+      let here = at + 1 + length white in
+      let there = from + 1 + length white in
+      one (itemEntry parent here a v) (itemEntry owner there a v) (omega arith) (omega arith)
+      (moved-append by bound
+      (item-moved v by bound next (next + 1) (here + labelWidth a) other (other + 1) (there + labelWidth a) (omega arith) (omega arith))
+      (more-moved k more by bound parent (next + 1 + itemSize v) (here + labelWidth a + valueWidth v) owner (other + 1 + itemSize v)
+      (there + labelWidth a + valueWidth v) (omega arith) (omega arith)))
 
 -- ---- a whole value that stands at a place
 
@@ -93,14 +106,14 @@ formless y = record { number = y .number; place = y .place; made = 0; own = 0 }
 pub record ValueAt (s : List ℕ) (at : ℕ) : Type 0 where
   pub it : Value
   pub end : ℕ
-  pub whole : valueOf listLimit [] (drop at s) ≡ found it (drop end s)
+  pub whole : valueOf bracketLimit [] (drop at s) ≡ found it (drop end s)
   pub wide : end ≡ at + valueWidth it
   pub inside : end ≤ length s
 
-module _ {s : List ℕ} {at : ℕ} {value : Judged} (h : Judges valueForm s at (valueOf listLimit [] (drop at s)) value) where
+module _ {s : List ℕ} {at : ℕ} {value : Judged} (h : Judges valueForm s at (valueOf bracketLimit [] (drop at s)) value) where
   pub value-at : (form end : ℕ) → value ≡ Judged.Found form end → ValueAt s at
   value-at form end q =
-      let f = stands h (ReadValue listLimit [] (drop at s)) (value-reads (suc (length (drop at s))) listLimit [] (drop at s)) form end q in
+      let f = stands h (ReadValue bracketLimit [] (drop at s)) (value-reads (suc (length (drop at s))) bracketLimit [] (drop at s)) form end q in
       record {
         it = f .it;
         end = end;
@@ -110,8 +123,8 @@ module _ {s : List ℕ} {at : ℕ} {value : Judged} (h : Judges valueForm s at (
       }
 
   -- a value's refusal as that of a part
-  value-passed : {why : Refusal} {place : ℕ} → value ≡ Judged.Refused why place → seen (Refused why place) ≡ passed s (valueOf listLimit [] (drop at s))
-  value-passed {why} {place} q = ap (λ (y : Judged). formless (shown y)) (sym q) ∙ ap formless (h .same) ∙ go (valueOf listLimit [] (drop at s))
+  value-passed : {why : Refusal} {place : ℕ} → value ≡ Judged.Refused why place → seen (Refused why place) ≡ passed s (valueOf bracketLimit [] (drop at s))
+  value-passed {why} {place} q = ap (λ (y : Judged). formless (shown y)) (sym q) ∙ ap formless (h .same) ∙ go (valueOf bracketLimit [] (drop at s))
     where
       go : (x : Found Value) → formless (shownOf valueForm s x) ≡ passed s x
       go (found v left) = refl
@@ -135,12 +148,12 @@ module _ (room : ℕ) (named valued : List ℕ) (t : Trait) (left : List ℕ) wh
 
 -- numbers that fit their cells
 pub record Far (end made own : ℕ) : Type 0 where
-  pub near : end ≤ sheetLimit + 1 + listLimit
+  pub near : end ≤ sheetLimit + 1 + bracketLimit
   pub few : made ≤ entryLimit
   pub owned : own ≤ made
 
 module _ {s : List ℕ} {at : ℕ} (place : In s at) {cells : List ℕ} {slot : Slot} (fits : Fits cells slot) {under : Slot} (u : under ≡ slotUnder slot) where
-  pub items-stand : {o : Bool} → o ≡ leb (slot .room) (slot .next) → o ≡ false → Ready s at listLimit cells under
+  pub items-stand : {o : Bool} → o ≡ leb (slot .room) (slot .next) → o ≡ false → Ready s at bracketLimit cells under
   items-stand asked f =
       rw u (record {
         place = place .inside;
@@ -149,7 +162,7 @@ module _ {s : List ℕ} {at : ℕ} (place : In s at) {cells : List ℕ} {slot : 
         fits = fits-under fits asked f refl;
       })
 
-  pub far-end : {items : Entered} → Ahead s at listLimit (leftOf under) items → {form end made own : ℕ} → items ≡ Items form end made own → Far end made own
+  pub far-end : {items : Entered} → Ahead s at bracketLimit (leftOf under) items → {form end made own : ℕ} → items ≡ Items form end made own → Far end made own
   far-end h {form} {end} {made} {own} q =
       let f = h .far form end made own q in
       let n : leftOf under ≡ leftOf (slotUnder slot) = ap leftOf u in
@@ -166,10 +179,10 @@ module _ {s : List ℕ} {from to : ℕ} (place : In s (to + 1)) (between : from 
   abbrev of-value : Found Value → Found Trait
   of-value x = andThen x (λ v left. enters (leftOf slot) (drop from s) (drop (to + 1) s) (record { white = white; name = w; value = v }) left)
 
-  pub trait-refused : {value : Judged} → Judges valueForm s (to + 1) (valueOf listLimit [] (drop (to + 1) s)) value → {why : Refusal} {at : ℕ}
+  pub trait-refused : {value : Judged} → Judges valueForm s (to + 1) (valueOf bracketLimit [] (drop (to + 1) s)) value → {why : Refusal} {at : ℕ}
       → value ≡ Judged.Refused why at → {r : Part} → r ≡ Refused why at → Made r cells
   trait-refused h {why} {at} q {r} e = makes-passed _ _ _ _ _ _ _ r cells (λ v. 0) (λ v. 0) of-value (λ k left. refl)
-      (valueOf listLimit [] (drop (to + 1) s)) why at (ap seen e ∙ value-passed h q) e refl
+      (valueOf bracketLimit [] (drop (to + 1) s)) why at (ap seen e ∙ value-passed h q) e refl
 
   module _ (value : ValueAt s (to + 1)) {o : Bool} (asked : o ≡ leb (slot .room) (slot .next)) where
     abbrev it : Trait
@@ -183,11 +196,11 @@ module _ {s : List ℕ} {from to : ℕ} (place : In s (to + 1)) (between : from 
         (by-value ∙ no-room _ _ _ it _ (omega (arith, leb-true (slot .room) (slot .next) (sym asked ∙ t))))
 
     module _ (f : o ≡ false) {under : Slot} (u : under ≡ slotUnder slot) {items : Entered} {mid : List ℕ}
-        (h : Enters s (to + 1) cells under (valueOf listLimit [] (drop (to + 1) s)) items mid) where
+        (h : Enters s (to + 1) cells under (valueOf bracketLimit [] (drop (to + 1) s)) items mid) where
       one-left : leftOf slot ≡ suc (leftOf (slotUnder slot))
       one-left = omega (arith, leb-false (slot .room) (slot .next) (sym asked ∙ f))
 
-      entered : Enters s (to + 1) cells (slotUnder slot) (valueOf listLimit [] (drop (to + 1) s)) items mid
+      entered : Enters s (to + 1) cells (slotUnder slot) (valueOf bracketLimit [] (drop (to + 1) s)) items mid
       entered = rw u at h
 
       -- an item has no entry left

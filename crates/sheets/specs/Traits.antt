@@ -5,7 +5,7 @@ use mathlib.Core.Path.{_≡_}
 use mathlib.Core.List.{List, [], _∷_}
 use lib.ListN.{length, drop}
 use Rattle.paper.specs.Found.{Found, andThen, manyOf}
-use Rattle.paper.specs.Limits.{listLimit}
+use Rattle.paper.specs.Limits.{bracketLimit}
 use Rattle.paper.specs.Values.{valueForm}
 use Rattle.paper.specs.Tree.{Trait}
 use Rattle.paper.specs.ReadingValues.{valueOf}
@@ -22,7 +22,7 @@ traitsOf room s = manyOf traitSize (traitTurn bounds) room s
 
 -- a trait from its value on, which is due in front of s; `named` is the list from its name on
 abbrev pub valueIn : ℕ → List ℕ → List ℕ → List ℕ → List ℕ → Found Trait
-valueIn room named white w s = andThen (valueOf listLimit [] s) (λ v left. enters room named s (record { white = white; name = w; value = v }) left)
+valueIn room named white w s = andThen (valueOf bracketLimit [] s) (λ v left. enters room named s (record { white = white; name = w; value = v }) left)
 
 -- the entries of a trait whose name starts at `at`: its own, and those of its items
 abbrev pub oneTrait : ℕ → ℕ → ℕ → Trait → List Entry

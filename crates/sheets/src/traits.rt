@@ -3,6 +3,7 @@
 use entries::Entry;
 use entries::Slot;
 use entries::put;
+use leaves::judged::Judged;
 use lines::part::Part;
 use lines::part::Whose;
 use lines::part::byte_due;
@@ -16,8 +17,7 @@ use text::runs;
 use text::runs::Class;
 use values::entering::Entered;
 use values::entering::enter_whole;
-use values::judged::Judged;
-use values::lists::read_whole;
+use values::reading::read_whole;
 ghost use Prim.Native.Nat.{_+_, _≤_};
 ghost use Rattle.entries.specs.Laid.{Fits};
 ghost use Rattle.lines.specs.Parts.{In};

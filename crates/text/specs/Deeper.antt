@@ -1,5 +1,5 @@
 -- One level deeper, or no further.
--- Document 01, "Sizes": thirty-two Concepts and eight lists deep.
+-- Document 01, "Sizes": thirty-two Concepts and eight lists deep; document 02, Five: brackets of every kind count as lists do.
 use Prim.Native.Nat.{ℕ, _-_}
 use lib.Dec.{eqb}
 use Rattle.paper.specs.Found.{pick}

@@ -1,5 +1,5 @@
-// How many Concepts or lists may still be opened in one another.
-// Document 01, "Sizes": thirty-two Concepts and eight lists deep, the outermost counting as one.
+// How many Concepts or brackets may still be opened in one another.
+// Document 01, "Sizes": thirty-two Concepts and eight lists deep, the outermost counting as one; document 02, Five: brackets of every kind count as lists do.
 ghost use mathlib.Core.Path.{_≡_};
 ghost use Rattle.text.specs.Deeper.{oneDeeper};
 
@@ -17,7 +17,7 @@ pub enum Deeper {
 impl Nesting {
     pub const CONCEPTS: usize = 32;
 
-    pub const LISTS: usize = 8;
+    pub const BRACKETS: usize = 8;
 
     // So many may be opened in one another.
     pub fn new(limit: usize) -> Self

@@ -5,10 +5,10 @@ use crate::print;
 use crate::words;
 use crate::words::Listed;
 use crate::words::Numeral;
+use leaves::judged::Judged;
 use paper::Refusal;
 use text::utf8;
-use values::judged::Judged;
-use values::lists;
+use values::reading;
 ghost use Prim.Native.Nat.{_≤_};
 ghost use lib.ListN.{length};
 ghost use Rattle.trials.specs.Lines.{lineLimit, Request, cellLimit, roomLimit};
@@ -84,7 +84,7 @@ fn mode_table(table: &[u8]) {
 }
 
 fn value(bytes: &[u8]) {
-    match lists::read_whole(bytes, 0) {
+    match reading::read_whole(bytes, 0) {
         Judged::Found { form, end } => print::row(&[0, end as u64, form as u64]),
         Judged::Refused { refusal, place } => {
             print::row(&[paper::number(refusal) as u64, place as u64]);

@@ -1,6 +1,6 @@
--- Lists that were found: their first item and what stands behind it, and the first of their entries that has no room.
+-- Brackets that were found: an item with its label and what stands behind it, and the first of their entries that has no room.
 -- Over plain lists. Assumes nothing.
-use Prim.Native.Nat.{ℕ, zero, suc, _+_, _-_, _≤_, _<_}
+use Prim.Native.Nat.{ℕ, zero, suc, _-_, _≤_, _<_}
 use mathlib.Core.Path.{_≡_, refl, sym, ap, _∙_}
 use mathlib.Core.Bool.{false}
 use mathlib.Core.List.{List, [], _∷_, _++_}
@@ -8,10 +8,11 @@ use native.Mathlib.Omega.{arith}
 use lib.ListN.{length}
 use lib.Dec.{eqb}
 use borrow.Author.Tests.{eqb-true}
+use Rattle.paper.specs.declared.brackets.Bracket.{Bracket}
 use Rattle.paper.specs.Found.{Found, found, fault, andThen}
 use Rattle.paper.specs.Bytes.{byte, bytes, startsWith}
-use Rattle.paper.specs.Values.{listEnders, Value, list, More, close}
-use Rattle.paper.specs.ReadingValues.{valueOf, moreOf, itemAnd}
+use Rattle.paper.specs.Values.{closer, enders, Label, Value, bracket, More, close}
+use Rattle.paper.specs.ReadingValues.{labelOf, valueOf, moreOf, itemAnd}
 use Rattle.paper.specs.Entries.{Entry}
 use Rattle.paper.proofs.Tests.{split, true-false}
 use Rattle.paper.proofs.ReadValues.{more-of-end, more-of-close, more-of-other}
@@ -20,68 +21,95 @@ use Rattle.values.specs.Entering.{firstOver}
 -- ---- parts
 
 -- an item, what stands behind it, and what is made of both
-abbrev pub withMore : {A : Type 0} → ℕ → (Value → More → A) → Found Value → Found A
-withMore lists make x = andThen x (λ v mid. andThen (moreOf lists mid) (λ more end. found (make v more) end))
+abbrev pub withMore : {A : Type 0} → Bracket → ℕ → (Value → More → A) → Found Value → Found A
+withMore k brackets make x = andThen x (λ v mid. andThen (moreOf k brackets mid) (λ more end. found (make v more) end))
 
--- an item, and what stands behind it
-pub record Parts (lists : ℕ) (x : Found Value) (v : Value) (more : More) (left : List ℕ) : Type 0 where
+-- an item with its label, and what stands behind it
+pub record Parts (k : Bracket) (brackets : ℕ) (l : List ℕ) (a : Label) (v : Value) (more : More) (left : List ℕ) : Type 0 where
+  pub valued : List ℕ
   pub mid : List ℕ
-  pub item : x ≡ found v mid
-  pub behind : moreOf lists mid ≡ found more left
+  pub labelled : labelOf k l ≡ found a valued
+  pub item : valueOf brackets (enders k) valued ≡ found v mid
+  pub behind : moreOf k brackets mid ≡ found more left
 
 -- the same, of which something was made
-pub record MadeOf {A : Type 0} (lists : ℕ) (make : Value → More → A) (x : Found Value) (a : A) (left : List ℕ) : Type 0 where
+pub record MadeOf {A : Type 0} (k : Bracket) (brackets : ℕ) (make : Label → Value → More → A) (l : List ℕ) (it : A) (left : List ℕ) : Type 0 where
+  pub before : Label
   pub first : Value
   pub rest : More
-  pub made : a ≡ make first rest
-  pub parts : Parts lists x first rest left
+  pub made : it ≡ make before first rest
+  pub parts : Parts k brackets l before first rest left
 
-module _ {A : Type 0} (lists : ℕ) (make : Value → More → A) where
-  pub made-of : (x : Found Value) (a : A) (left : List ℕ) → withMore lists make x ≡ found a left → MadeOf lists make x a left
-  made-of (found v mid) a left e = go (moreOf lists mid) refl e
+module _ (k : Bracket) (brackets : ℕ) (l : List ℕ) where
+  module _ {A : Type 0} (make : Label → Value → More → A) where
+    pub made-of : (it : A) (left : List ℕ) → itemAnd k brackets make l ≡ found it left → MadeOf k brackets make l it left
+    made-of it left = labels (labelOf k l) refl
+      where
+        mores : (a : Label) (valued : List ℕ) → labelOf k l ≡ found a valued → (v : Value) (mid : List ℕ) → valueOf brackets (enders k) valued ≡ found v mid
+            → (z : Found More) → moreOf k brackets mid ≡ z → andThen z (λ more end. found (make a v more) end) ≡ found it left → MadeOf k brackets make l it left
+        mores a valued p v mid q (found more end) b e =
+            let n : end ≡ left = cc in
+            let m : make a v more ≡ it = cc in
+            record {
+              before = a;
+              first = v;
+              rest = more;
+              made = sym m;
+              parts = record { valued = valued; mid = mid; labelled = p; item = q; behind = b ∙ ap (found more) n };
+            }
+        mores a valued p v mid q (fault n end) b e = let z : _≡_ {A = ℕ} 0 1 = cc in absurd (omega arith)
+
+        values : (a : Label) (valued : List ℕ) → labelOf k l ≡ found a valued → (y : Found Value) → valueOf brackets (enders k) valued ≡ y
+            → withMore k brackets (make a) y ≡ found it left → MadeOf k brackets make l it left
+        values a valued p (found v mid) q e = mores a valued p v mid q (moreOf k brackets mid) refl e
+        values a valued p (fault n mid) q e = let z : _≡_ {A = ℕ} 0 1 = cc in absurd (omega arith)
+
+        labels : (x : Found Label) → labelOf k l ≡ x → andThen x (λ a valued. withMore k brackets (make a) (valueOf brackets (enders k) valued)) ≡ found it left
+            → MadeOf k brackets make l it left
+        labels (found a valued) p e = values a valued p (valueOf brackets (enders k) valued) refl e
+        labels (fault n valued) p e = let z : _≡_ {A = ℕ} 0 1 = cc in absurd (omega arith)
+
+    pub together : (a : Label) (v : Value) (more : More) (left : List ℕ) → Parts k brackets l a v more left → itemAnd k brackets make l ≡ found (make a v more) left
+    together a v more left p = rw (p .labelled, p .item, p .behind)
+
+  -- a bracket that was found has these parts
+  pub bracket-parts : (a : Label) (v : Value) (more : More) (left : List ℕ) → itemAnd k brackets (bracket k) l ≡ found (bracket k a v more) left
+      → Parts k brackets l a v more left
+  bracket-parts a v more left e = go (made-of (bracket k) (bracket k a v more) left e)
     where
-      go : (y : Found More) → moreOf lists mid ≡ y → andThen y (λ more end. found (make v more) end) ≡ found a left → MadeOf lists make (found v mid) a left
-      go (found more end) q e =
-          let l : end ≡ left = cc in
-          let m : make v more ≡ a = cc in
-          record { first = v; rest = more; made = sym m; parts = record { mid = mid; item = refl; behind = q ∙ ap (found more) l } }
-      go (fault n end) q e = let z : _≡_ {A = ℕ} 0 1 = cc in absurd (omega arith)
-  made-of (fault n mid) a left e = let z : _≡_ {A = ℕ} 0 1 = cc in absurd (omega arith)
+      go : MadeOf k brackets (bracket k) l (bracket k a v more) left → Parts k brackets l a v more left
+      go h =
+          let q = h .made in
+          let x : h .before ≡ a = cc in
+          let y : h .first ≡ v = cc in
+          let z : h .rest ≡ more = cc in
+          let p = h .parts in
+          record {
+            valued = p .valued;
+            mid = p .mid;
+            labelled = p .labelled ∙ ap (λ (b : Label). found b (p .valued)) x;
+            item = p .item ∙ ap (λ (w : Value). found w (p .mid)) y;
+            behind = p .behind ∙ ap (λ (m : More). found m left) z;
+          }
 
-  pub together : (x : Found Value) (v : Value) (more : More) (left : List ℕ) → Parts lists x v more left → withMore lists make x ≡ found (make v more) left
-  together x v more left p = rw (p .item, p .behind)
-
--- a list that was found has these parts
-pub list-parts : (lists : ℕ) (l : List ℕ) (v : Value) (more : More) (left : List ℕ) → itemAnd lists list l ≡ found (list v more) left
-    → Parts lists (valueOf lists listEnders l) v more left
-list-parts lists l v more left e = go (made-of lists list (valueOf lists listEnders l) (list v more) left e)
-  where
-    go : MadeOf lists list (valueOf lists listEnders l) (list v more) left → Parts lists (valueOf lists listEnders l) v more left
-    go h =
-        let q = h .made in
-        let a : h .first ≡ v = cc in
-        let b : h .rest ≡ more = cc in
-        let p = h .parts in
-        record { mid = p .mid; item = p .item ∙ ap (λ (w : Value). found w (p .mid)) a; behind = p .behind ∙ ap (λ (m : More). found m left) b }
-
--- where no comma stands behind an item, "]" does
-pub closed : (lists : ℕ) (l : List ℕ) (more : More) (left : List ℕ) → startsWith (bytes ",") l ≡ false → moreOf lists l ≡ found more left → (more ≡ close)
-    × (l ≡ byte "]" ∷ left)
+-- where no comma stands behind an item, what closes the bracket does
+pub closed : (k : Bracket) (brackets : ℕ) (l : List ℕ) (more : More) (left : List ℕ) → startsWith (bytes ",") l ≡ false → moreOf k brackets l ≡ found more left
+    → (more ≡ close) × (l ≡ closer k ∷ left)
 unfolding startsWith
-closed lists [] more left c e =
-    let f : fault 9 [] ≡ found more left = sym (more-of-end lists) ∙ e in
+closed k brackets [] more left c e =
+    let f : fault 9 [] ≡ found more left = sym (more-of-end k brackets) ∙ e in
     let z : _≡_ {A = ℕ} 0 1 = cc in
     absurd (omega arith)
-closed lists (b ∷ l) more left c e =
-    split (eqb b (byte "]"))
-    (λ h. let k = eqb-true b (byte "]") h in
-    let f : found close l ≡ found more left = sym (more-of-close lists l) ∙ ap (λ (a : ℕ). moreOf lists (a ∷ l)) (sym k) ∙ e in
+closed k brackets (b ∷ l) more left c e =
+    split (eqb b (closer k))
+    (λ h. let q = eqb-true b (closer k) h in
+    let f : found close l ≡ found more left = sym (more-of-close k brackets l) ∙ ap (λ (a : ℕ). moreOf k brackets (a ∷ l)) (sym q) ∙ e in
     let m : close ≡ more = cc in
     let n : l ≡ left = cc in
-    (sym m, rw (k, n)))
+    (sym m, rw (q, n)))
     (λ h. split (eqb b (byte ","))
-    (λ k. true-false (rw (k, startsWith) at c))
-    (λ k. let f : fault 6 (b ∷ l) ≡ found more left = sym (more-of-other lists b l h k) ∙ e in
+    (λ q. true-false (rw (q, startsWith) at c))
+    (λ q. let f : fault 6 (b ∷ l) ≡ found more left = sym (more-of-other k brackets b l h q) ∙ e in
     let z : _≡_ {A = ℕ} 0 1 = cc in
     absurd (omega arith)))
 

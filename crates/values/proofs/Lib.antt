@@ -1,19 +1,11 @@
--- Laws of reading values at a place, over the definitions of the paper.
-pub mod Runs
-pub mod Showing
-pub mod HexDigits
-pub mod Escaping
-pub mod Quotes
-pub mod Plainly
-pub mod WordEnds
-pub mod Integers
-pub mod NumberForms
-pub mod Groups
-pub mod Ranges
-pub mod IriParts
-pub mod FirstBytes
-pub mod LeafReads
-pub mod ListLaws
+-- Laws of reading and entering values of every kind at a place, over the definitions of the paper.
+pub mod Openings
+pub mod BareNames
+pub mod KeyWords
+pub mod KeyLaws
+pub mod LabelReads
+pub mod LabelLaws
+pub mod BracketLaws
 pub mod ItemsFound
 pub mod EnterLaws
 pub mod EnterTurns

@@ -1,5 +1,4 @@
 -- What the functions of this crate answer, over the definitions of the paper.
-pub mod Shown
-pub mod Kinds
-pub mod Plain
+pub mod Brackets
+pub mod Labels
 pub mod Entering

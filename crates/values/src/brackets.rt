@@ -1,46 +1,65 @@
-// Brackets around values: what opens and closes one, what stands between two items, and what ends a word in it.
-// Document 01, "The grammar", Values: lists; a word ends "inside a list also before "," and "]"".
+// Brackets around values: which one opens at a place, what closes it, and what stands between two items.
+// Document 01, "The grammar", Values; document 02, Five.
+use paper::brackets::Bracket;
 use text::parts::starts_with;
 ghost use mathlib.Core.Path.{_≡_};
-ghost use Prim.Native.Nat.{_<_};
-ghost use lib.ListN.{length, getD, drop};
-ghost use Rattle.paper.specs.Bytes.{bytes, elem, startsWith};
-ghost use Rattle.values.specs.Kinds.{endersOf};
+ghost use mathlib.Core.Bool.{_&&_};
+ghost use mathlib.Core.List.{[], _∷_};
+ghost use lib.ListN.{drop};
+ghost use Rattle.paper.specs.Bytes.{bytes, startsWith};
+ghost use Rattle.paper.specs.Values.{closer, mayBeEmpty};
+ghost use Rattle.paper.specs.ReadingValues.{opensWith};
+ghost use Rattle.values.specs.Brackets.{openingOf};
 
-// What stands around a value directly.
-pub enum Around {
-    Nothing,
-    List,
+// The bracket that a value begins with.
+pub enum Opening {
+    NoBracket,
+    Opens(Bracket),
 }
 
-// Whether a list opens at `at`.
-pub fn opens(s: &[u8], at: usize) -> bool
-    ensures { λ r. ⌜ r ≡ startsWith (bytes "[") (drop at (now (s .entry))) ⌝ }
+// Which bracket opens at `at`. The first byte says which one it can be.
+pub fn opens(s: &[u8], at: usize) -> Opening
+    ensures { λ r. ⌜ r ≡ openingOf (opensWith (drop at (now (s .entry)))) ⌝ }
 {
-    starts_with(s, at, b"[")
+    if s.len() <= at {
+        return Opening::NoBracket;
+    }
+    match s[at] {
+        b'[' => Opening::Opens(Bracket::List),
+        b'(' => Opening::Opens(Bracket::Tuple),
+        b's' => {
+            if starts_with(s, at, b"set[") {
+                return Opening::Opens(Bracket::Set);
+            }
+            Opening::NoBracket
+        }
+        b'm' => {
+            if starts_with(s, at, b"map[") {
+                return Opening::Opens(Bracket::Map);
+            }
+            Opening::NoBracket
+        }
+        _ => Opening::NoBracket,
+    }
 }
 
-// Whether a list closes at `at`.
-pub fn closes(s: &[u8], at: usize) -> bool
-    ensures { λ r. ⌜ r ≡ startsWith (bytes "]") (drop at (now (s .entry))) ⌝ }
+// Whether a bracket of this kind closes at `at`.
+pub fn closes(s: &[u8], at: usize, kind: Bracket) -> bool
+    ensures { λ r. ⌜ r ≡ startsWith (closer kind ∷ []) (drop at (now (s .entry))) ⌝ }
 {
-    starts_with(s, at, b"]")
+    at < s.len() && s[at] == kind.closer()
 }
 
-// Whether a list goes on at `at`, with another item.
+// Whether a bracket of this kind closes at `at` without an item, which a tuple may not.
+pub fn is_empty(s: &[u8], at: usize, kind: Bracket) -> bool
+    ensures { λ r. ⌜ r ≡ (mayBeEmpty kind && startsWith (closer kind ∷ []) (drop at (now (s .entry)))) ⌝ }
+{
+    kind.may_be_empty() && closes(s, at, kind)
+}
+
+// Whether a bracket goes on at `at`, with another item.
 pub fn goes_on(s: &[u8], at: usize) -> bool
     ensures { λ r. ⌜ r ≡ startsWith (bytes ",") (drop at (now (s .entry))) ⌝ }
 {
     starts_with(s, at, b",")
-}
-
-// Whether what stands around a word ends it before `at`.
-pub fn ends_item(s: &[u8], at: usize, around: Around) -> bool
-    requires { ⌜ at < length (now s) ⌝ }
-    ensures { λ r. ⌜ r ≡ elem (getD (now (s .entry)) at 0) (endersOf around) ⌝ }
-{
-    match around {
-        Around::Nothing => false,
-        Around::List => goes_on(s, at) || closes(s, at),
-    }
 }

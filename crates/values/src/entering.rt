@@ -1,15 +1,18 @@
 // Entering the items of a value that was read whole.
-// Document 01, "Entries": list items in depth-first order; refusal 11.
-use crate::brackets::Around;
-use crate::brackets::closes;
+// Document 01, "Entries": items in depth-first order; refusal 11; document 02, Five: a map's item has its key in the name cells.
+use crate::brackets::Opening;
 use crate::brackets::goes_on;
+use crate::brackets::is_empty;
 use crate::brackets::opens;
-use crate::judged::Judged;
-use crate::leaves::read_leaf;
+use crate::labels::Labelled;
+use crate::labels::read_label;
+use entries::Entry;
 use entries::Slot;
-use entries::nameless;
 use entries::put;
-use paper::forms;
+use leaves::judged::Judged;
+use leaves::read_leaf;
+use leaves::words::Around;
+use paper::brackets::Bracket;
 use paper::kinds;
 use text::nesting::Deeper;
 use text::nesting::Nesting;
@@ -17,11 +20,11 @@ use text::runs;
 use text::runs::Class;
 ghost use mathlib.Core.Path.{_≡_};
 ghost use mathlib.Core.List.{[]};
-ghost use Rattle.paper.specs.Limits.{listLimit};
+ghost use Rattle.paper.specs.Limits.{bracketLimit};
 ghost use Rattle.paper.specs.Values.{valueForm};
 ghost use Rattle.paper.specs.ReadingValues.{valueOf};
-ghost use Rattle.values.specs.Shown.{JudgesAt};
-ghost use Rattle.values.specs.Kinds.{endersOf};
+ghost use Rattle.leaves.specs.Shown.{JudgesAt};
+ghost use Rattle.leaves.specs.Kinds.{endersOf};
 ghost use Rattle.values.specs.Entering.{withoutItems, Ready, EntersValue, EntersItems};
 
 // A value whose items are entered: its form and end, how many entries its items took at any depth, and how many items are its own.
@@ -38,22 +41,22 @@ pub enum Entered {
     },
 }
 
-// Enters the items of a trait's whole value, which was read as `value`. What is no list was judged by that reading, and has none.
+// Enters the items of a trait's whole value, which was read as `value`. What holds no items was judged by that reading.
 pub fn enter_whole(s: &[u8], at: usize, value: Judged, cells: &mut [u32], slot: Slot) -> Entered
-    requires { ⌜ Ready (now s) at listLimit (now cells) slot × JudgesAt valueForm (valueOf listLimit []) (now s) at value ⌝ }
-    ensures { λ r. ⌜ EntersValue listLimit [] (now (s .entry)) at (now (cells .entry)) slot r (now (cells .exit)) ⌝ }
+    requires { ⌜ Ready (now s) at bracketLimit (now cells) slot × JudgesAt valueForm (valueOf bracketLimit []) (now s) at value ⌝ }
+    ensures { λ r. ⌜ EntersValue bracketLimit [] (now (s .entry)) at (now (cells .entry)) slot r (now (cells .exit)) ⌝ }
 {
-    if opens(s, at) {
-        return enter(
-            s,
-            at,
-            Nesting::new(Nesting::LISTS),
-            Around::Nothing,
-            cells,
-            slot,
-        );
-    }
-    without_items(value)
+    let Opening::Opens(_) = opens(s, at) else {
+        return without_items(value);
+    };
+    enter(
+        s,
+        at,
+        Nesting::new(Nesting::BRACKETS),
+        Around::Nothing,
+        cells,
+        slot,
+    )
 }
 
 // Enters the items of the value that stands at `at`, which was read without refusal.
@@ -68,25 +71,25 @@ fn enter(
     requires { ⌜ Ready (now s) at (nesting .left) (now cells) slot ⌝ }
     ensures { λ r. ⌜ EntersValue (nesting .left) (endersOf around) (now (s .entry)) at (now (cells .entry)) slot r (now (cells .exit)) ⌝ }
 {
-    if !opens(s, at) {
+    let Opening::Opens(kind) = opens(s, at) else {
         return without_items(read_leaf(s, at, around));
-    }
+    };
     let Deeper::Inside(fewer) = nesting.step() else {
         return Entered::Full { place: at };
     };
-    let first = at + 1;
-    if closes(s, first) {
+    let first = at + kind.opener_length();
+    if is_empty(s, first, kind) {
         return Entered::Items {
-            form: forms::LIST,
+            form: kind.form(),
             end: first + 1,
             made: 0,
             own: 0,
         };
     }
-    enter_items(s, first, fewer, cells, slot)
+    enter_items(s, first, kind, fewer, cells, slot)
 }
 
-// A value that is no list has no items; what was refused is never entered.
+// A value that begins with no bracket has no items; what was refused is never entered.
 fn without_items(read: Judged) -> Entered
     ensures { λ r. ⌜ r ≡ withoutItems read ⌝ }
 {
@@ -101,11 +104,19 @@ fn without_items(read: Judged) -> Entered
     }
 }
 
-// Enters the items of a list, the first of which stands at `at`, each before the items inside it.
-fn enter_items(s: &[u8], at: usize, nesting: Nesting, cells: &mut [u32], slot: Slot) -> Entered
+// Enters the items of a bracket, the first of which stands at `at`, each before the items inside it.
+fn enter_items(
+    s: &[u8],
+    at: usize,
+    kind: Bracket,
+    nesting: Nesting,
+    cells: &mut [u32],
+    slot: Slot,
+) -> Entered
     requires { ⌜ Ready (now s) at (nesting .left) (now cells) slot ⌝ }
-    ensures { λ r. ⌜ EntersItems (nesting .left) (now (s .entry)) at (now (cells .entry)) slot r (now (cells .exit)) ⌝ }
+    ensures { λ r. ⌜ EntersItems kind (nesting .left) (now (s .entry)) at (now (cells .entry)) slot r (now (cells .exit)) ⌝ }
 {
+    let around = Around::inside(kind);
     let mut i = at;
     let mut made = 0;
     let mut own = 0;
@@ -114,7 +125,11 @@ fn enter_items(s: &[u8], at: usize, nesting: Nesting, cells: &mut [u32], slot: S
         if next.is_full() {
             return Entered::Full { place: i };
         }
-        let item = enter(s, i, nesting, Around::List, cells, next.under());
+        // The labels of a value that was read are never refused.
+        let Labelled::Label { key, value } = read_label(s, i, kind) else {
+            return Entered::Full { place: at };
+        };
+        let item = enter(s, value, nesting, around, cells, next.under());
         let Entered::Items {
             form,
             end,
@@ -128,20 +143,22 @@ fn enter_items(s: &[u8], at: usize, nesting: Nesting, cells: &mut [u32], slot: S
         put(
             cells,
             n,
-            nameless(
-                kinds::ITEM,
+            Entry {
+                kind: kinds::ITEM,
                 form,
-                slot.parent,
-                count as u32,
-                i as u32,
-                end as u32,
-            ),
+                parent: slot.parent,
+                count: count as u32,
+                name_start: i as u32,
+                name_end: key as u32,
+                start: value as u32,
+                end: end as u32,
+            },
         );
         made += 1 + inside;
         own += 1;
         if !goes_on(s, end) {
             return Entered::Items {
-                form: forms::LIST,
+                form: kind.form(),
                 end: end + 1,
                 made,
                 own,

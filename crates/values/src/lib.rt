@@ -1,13 +1,6 @@
-// Values: strings, characters, backticks, words and lists, and entering the items of lists.
-// Document 01, "The grammar", Values; "Entries".
+// Values of every kind, those that hold items among them: reading one whole, and entering its items.
+// Document 01, "The grammar", Values; "Entries"; document 02, Five.
 mod brackets;
 pub mod entering;
-pub mod escapes;
-mod iris;
-pub mod judged;
-mod leaves;
-pub mod lists;
-mod numbers;
-pub mod plain;
-mod quoted;
-mod words;
+mod labels;
+pub mod reading;

@@ -24,7 +24,7 @@ use Rattle.printing.proofs.concepts.put_concept.Kinds as put-concept-ki
 use Rattle.printing.proofs.concepts.+put_body+put_concept.Lts-put_concept as put-concept-lts
 use Rattle.entries.proofs.get.Reads as get-reads
 use Rattle.printing.proofs.concepts.count_elements.Reads as count-elements-reads
-use Rattle.printing.proofs.concepts.name_of.Reads as name-of-reads
+use Rattle.printing.proofs.items.name_of.Reads as name-of-reads
 use Rattle.printing.proofs.concepts.put_between.Reads as put-between-reads
 use Rattle.printing.proofs.concepts.put_closing.Reads as put-closing-reads
 use Rattle.printing.proofs.content.put_content.Reads as put-content-reads

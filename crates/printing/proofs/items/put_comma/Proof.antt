@@ -1,6 +1,6 @@
 -- A comma and a space where items are left, else nothing. Assumes nothing.
 use borrow.Author.Needs.{needs}
-use Rattle.printing.proofs.Listing.{comma-put, comma-none}
+use Rattle.printing.proofs.ItemLaws.{comma-put, comma-none}
 use Rattle.printing.proofs.items.put_comma.Statement.{statement}
 use Rattle.printing.proofs.items.put_comma.Tie as tie
 

@@ -1,4 +1,4 @@
--- The invariant: all entries before are list items. The measure is how many entries are left in the cells. Assumes nothing.
+-- The invariant: all entries before are items. The measure is how many entries are left in the cells. Assumes nothing.
 use Prim.Native.Nat.{ℕ, _-_, _/_, _≤_, _<_}
 use mathlib.Core.Path.{_≡_, sym, _∙_}
 use native.Mathlib.Omega.{arith}

@@ -8,7 +8,7 @@ use native.Mathlib.Omega.{arith}
 use lib.ListN.{length}
 use borrow.Author.Needs.{needs}
 use Rattle.paper.specs.Entries.{entryCells, traitsSize}
-use Rattle.paper.specs.Limits.{listLimit, traitFits}
+use Rattle.paper.specs.Limits.{bracketLimit, traitFits}
 use Rattle.paper.specs.Grammar.{traitRule}
 use Rattle.paper.specs.Tree.{Trait}
 use Rattle.paper.specs.Names.{nameLimit}
@@ -23,7 +23,7 @@ use Rattle.printing.proofs.markers.put_traits.Tie as tie
 abbrev Inv-loop : tie.InvT-loop
 Inv-loop out₀ at s cells n below depth to₀ next₀ slash₀ out to next slash = (length out ≡ length out₀) × (n ≤ next) ×
     ((parent place : ℕ) (ts : List Trait) → OfTraits s cells n parent place ts → Ends cells (n + traitsSize ts) → all traitRule ts ≡ true
-    → all (traitFits nameLimit listLimit) ts ≡ true → Left s cells n ts below depth out₀ at next slash out to)
+    → all (traitFits nameLimit bracketLimit) ts ≡ true → Left s cells n ts below depth out₀ at next slash out to)
 
 abbrev μ-loop : tie.MeasureT-loop
 μ-loop out₀ at s cells n below depth to₀ next₀ slash₀ out to next slash = length cells / entryCells - next

@@ -5,7 +5,7 @@ use lib.ListN.{drop, length-drop}
 use borrow.Author.Needs.{needs}
 use Rattle.paper.specs.Bytes.{isHex}
 use Rattle.paper.proofs.Lists.{length-in}
-use Rattle.values.proofs.Escaping.{few-digits}
+use Rattle.leaves.proofs.Escaping.{few-digits}
 use Rattle.quoting.proofs.Spelling.{digits-put}
 use Rattle.quoting.proofs.quoted.put_spelt.Statement.{statement}
 use Rattle.quoting.proofs.quoted.put_spelt.Tie as tie
