@@ -19,7 +19,8 @@ static const char help[] =
     "        Content (1 line)\n"
     "          | Boot the machine.\n"
     "\n"
-    "Values are as they are spelt in the sheet, each with its form, a time with its kind.\n"
+    "Values are as they are spelt in the sheet, each with its form, a time with its kind,\n"
+    "an item of a map with its key.\n"
     "An annotation stands above its Concept.\n"
     "\n"
     "TABLE is a mode table or its text. No FILE, or `-`, is standard input.\n"
@@ -128,10 +129,15 @@ static const char *value_in_words(uint32_t form, struct part value)
     return form == CDX_TIME ? time_kind_in_words(cdx_time(value.bytes, value.length)) : value_form_in_words(form);
 }
 
+static bool has_items(uint32_t form)
+{
+    return form == CDX_LIST || form == CDX_SET || form == CDX_MAP || form == CDX_TUPLE;
+}
+
 static void print_valued(const struct sheet *sheet, uint32_t number, const uint32_t *entry)
 {
-    if (entry[CDX_FORM] == CDX_LIST) {
-        printf(" (list of %u)\n", entry[CDX_COUNT]);
+    if (has_items(entry[CDX_FORM])) {
+        printf(" (%s of %u)\n", value_form_in_words(entry[CDX_FORM]), entry[CDX_COUNT]);
         return;
     }
     struct part value = view(sheet, number);

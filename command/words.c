@@ -18,7 +18,7 @@ const char *refusal_in_words(uint32_t number)
         [CDX_DUE] = "something else was due here",
         [CDX_CLOSING_NAME] = "the open Concept has another name",
         [CDX_CUT] = "the sheet ends before its root is closed",
-        [CDX_TOO_DEEP] = "more than 32 Concepts, or 8 lists, in one another",
+        [CDX_TOO_DEEP] = "more than 32 Concepts, or 8 brackets, in one another",
         [CDX_NO_ENTRY_LEFT] = "more than 1,024 entries",
         [CDX_NO_ROOM] = "the canonical form has more than 16,384 bytes",
         [CDX_ROLL_TOO_LONG] = "the roll has more than 65,536 bytes",
@@ -54,6 +54,7 @@ const char *value_form_in_words(uint32_t form)
         [CDX_STRING] = "string",   [CDX_CHARACTER] = "character",   [CDX_BOOLEAN] = "boolean",   [CDX_INTEGER] = "integer",
         [CDX_DECIMAL] = "decimal", [CDX_SCIENTIFIC] = "scientific", [CDX_FRACTION] = "fraction", [CDX_PASCAL] = "$ word",
         [CDX_CAMEL] = "~ word",    [CDX_UUID] = "UUID",             [CDX_IRI] = "IRI",           [CDX_LIST] = "list",
+        [CDX_SET] = "set",         [CDX_MAP] = "map",               [CDX_TUPLE] = "tuple",
     };
     return words[form];
 }

@@ -20,7 +20,7 @@ extern "C" {
 #define CDX_MAX_SHEET 16384  /* bytes of a sheet */
 #define CDX_MAX_ENTRIES 1024 /* entries of a sheet */
 #define CDX_MAX_CONCEPTS 32  /* Concepts in one another, the root counting as one */
-#define CDX_MAX_LISTS 8      /* lists in one another, the outermost counting as one */
+#define CDX_MAX_BRACKETS 8   /* lists, sets, maps and tuples in one another, the outermost counting as one */
 #define CDX_MAX_NAME 32      /* bytes of a name */
 #define CDX_MAX_SECTION 64   /* names in each of the two sections of a mode table */
 #define CDX_MAX_ROLL 65536   /* bytes of a roll */
@@ -44,7 +44,7 @@ enum cdx_number {
     CDX_DUE = 7,              /* something else was due here */
     CDX_CLOSING_NAME = 8,     /* a closing marker has another name than the open Concept */
     CDX_CUT = 9,              /* the input ends before the root is closed */
-    CDX_TOO_DEEP = 10,        /* more than CDX_MAX_CONCEPTS Concepts or CDX_MAX_LISTS lists in one another */
+    CDX_TOO_DEEP = 10,        /* more than CDX_MAX_CONCEPTS Concepts, or CDX_MAX_BRACKETS lists, sets, maps and tuples, in one another */
     CDX_NO_ENTRY_LEFT = 11,   /* more entries than CDX_MAX_ENTRIES, or than there are cells lent for */
     CDX_NO_ROOM = 12,         /* the canonical form has more than CDX_MAX_SHEET bytes, or than there is room lent for */
     CDX_ROLL_TOO_LONG = 13,   /* the roll has more than CDX_MAX_ROLL bytes */
@@ -65,9 +65,9 @@ enum cdx_cell {
     CDX_FORM = 1,       /* of a Concept: enum cdx_concept_form; of a trait or an item: enum cdx_value_form; else 0 */
     CDX_PARENT = 2,     /* the number of the entry that this one belongs to, or CDX_TOP */
     CDX_COUNT = 3,      /* how many entries name this one as parent */
-    CDX_NAME_START = 4, /* where its name starts and ends in the sheet; */
+    CDX_NAME_START = 4, /* where its name starts and ends in the sheet, of an item of a map its key, quotes and all; */
     CDX_NAME_END = 5,   /*   without a name both are the start of the span */
-    CDX_SPAN_START = 6, /* where its span starts in the sheet, */
+    CDX_SPAN_START = 6, /* where its span starts in the sheet, which of a trait and an item is its value, */
     CDX_SPAN_END = 7    /*   and the place behind its last byte */
 };
 
@@ -91,7 +91,10 @@ enum cdx_value_form {
     CDX_UUID = 10,
     CDX_IRI = 11,
     CDX_LIST = 12,
-    CDX_TIME = 13 /* in braces; cdx_time tells its kind */
+    CDX_TIME = 13, /* in braces; cdx_time tells its kind */
+    CDX_SET = 14,
+    CDX_MAP = 15, /* each item has a key, which is its name */
+    CDX_TUPLE = 16
 };
 
 /* The kinds of a time. */

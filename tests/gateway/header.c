@@ -106,12 +106,34 @@ static void add_concepts(size_t past)
     add("</Lab>\n", CDX_MAX_CONCEPTS + past - 1);
 }
 
-static void add_lists(size_t past)
+/* Lists in one another, and in the innermost another bracket, which counts as one. */
+static void add_brackets(const char *innermost, size_t past)
 {
     add("<Lab n=", 1);
-    add("[", CDX_MAX_LISTS + past);
-    add("]", CDX_MAX_LISTS + past);
+    add("[", CDX_MAX_BRACKETS + past - 1);
+    add(innermost, 1);
+    add("]", CDX_MAX_BRACKETS + past - 1);
     add("/>", 1);
+}
+
+static void add_lists(size_t past)
+{
+    add_brackets("[]", past);
+}
+
+static void add_sets(size_t past)
+{
+    add_brackets("set[]", past);
+}
+
+static void add_maps(size_t past)
+{
+    add_brackets("map[]", past);
+}
+
+static void add_tuples(size_t past)
+{
+    add_brackets("(1)", past);
 }
 
 static void add_name(size_t past)
@@ -141,7 +163,10 @@ static void try_limits(void)
     } limits[] = {{add_sheet, CDX_SHEET_TOO_LONG, "CDX_MAX_SHEET"},
                   {add_entries, CDX_NO_ENTRY_LEFT, "CDX_MAX_ENTRIES"},
                   {add_concepts, CDX_TOO_DEEP, "CDX_MAX_CONCEPTS"},
-                  {add_lists, CDX_TOO_DEEP, "CDX_MAX_LISTS"},
+                  {add_lists, CDX_TOO_DEEP, "CDX_MAX_BRACKETS of lists"},
+                  {add_sets, CDX_TOO_DEEP, "CDX_MAX_BRACKETS of sets"},
+                  {add_maps, CDX_TOO_DEEP, "CDX_MAX_BRACKETS of maps"},
+                  {add_tuples, CDX_TOO_DEEP, "CDX_MAX_BRACKETS of tuples"},
                   {add_name, CDX_NAME, "CDX_MAX_NAME"}};
     for (size_t at = 0; at < sizeof limits / sizeof *limits; at++) {
         limits[at].add(0);
@@ -254,23 +279,35 @@ static void entry_is(size_t number, enum cdx_kind kind, unsigned form, uint32_t 
         wrong("the ends of an entry's name and span", entry[CDX_NAME_END], entry[CDX_SPAN_END]);
 }
 
+/* The length of such an entry's name. */
+static void name_is(size_t number, size_t due)
+{
+    const uint32_t *entry = cells + number * CDX_CELLS;
+    if (entry[CDX_NAME_END] - entry[CDX_NAME_START] != due)
+        wrong("the length of a name", (unsigned)due, entry[CDX_NAME_END] - entry[CDX_NAME_START]);
+}
+
 static void try_entries(void)
 {
-    add("[a]\n<Lab a=\"\" b='b' c=true d=4 e=0.5 f=6e6 g=7/7 h=$H i=~i j=00000000-0000-0000-0000-000000000000 k=k: l={now} m=[12]>\n", 1);
-    add("<Lab/>\n<Steps>\n</Steps>\n</Lab>", 1);
+    add("[a]\n<Lab a=\"\" b='b' c=true d=4 e=0.5 f=6e6 g=7/7 h=$H i=~i j=00000000-0000-0000-0000-000000000000 k=k: l={now}\n", 1);
+    add("m=[12] n=set[14] o=map[key:15] p=(16)>\n<Lab/>\n<Steps>\n</Steps>\n</Lab>", 1);
     sheet_is(CDX_OK, "a sheet with every kind and form");
     entry_is(0, CDX_ANNOTATION, 0, CDX_TOP, 0);
-    entry_is(1, CDX_CONCEPT, CDX_CHILDREN, CDX_TOP, 15);
+    entry_is(1, CDX_CONCEPT, CDX_CHILDREN, CDX_TOP, 18);
     static const enum cdx_value_form forms[] = {CDX_STRING, CDX_CHARACTER, CDX_BOOLEAN, CDX_INTEGER, CDX_DECIMAL, CDX_SCIENTIFIC,
                                                 CDX_FRACTION, CDX_PASCAL, CDX_CAMEL, CDX_UUID, CDX_IRI, CDX_TIME};
     size_t at = 2;
     for (; at < 2 + sizeof forms / sizeof *forms; at++)
         entry_is(at, CDX_TRAIT, forms[at - 2], 1, 0);
-    entry_is(at, CDX_TRAIT, CDX_LIST, 1, 1);
-    entry_is(at + 1, CDX_ITEM, CDX_INTEGER, (uint32_t)at, 0);
-    entry_is(at + 2, CDX_CONCEPT, CDX_SELF_CLOSED, 1, 0);
-    entry_is(at + 3, CDX_CONCEPT, CDX_HAS_CONTENT, 1, 1);
-    entry_is(at + 4, CDX_CONTENT, 0, (uint32_t)at + 3, 0);
+    static const enum cdx_value_form brackets[] = {CDX_LIST, CDX_SET, CDX_MAP, CDX_TUPLE};
+    for (size_t kind = 0; kind < sizeof brackets / sizeof *brackets; kind++, at += 2) {
+        entry_is(at, CDX_TRAIT, brackets[kind], 1, 1);
+        entry_is(at + 1, CDX_ITEM, CDX_INTEGER, (uint32_t)at, 0);
+        name_is(at + 1, brackets[kind] == CDX_MAP ? strlen("key") : 0);
+    }
+    entry_is(at, CDX_CONCEPT, CDX_SELF_CLOSED, 1, 0);
+    entry_is(at + 1, CDX_CONCEPT, CDX_HAS_CONTENT, 1, 1);
+    entry_is(at + 2, CDX_CONTENT, 0, (uint32_t)at + 1, 0);
 }
 
 static void try_times(void)
