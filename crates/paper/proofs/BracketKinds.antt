@@ -1,4 +1,5 @@
 -- Brackets: what is known of each kind, so that the facts about items and separators are proved once over the kind. Assumes nothing.
+-- Document 02, Five; 001 §19 to §22.
 use Prim.Native.Nat.{ℕ, _≤_, _<_}
 use mathlib.Core.Path.{_≡_, refl, sym, ap, _∙_, subst}
 use mathlib.Core.Bool.{Bool, true, false, not, _&&_, _||_}

@@ -1,4 +1,5 @@
--- Labels: what stands before an item, a map's key or nothing. What is read of one is what is spelt. Document 02, Five. Assumes nothing.
+-- Labels: what stands before an item, a map's key or nothing. What is read of one is what is spelt. Assumes nothing.
+-- Document 02, Five; 001 §21.
 use Prim.Native.Nat.{ℕ}
 use mathlib.Core.Path.{_≡_, refl, sym, ap, _∙_, subst}
 use mathlib.Core.Bool.{Bool, true, false, not, _&&_}
@@ -39,6 +40,15 @@ label-append (label key white) next =
     ∙ sym (append-assoc (keyOnto key []) (byte ":" ∷ white) next)
     ∙ ap (λ (l : List ℕ). l ++ next) (sym (key-append key (byte ":" ∷ white)) ∙ ap (λ (w : List ℕ). keyOnto key (byte ":" ∷ w)) (sym (append-nil white)))
 
+-- the rule of a label that has a key, taken apart
+pub label-parts : (k : Bracket) (key : Key) (white : List ℕ) → labelRule k (label key white) ≡ true
+    → (keyed k ≡ true) × (keyRule (keyEnders k) key ≡ true) × (all isWhite white ≡ true)
+unfolding labelRule
+label-parts k key white r =
+    let h = both (keyed k && keyRule (keyEnders k) key) (all isWhite white) r in
+    let g = both (keyed k) (keyRule (keyEnders k) key) (h .0) in
+    (g .0, g .1, h .1)
+
 -- ---- what is read
 
 pub record ReadKey (also s : List ℕ) (key : Key) (left : List ℕ) : Type 0 where
@@ -49,7 +59,8 @@ pub record ReadLabel (k : Bracket) (s : List ℕ) (a : Label) (left : List ℕ) 
   pub covers : s ≡ labelOnto a left
   pub rule : labelRule k a ≡ true
 
-key-form : (form : ℕ) → isKeyForm form ≡ true → leb 1 form ≡ true
+-- a form that a key may have is one
+pub key-form : (form : ℕ) → isKeyForm form ≡ true → leb 1 form ≡ true
 unfolding isKeyForm
 key-form form e = either (eqb form 4) (eqb form 8) e (λ f. rw (eqb-true form 4 f)) (λ f. rw (eqb-true form 8 f))
 
@@ -62,7 +73,8 @@ word-reads also s w (b ∷ l) c h =
     (λ f. rw (e, keyWord, f, Reads) (tail-of w c, record { covers = c; rule = and f (and (and (eq-eqb (wordForm w) (wordForm w) refl) (key-form (wordForm w) f)) (h .plain)) }))
     (λ f. rw (e, keyWord, f, Reads) (faults 6 (omega arith) whole)))
 
-abbrev quotes : List ℕ
+-- what strings and characters stand between
+abbrev pub quotes : List ℕ
 quotes = bytes "\"'"
 
 no-quote : (b : ℕ) → without beginsNoWord b ≡ true → without quotes b ≡ true
@@ -174,7 +186,7 @@ pub label-begins : (k : Bracket) (a : Label) (next : List ℕ) → labelRule k a
     → startsIn (without beginsNone) (labelOnto a next) ≡ true
 unfolding labelOnto labelRule
 label-begins k noLabel next r e = e
-label-begins k (label key white) next r e = key-begins (keyEnders k) key _ (both (keyed k) _ (both (keyed k && keyRule (keyEnders k) key) _ r .0) .1)
+label-begins k (label key white) next r e = key-begins (keyEnders k) key _ (label-parts k key white r .1)
 
 -- ---- a spelt label is read back
 
@@ -267,6 +279,5 @@ pub label-back : (k : Bracket) (a : Label) (next : List ℕ) → labelRule k a �
 unfolding labelOf labelOnto labelRule colon
 label-back k noLabel next r e = rw (not-true (keyed k) r, labelOf) refl
 label-back k (label key white) next r e =
-    let h = both (keyed k && keyRule (keyEnders k) key) (all isWhite white) r in
-    let g = both (keyed k) (keyRule (keyEnders k) key) (h .0) in
-    rw (g .0, labelOf) (rw (key-back k key (white ++ next) (g .1)) (rw (front-of isWhite white next (h .1) e, behind-of isWhite white next (h .1) e) refl))
+    let p = label-parts k key white r in
+    rw (p .0, labelOf) (rw (key-back k key (white ++ next) (p .1)) (rw (front-of isWhite white next (p .2) e, behind-of isWhite white next (p .2) e) refl))

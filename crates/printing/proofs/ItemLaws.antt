@@ -2,7 +2,7 @@
 -- Document 01, "Canonical form"; document 02, Five. Assumes nothing.
 use Prim.Native.Nat.{ℕ, _+_, _-_, _≤_, _<_}
 use mathlib.Core.Path.{_≡_, refl, sym, ap, _∙_, subst}
-use mathlib.Core.Bool.{true, false, not, _&&_}
+use mathlib.Core.Bool.{true, false, not}
 use mathlib.Core.List.{List, [], _∷_, _++_}
 use native.Mathlib.Omega.{arith}
 use lib.ListN.{length, take, drop}
@@ -12,18 +12,18 @@ use borrow.Author.Tests.{lt-ltb}
 use Rattle.paper.specs.declared.brackets.Bracket.{Bracket}
 use Rattle.paper.specs.Found.{pick}
 use Rattle.paper.specs.Bytes.{byte, space, isWhite, all}
-use Rattle.paper.specs.Values.{Leaf, string, character, backtick, word, temporal, leafForm, leafRule, opener, closer, bracketForm, keyed, enders, keyEnders, Key}
-use Rattle.paper.specs.Values.{keyOnto, keyRule, Label, noLabel, label, labelOnto, labelRule, Value, leaf, emptyBracket, bracket, More, close, comma, valueOnto, moreOnto}
+use Rattle.paper.specs.Values.{Leaf, string, character, backtick, word, temporal, leafForm, leafRule, opener, closer, bracketForm, keyed, enders, keyEnders}
+use Rattle.paper.specs.Values.{keyOnto, Label, noLabel, label, labelOnto, labelRule, Value, leaf, emptyBracket, bracket, More, close, comma, valueOnto, moreOnto}
 use Rattle.paper.specs.Values.{spelling, valueForm, valueRule, moreRule, bracketDepth, moreDepth}
 use Rattle.paper.specs.Entries.{Entry, labelWidth, itemEntry, itemEntries, moreEntries, itemsOf, moreItems, itemSize, moreSize, valueWidth}
 use Rattle.paper.specs.Canonical.{ItemsSense, none, item, labelSense, valueSense, moreSense, printLabel, printValue, printItems, printBehind}
 use Rattle.paper.proofs.Tests.{true-false}
-use Rattle.paper.proofs.Lists.{both}
 use Rattle.paper.proofs.Sizes.{item-size}
 use Rattle.paper.proofs.Fronts.{past-bytes}
 use Rattle.paper.proofs.BracketKinds.{opener-some}
-use Rattle.paper.proofs.Labels.{key-append, label-append}
+use Rattle.paper.proofs.Labels.{key-append, label-append, label-parts}
 use Rattle.paper.proofs.ReadValues.{value-append}
+use Rattle.paper.proofs.Concepts.{element-parts}
 use Rattle.text.proofs.Places.{front-behind}
 use Rattle.entries.specs.Laid.{entryAt}
 use Rattle.quoting.specs.Page.{page, Puts}
@@ -104,10 +104,6 @@ module _ (s cells : List ℕ) (n parent at : ℕ) (a : Label) (v : Value) (o : O
     stand = o .stand;
   }
 
-key-rules : (k : Bracket) (key : Key) (white : List ℕ) → labelRule k (label key white) ≡ true → (keyed k ≡ true) × (keyRule (keyEnders k) key ≡ true)
-unfolding labelRule
-key-rules k key white r = both (keyed k) (keyRule (keyEnders k) key) (both (keyed k && keyRule (keyEnders k) key) (all isWhite white) r .0)
-
 module _ (s cells : List ℕ) (n : ℕ) (k : Bracket) where
   -- a map's item has a key, which its entry names
   pub label-put : keyed k ≡ true → (e : Entry) → e ≡ entryAt cells n → (w : List ℕ) → w ≡ take (e .nameEnd - e .nameStart) (drop (e .nameStart) s)
@@ -118,13 +114,13 @@ module _ (s cells : List ℕ) (n : ℕ) (k : Bracket) where
       let own = g ∙ stand-entry cells n _ _ (o .stand) in
       let front = key-append key (byte ":" ∷ (white ++ valueOnto v (o .after))) in
       let spelt = part-is s at (at + length (keyOnto key [])) (keyOnto key []) _ (o .spelt ∙ front) refl in
-      p (keyEnders k) key (q ∙ ap (λ (x : Entry). take (x .nameEnd - x .nameStart) (drop (x .nameStart) s)) own ∙ spelt) (key-rules k key white r .1)
+      p (keyEnders k) key (q ∙ ap (λ (x : Entry). take (x .nameEnd - x .nameStart) (drop (x .nameStart) s)) own ∙ spelt) (label-parts k key white r .1)
 
   -- any other has none
   pub label-none : keyed k ≡ false → {out : List ℕ} {at : ℕ} → ItemLabelPut s cells n k out at out at
   unfolding labelSense printLabel
   label-none y parent at noLabel v o r = record { same = λ next. refl }
-  label-none y parent at (label key white) v o r = true-false (sym (key-rules k key white r .0) ∙ y)
+  label-none y parent at (label key white) v o r = true-false (sym (label-parts k key white r .0) ∙ y)
 
 -- ---- the items of a bracket
 
@@ -277,10 +273,9 @@ module _ (s cells : List ℕ) (k : Bracket) (n brackets : ℕ) (whole : Value) (
         } in
         let it = item-value s cells next n place a v o in
         let ended = past-bytes s value (spelling v) (moreOnto k more after) (it .spelt ∙ value-append v (moreOnto k more after)) in
-        let rules = both (all isWhite white && labelRule k a && valueRule (enders k) v) (moreRule k more) r in
-        let own-rules = both (all isWhite white && labelRule k a) (valueRule (enders k) v) (rules .0) in
-        let labelled = p n place a v o (both (all isWhite white) (labelRule k a) (own-rules .0) .1) in
-        let got = f (enders k) v it (own-rules .1) (omega arith) in
+        let rules = element-parts (all isWhite white) (labelRule k a) (valueRule (enders k) v) (moreRule k more) r in
+        let labelled = p n place a v o (rules .1) in
+        let got = f (enders k) v it (rules .2) (omega arith) in
         let size = item-size v next (next + 1) value in
         let there : next + length (own ∷ items) ≡ next + 1 + itemSize v = omega arith in
         let few : left - 1 ≡ moreItems more = omega arith in
@@ -292,7 +287,7 @@ module _ (s cells : List ℕ) (k : Bracket) (n brackets : ℕ) (whole : Value) (
           spelt = sym (drop-drop 1 (value + valueWidth v) s) ∙ ap (drop 1) ended;
           few = few;
           flat = omega arith;
-          rule = rules .1;
+          rule = rules .3;
           total = omega (arith, got .0);
           same = λ x.
               m x

@@ -1,4 +1,5 @@
--- Maps' keys put, by their first byte. Document 01, "Canonical form"; document 02, Five. Assumes nothing.
+-- Maps' keys put, by their first byte. Assumes nothing.
+-- Document 01, "Canonical form"; document 02, Five.
 use Prim.Native.Nat.{ℕ}
 use mathlib.Core.Path.{_≡_, refl, sym, _∙_}
 use mathlib.Core.Bool.{Bool, true, false, not}
@@ -14,12 +15,9 @@ use Rattle.paper.proofs.Tests.{true-false, apart}
 use Rattle.paper.proofs.Lists.{both, all-among, without, starts-append, starts-is, starts-not}
 use Rattle.paper.proofs.WordKinds.{beginsNoWord, word-begins}
 use Rattle.paper.proofs.Leaves.{word-rule}
+use Rattle.paper.proofs.Labels.{quotes}
 use Rattle.quoting.specs.Page.{Puts}
 use Rattle.quoting.specs.Leaves.{KeyPut}
-
--- what strings and characters stand between
-abbrev quotes : List ℕ
-quotes = bytes "\"'"
 
 -- a key that begins with a quote stands between two of it
 module _ (w : List ℕ) (quote : ℕ) (is : elem quote quotes ≡ true) (s : startsWith (quote ∷ []) (drop 0 w) ≡ true) where

@@ -8,15 +8,17 @@ use native.Mathlib.Nat.{add-zero}
 use native.Mathlib.Omega.{arith}
 use lib.ListN.{length, getD, take, drop, length-drop}
 use lib.Seq.{drop-drop}
-use lib.Dec.{eqb, ltb}
-use borrow.Author.Tests.{ltb-true, lt-ltb, le-ltb}
+use lib.Dec.{ltb}
+use borrow.Author.Tests.{ltb-true, lt-ltb, le-ltb, not-true}
+use Rattle.paper.specs.declared.brackets.Bracket.{Bracket}
 use Rattle.paper.specs.Found.{pick}
-use Rattle.paper.specs.Bytes.{byte, isUpper, isLower, isDigit, isLetter, isNameByte, isWhite, isBlank, isLineEnd, all, elem, startsIn, lengthIn}
+use Rattle.paper.specs.Bytes.{byte, isUpper, isLower, isDigit, isLetter, isNameByte, all, startsIn, lengthIn}
 use Rattle.paper.specs.Values.{isEnder, endsWord, isBare}
 use Rattle.paper.specs.ReadingValues.{wordLength}
 use Rattle.paper.proofs.Tests.{split, true-false, apart, or-left, or-right}
 use Rattle.paper.proofs.Lists.{both}
 use Rattle.paper.proofs.Words.{word-ends, word-goes-on}
+use Rattle.paper.proofs.Labels.{name-key-plain}
 use Rattle.text.proofs.Places.{here}
 use Rattle.leaves.specs.declared.words.Around.{Around}
 use Rattle.leaves.specs.Kinds.{endersOf}
@@ -29,20 +31,8 @@ also = endersOf Around.Key
 
 -- no letter and no digit ends one
 name-goes-on : (b : ℕ) (l : List ℕ) → isNameByte b ≡ true → endsWord also (b ∷ l) ≡ false
-unfolding endsWord isEnder isWhite isBlank isLineEnd elem isNameByte isLetter isUpper isLower isDigit
-name-goes-on b l e =
-    let other : (c : ℕ) → isNameByte c ≡ false → eqb b c ≡ false = λ c. apart isNameByte b c e in
-    rw (
-      other (byte " ") refl,
-      other (byte "\t") refl,
-      other (byte "\n") refl,
-      other (byte "\r") refl,
-      other (byte ">") refl,
-      other (byte ":") refl,
-      other (byte ",") refl,
-      other (byte "]") refl,
-      other (byte "/") refl,
-    )
+unfolding endsWord isNameByte isLetter isUpper isLower isDigit
+name-goes-on b l e = rw (endsWord, not-true (isEnder also b) (name-key-plain Bracket.Map b e), apart isNameByte b (byte "/") e refl)
 
 -- so a word goes on behind its letters and digits
 word-on : (t : List ℕ) → wordLength also t ≡ lengthIn isNameByte t + wordLength also (drop (lengthIn isNameByte t) t)
@@ -95,8 +85,8 @@ module _ (s : List ℕ) (at : ℕ) (h : at < length s) where
 
     pub bare-cut : end ≡ length s → at ≡ at + bareLength also (drop at s)
     bare-cut z =
-        none-bare (drop at s) at
-        (rw (le-ltb (wordLength also (drop at s)) (length (drop at s)) (omega (arith, word-to, length-drop at s))) (and-false (isBare (take (wordLength also (drop at s)) (drop at s)))))
+        let n = wordLength also (drop at s) in
+        none-bare (drop at s) at (rw (le-ltb n (length (drop at s)) (omega (arith, word-to, length-drop at s))) (and-false (isBare (take n (drop at s)))))
 
     pub bare-more : end < length s → endsWord also (drop end s) ≡ false → at ≡ at + bareLength also (drop at s)
     unfolding isBare
@@ -113,9 +103,11 @@ module _ (s : List ℕ) (at : ℕ) (h : at < length s) where
     pub bare-whole : end < length s → endsWord also (drop end s) ≡ true → end ≡ at + bareLength also (drop at s)
     unfolding bareLength isBare
     bare-whole k n =
-        let is : wordLength also (drop at s) ≡ lengthIn isNameByte (drop at s) = word-to ∙ rw (word-ends also (drop end s) n) (add-zero _) in
-        let starts : startsIn isLower (take (lengthIn isNameByte (drop at s)) (drop at s)) ≡ true = rw (here s at h) (bare-starts (getD s at 0) (drop (at + 1) s) e) in
-        rw (is, all-front isNameByte (lengthIn isNameByte (drop at s)) (drop at s) (omega arith), starts, lt-ltb (lengthIn isNameByte (drop at s)) (length (drop at s)) (omega (arith, length-drop at s))) run
+        let m = lengthIn isNameByte (drop at s) in
+        let is : wordLength also (drop at s) ≡ m = word-to ∙ rw (word-ends also (drop end s) n) (add-zero _) in
+        let starts : startsIn isLower (take m (drop at s)) ≡ true = rw (here s at h) (bare-starts (getD s at 0) (drop (at + 1) s) e) in
+        let short : ltb m (length (drop at s)) ≡ true = lt-ltb m (length (drop at s)) (omega (arith, length-drop at s)) in
+        rw (is, all-front isNameByte m (drop at s) (omega arith), starts, short) run
 
 -- ---- what that place tells of the word
 
@@ -149,5 +141,7 @@ module _ (s : List ℕ) (at end : ℕ) (is : end ≡ at + bareLength also (drop 
   pub not-bare : end ≤ at → wordLength also (drop at s) < length (drop at s) → isBare (take (wordLength also (drop at s)) (drop at s)) ≡ false
   unfolding bareLength
   not-bare h k =
-      split (isBare (take (wordLength also (drop at s)) (drop at s)))
-      (λ e. absurd (omega (arith, rw (bareLength, e, lt-ltb (wordLength also (drop at s)) (length (drop at s)) k) at is, bare-some (wordLength also (drop at s)) (drop at s) e))) (λ e. e)
+      let n = wordLength also (drop at s) in
+      split (isBare (take n (drop at s)))
+      (λ e. absurd (omega (arith, rw (bareLength, e, lt-ltb n (length (drop at s)) k) at is, bare-some n (drop at s) e)))
+      (λ e. e)

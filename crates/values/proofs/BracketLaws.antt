@@ -1,4 +1,5 @@
 -- Values at a place: no bracket, one too many, one without items, items, and what stands behind an item. Over plain lists. Assumes nothing.
+-- Document 01, "The grammar", Values; document 02, Five.
 use Prim.Native.Nat.{ℕ, suc, _+_, _-_, _*_, _≤_, _<_}
 use mathlib.Core.Path.{_≡_, refl, sym, ap, _∙_}
 use mathlib.Core.Bool.{true, false}

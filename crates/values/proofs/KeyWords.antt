@@ -7,18 +7,19 @@ use mathlib.Core.List.{List, [], _∷_}
 use native.Mathlib.Omega.{arith}
 use lib.ListN.{length, getD, take, drop, length-drop, drop-of-length-le}
 use lib.Dec.{eqb}
-use borrow.Author.Tests.{eqb-true, eqb-false, eq-eqb, ne-eqb}
+use borrow.Author.Tests.{eqb-true, eqb-false, eq-eqb, ne-eqb, leb-true}
 use Rattle.paper.specs.declared.Refusal.{Refusal}
 use Rattle.paper.specs.declared.Refusal.the-variants.{Value, Cut}
 use Rattle.paper.specs.Found.{Found, found, fault, pick}
 use Rattle.paper.specs.Bytes.{byte, bytes, isLower, isWhite, isBlank, isLineEnd, elem, all, startsIn, lengthIn, is}
 use Rattle.paper.specs.Values.{isEnder, endsWord, wordForm, Leaf, word, leafForm, Key, bareKey, leafKey, isBare, isKeyForm}
 use Rattle.paper.specs.ReadingValues.{wordLength, wordOf, wordLeaf, leafOf, firstOf, other, keyWord}
-use Rattle.paper.proofs.Tests.{split, true-false, either}
+use Rattle.paper.proofs.Tests.{split, true-false}
 use Rattle.paper.proofs.Lists.{elem-apart, elem-more, without}
 use Rattle.paper.proofs.Words.{word-ends, word-goes-on}
 use Rattle.paper.proofs.WordKinds.{word-begins, beginsNoLeaf, beginsNoWord}
 use Rattle.paper.proofs.Leaves.{ReadLeaf, leaf-reads, leaf-word, byFirst}
+use Rattle.paper.proofs.Labels.{key-form}
 use Rattle.text.proofs.Places.{here}
 use Rattle.leaves.specs.declared.judged.Judged.{Judged}
 use Rattle.leaves.specs.Shown.{Shown, shown, shownOf, Judges}
@@ -101,33 +102,29 @@ module _ (s : List ℕ) (at end : ℕ) (is : end ≡ at + bareLength also (drop 
       (key-told s at end (b .run) (b .inside) ∙ rw (keyWord, b .name) (ap (found (bareKey (take (end - at) (drop at s)))) (sym (here s end (b .inside)))))
 
 -- what a quote or a brace begins is no key as a word
-abbrev quotes : List ℕ
-quotes = bytes "\"'`{"
+abbrev marks : List ℕ
+marks = bytes "\"'`{"
 
 word-fits : (t : List ℕ) → wordLength also t ≤ length t
 unfolding wordLength
 word-fits [] = omega arith
 word-fits (b ∷ l) = split (endsWord also (b ∷ l)) (λ e. rw (e, wordLength) (omega arith)) (λ e. rw (e, wordLength) (omega (arith, word-fits l)))
 
-quote-lower : (b : ℕ) → elem b quotes ≡ true → isLower b ≡ false
+quote-lower : (b : ℕ) → elem b marks ≡ true → isLower b ≡ false
 unfolding isLower all
-quote-lower b q = split (isLower b) (λ e. true-false (sym q ∙ elem-apart isLower b quotes e refl)) (λ e. e)
+quote-lower b q = split (isLower b) (λ e. true-false (sym q ∙ elem-apart isLower b marks e refl)) (λ e. e)
 
--- a form that a key may have is one
-key-some : (form : ℕ) → isKeyForm form ≡ true → 1 ≤ form
-unfolding isKeyForm
-key-some form e = either (eqb form 4) (eqb form 8) e (λ f. omega (arith, eqb-true form 4 f)) (λ f. omega (arith, eqb-true form 8 f))
-
-quote-form : (n b : ℕ) (l : List ℕ) → elem b quotes ≡ true → isKeyForm (wordForm (take n (b ∷ l))) ≡ false
+quote-form : (n b : ℕ) (l : List ℕ) → elem b marks ≡ true → isKeyForm (wordForm (take n (b ∷ l))) ≡ false
 unfolding startsIn
 quote-form n b l q =
-    split (isKeyForm (wordForm (take n (b ∷ l)))) (λ e. begun n (word-begins (take n (b ∷ l)) (key-some (wordForm (take n (b ∷ l))) e))) (λ e. e)
+    let form = wordForm (take n (b ∷ l)) in
+    split (isKeyForm form) (λ e. begun n (word-begins (take n (b ∷ l)) (leb-true 1 form (key-form form e)))) (λ e. e)
   where
     begun : {X : Type 0} (n : ℕ) → startsIn (without beginsNoWord) (take n (b ∷ l)) ≡ true → X
     begun zero e = true-false (sym e)
-    begun (suc n) e = true-false (sym e ∙ ap not (elem-more b quotes beginsNoLeaf q))
+    begun (suc n) e = true-false (sym e ∙ ap not (elem-more b marks beginsNoLeaf q))
 
-pub no-key : (s : List ℕ) (at : ℕ) → at < length s → elem (getD s at 0) quotes ≡ true → (r : Judged) → r ≡ noKey also s at
+pub no-key : (s : List ℕ) (at : ℕ) → at < length s → elem (getD s at 0) marks ≡ true → (r : Judged) → r ≡ noKey also s at
     → Judges keyForm s at (wordKey also (drop at s)) r
 unfolding keyWord
 no-key s at h q r e =
@@ -160,12 +157,12 @@ unfolding isKeyForm
 same-key s start (found v left) e = rw e
 same-key s start (fault n left) e = refl
 
-module _ (s : List ℕ) (at : ℕ) (h : at < length s) (q : elem (getD s at 0) quotes ≡ false) (end : ℕ) (is : end ≡ at + bareLength also (drop at s))
+module _ (s : List ℕ) (at : ℕ) (h : at < length s) (q : elem (getD s at 0) marks ≡ false) (end : ℕ) (is : end ≡ at + bareLength also (drop at s))
     (n : end ≤ at) where
   key-as : wordKey also (drop at s) ≡ keyFound (drop at s) (leafOf also (drop at s))
   unfolding elem
   key-as =
-      let not : (c : ℕ) → elem c quotes ≡ true → getD s at 0 ≡ c → firstOf (getD s at 0) ≡ other = λ c y p. true-false (sym y ∙ rw p at q) in
+      let not : (c : ℕ) → elem c marks ≡ true → getD s at 0 ≡ c → firstOf (getD s at 0) ≡ other = λ c y p. true-false (sym y ∙ rw p at q) in
       let o : firstOf (getD s at 0) ≡ other =
       byFirst (getD s at 0) (not (byte "\"") refl) (not (byte "'") refl) (not (byte "`") refl) (not (byte "{") refl) (λ f. f) in
       let l : leafOf also (drop at s) ≡ wordLeaf also (drop at s) = rw (here s at h) (leaf-word also (drop (at + 1) s) (getD s at 0) o) in

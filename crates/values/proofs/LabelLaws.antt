@@ -1,4 +1,5 @@
 -- Labels at a place: what an answer tells of one, where it stands, and a refusal. Over plain lists. Assumes nothing.
+-- Document 02, Five; 001 §21.
 use Prim.Native.Nat.{ℕ, _+_, _≤_}
 use mathlib.Core.Path.{_≡_, sym, ap, _∙_, subst}
 use mathlib.Core.Bool.{true}

@@ -45,7 +45,7 @@ pub fn read_label(s: &[u8], at: usize, kind: Bracket) -> Labelled
     read_keyed(s, at)
 }
 
-// The same where the key does not matter.
+// The same where the key does not matter. Reading asks this of each item; one place is a cheaper answer than two.
 pub fn value_due(s: &[u8], at: usize, kind: Bracket) -> Due
     requires { ⌜ at ≤ length (now s) ⌝ }
     ensures { λ r. ⌜ DueAt kind (now (s .entry)) at r ⌝ }
@@ -61,7 +61,6 @@ pub fn value_due(s: &[u8], at: usize, kind: Bracket) -> Due
 
 // Reads the label of an item that has a key.
 fn read_keyed(s: &[u8], at: usize) -> Labelled
-    requires { ⌜ at ≤ length (now s) ⌝ }
     ensures { λ r. ⌜ ((k : Bracket) → keyed k ≡ true → LabelsAt k (now (s .entry)) at r) ⌝ }
 {
     match read_key(s, at) {
@@ -72,7 +71,6 @@ fn read_keyed(s: &[u8], at: usize) -> Labelled
 
 // Reads the key that is due at `at`: a string or a character by its quote, else a word.
 fn read_key(s: &[u8], at: usize) -> Judged
-    requires { ⌜ at ≤ length (now s) ⌝ }
     ensures { λ r. ⌜ JudgesAt keyForm (keyOf (endersOf Around.Key)) (now (s .entry)) at r ⌝ }
 {
     if s.len() <= at {
@@ -154,7 +152,6 @@ fn is_key_form(form: u32) -> bool
 
 // Reads the colon that is due behind a key, and white space.
 fn read_colon(s: &[u8], at: usize) -> Labelled
-    requires { ⌜ at ≤ length (now s) ⌝ }
     ensures { λ r. ⌜ ((key : Key) → ColonAt key (now (s .entry)) at r) ⌝ }
 {
     if s.len() <= at {

@@ -30,7 +30,6 @@ ghost use Rattle.values.specs.Brackets.{formIn};
 
 // Reads a trait's whole value. Most values begin with no bracket, and are read at once.
 pub fn read_whole(s: &[u8], at: usize) -> Judged
-    requires { ⌜ at ≤ length (now s) ⌝ }
     ensures { λ r. ⌜ JudgesAt valueForm (valueOf bracketLimit []) (now (s .entry)) at r ⌝ }
 {
     let Opening::Opens(_) = opens(s, at) else {
@@ -41,7 +40,6 @@ pub fn read_whole(s: &[u8], at: usize) -> Judged
 
 // Reads the value that stands at `at`. A bracket is refused as the item at fault is, place and all.
 fn read_value(s: &[u8], at: usize, nesting: Nesting, around: Around) -> Judged
-    requires { ⌜ at ≤ length (now s) ⌝ }
     ensures { λ r. ⌜ JudgesAt valueForm (valueOf (nesting .left) (endersOf around)) (now (s .entry)) at r ⌝ }
 {
     let Opening::Opens(kind) = opens(s, at) else {

@@ -22,7 +22,7 @@ add-at : tie.Need-add-at
 add-at c = omega (arith, c .before .before .pre .0 .within, c .before .before .pre .0 .inside)
 
 read-whole-requires : tie.Need-read-whole-requires
-read-whole-requires c κs = c .before .before .pre .0 .inside
+read-whole-requires c κs = search needs
 
 enum-known-value : tie.Need-enum-known-value
 enum-known-value c = search needs

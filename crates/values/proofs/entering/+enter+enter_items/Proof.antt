@@ -239,7 +239,8 @@ labelled t c =
     label-stands _ _ _ (at-label .read-label .ensures) (at-label .before .before .before .before .loop .inv .1) _ _ (c .key .given .1)
 
 item-turn : (t : ℕ) (c : enter-items-lts.After-enter (enter-items-calls t) (enter-items-at t) enter-items.Post enter-items-Inv-loop enter-items-μ-loop)
-    → (let at-key = c .before .before .before .before in let at-after = at-key .before .before .before .before .before in let top = at-after .before .before .before .before .before in
+    → (let at-key = c .before .before .before .before in let at-after = at-key .before .before .before .before .before in
+    let top = at-after .before .before .before .before .before in
     let label = at-key .key .given .0 in
     let loop = at-after .before .loop in
     Turned (top .args .kind) (top .args .s .now) (top .args .at) (top .args .nesting .left) (top .args .cells .now) (top .args .slot) (loop .i) (loop .made)
@@ -248,8 +249,9 @@ item-turn t c =
     let at-key = c .before .before .before .before in
     let at-full = at-key .before .before .before .before in
     let at-inside = at-full .before .before .before in
+    let ends = inside-enders (at-inside .before .before .before .args .kind) (at-inside .inside .result) (at-inside .inside .ensures) in
     turned (turn t (at-full .before)) _ (at-full .is-full .ensures) (at-key .before .before .before .if1 .left) (labelled t at-key) _ (c .before .under .ensures) _ _
-    (c .enter .kept .1 .1 .1 .1 .0) (rw (inside-enders (at-inside .before .before .before .args .kind) (at-inside .inside .result) (at-inside .inside .ensures)) at (c .enter .ensures))
+    (c .enter .kept .1 .1 .1 .1 .0) (rw ends at (c .enter .ensures))
 
 item-far : (t : ℕ) (c : enter-items-lts.After-item (enter-items-calls t) (enter-items-at t) enter-items.Post enter-items-Inv-loop enter-items-μ-loop)
     → (let at-key = c .before .before .before .before .before .before .before .before in

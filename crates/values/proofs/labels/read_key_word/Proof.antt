@@ -53,7 +53,8 @@ returns-3 c =
     let at-bare = at-one-of .before .before .before .before in
     no-value _ _ _ _ _ _ (c .no-value .ensures) (omega arith)
     (key-unfit _ _ (at-bare .before .before .pre) (sym (at-one-of .is-one-of .ensures) ∙ at-leaf .before .if2 .left) _ (at-bare .bare-end .ensures)
-    (at-one-of .before .before .before .if1 .left) _ (at-leaf .read-leaf .ensures) _ _ (at-read .read .given .1) (sym (at-form .is-key-form .ensures) ∙ not-true _ (c .before .if3 .taken)))
+    (at-one-of .before .before .before .if1 .left) _ (at-leaf .read-leaf .ensures) _ _ (at-read .read .given .1)
+    (sym (at-form .is-key-form .ensures) ∙ not-true _ (c .before .if3 .taken)))
 
 enum-told : tie.Need-enum-told
 enum-told c = search needs

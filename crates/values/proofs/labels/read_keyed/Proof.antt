@@ -14,9 +14,7 @@ enum-known-end : tie.Need-enum-known-end
 enum-known-end c = search needs
 
 read-colon-requires : tie.Need-read-colon-requires
-read-colon-requires c κs =
-    let at-end = c .before in
-    at-end .before .before .read-key .ensures .ahead _ _ (at-end .end .given .1) .1
+read-colon-requires c κs = search needs
 
 returns : tie.Need-returns
 returns c k y =

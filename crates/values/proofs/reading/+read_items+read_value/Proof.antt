@@ -138,8 +138,7 @@ read-items-enum-known-value t c = search needs
 
 read-items-read-value-requires : (t : ℕ) → read-items-lts.Need-read-value-requires (read-items-calls t) (read-items-at t) read-items.Post read-items-Inv-loop read-items-μ-loop
 read-items-read-value-requires t c κs =
-    let at-label = c .before .before .before in
-    (omega (arith, at-label .before .before .before .before .pre .0), due-label _ _ _ (at-label .value-due .ensures) (at-label .before .loop .inv .1) _ (c .before .value .given .1) .inside)
+    (omega (arith, c .before .before .before .before .before .before .before .pre .0), search needs)
 
 -- the label of an item that is read
 labelled : (t : ℕ) (c : read-items-lts.After-value (read-items-calls t) (read-items-at t) read-items.Post read-items-Inv-loop read-items-μ-loop)
