@@ -318,9 +318,8 @@ fn readings_31_to_33() {
     accepted(format!("{}<Lab/>\n{}", "<Lab>\n".repeat(31), "</Lab>\n".repeat(31)));
     value_refused(&"[".repeat(9), 10, 15);
     accepted(format!("<Lab n={0}{1} m={0}{1}/>", "[".repeat(8), "]".repeat(8)));
-    // 32
+    // 32; request Six refuses what it says of a trait that stands twice
     cells("<Steps/>", &[[1, 1, TOP, 0, 1, 6, 0, 8]]);
-    accepted("<Lab n=1 n=2/>");
     // 33
     cells(
         "[r]\n<Lab n=[1, [2]]>\n[c]\n<Steps>\n</Steps>\n</Lab>",
@@ -1167,4 +1166,101 @@ fn request_five_is_passed_on() {
     records("<Lab n=()/>\n<Lab n=(1)/>\n<Lab n=map[k\n", &[[0, 12, 6, 8, 0], [12, 25, 0, 13, 3], [25, 38, 6, 12, 0]]);
     // a bracket is no value in Content, an annotation or a string
     form("[()]\n<Steps n=\"(\">\n\tset[\n</Steps>", "[()]\n<Steps n=\"(\">\n\tset[\n</Steps>\n");
+}
+
+// ---- Request Six; the numbers are those of READINGS-02.md
+
+#[test]
+fn request_six() {
+    refused("<Lab node=4 node=9 />", 18, 12);
+    refused("<Lab node=4 free={now} node=9>\n</Lab>", 18, 23);
+    refused("<Lab node=4>\n\t<Steps node=4 node=9>\n\t</Steps>\n</Lab>", 18, 28);
+    // after 4 for that name, and before its value is read
+    refused("<Lab node=4 Node=9 />", 4, 12);
+    refused("<Lab node=4 node=[1, 04] />", 18, 12);
+    accepted("<Lab node=4 nodes=9 />");
+}
+
+#[test]
+fn request_six_reading_28() {
+    refused("<Lab n=1 n>", 18, 9);
+    refused("<Lab n=1 n?", 18, 9);
+    refused("<Lab n=1 n=", 18, 9);
+    refused("<Lab n=1 nABC=1 />", 4, 9);
+    accepted("<Lab n=1 nN=2 />");
+    refused("<Lab n=1 n", 9, 10);
+    refused("<Lab n=1 n=2/>", 18, 9);
+    for behind in [" =1", "/>", "\n", "==", ":1", "-", "\u{e9}"] {
+        refused(format!("<Lab n=1 n{behind}"), 18, 9);
+    }
+    // no name stands here
+    refused("<Lab n=1 =1 />", 7, 9);
+    refused("<Lab n=1n=1 />", 6, 7);
+    refused("<Lab n=[1]n=1 />", 7, 10);
+    // the first one's own faults come first
+    refused("<Lab n n=1 />", 7, 6);
+    refused("<Lab n=04 n=1 />", 6, 7);
+    refused("<Lab N=1 N=1 />", 4, 5);
+    // the names are the whole runs, letter by letter
+    for other in ["nn", "n1", "m", "nNa", "mn"] {
+        accepted(format!("<Lab n=1 {other}=2 />"));
+    }
+    refused("<Lab n=1 N=2 />", 4, 9);
+    let long = "a".repeat(31);
+    accepted(format!("<Lab {long}b=1 {long}c=2 {long}=3 b{long}=4 c{long}=5 />"));
+    refused(format!("<Lab {long}b=1 {long}c=2 {long}b=3 />"), 18, 5 + 35 + 35);
+    refused(format!("<Lab {long}bc=1 {long}bc=2 />"), 4, 5);
+}
+
+#[test]
+fn request_six_reading_29() {
+    refused("<Lab n=1 n=04 />", 18, 9);
+    refused_with("<Lab n=1 n=9 />", 16, 18, 9);
+    refused_with("<Lab n=1 n=9 />", 8, 11, 5);
+    refused("<Lab n=1 n=[[[[[[[[[", 18, 9);
+    refused("<Lab n=1 n=\"", 18, 9);
+    refused_with("<Lab n=[1, 2] n=9 />", 24, 11, 11);
+    refused_with("<Lab n=[1, 2] n=9 />", 32, 18, 14);
+    // the marker is read no further
+    refused("<Lab n=1 n=2 m=04 />", 18, 9);
+    refused("<Lab n=1 m=04 n=2 />", 6, 11);
+    refused("<Lab n=1 m=2 n=3 n=4 m=5 />", 18, 13);
+    refused("<Lab n=1 m=2 m=3 n=4 />", 18, 13);
+    // parent, child and sibling may share names
+    accepted("<Lab n=1>\n\t<Lab n=1 />\n\t<Lab n=1 m=2>\n\t\t<Steps m=1 n=2 />\n\t</Lab>\n</Lab>");
+    refused("<Lab n=1>\n\t<Lab m=1 n=2 m=3 />\n</Lab>", 18, 24);
+    // keys, items, strings, addresses, annotations and Content are no traits
+    accepted("<Lab n=map[n:1, n:2] m=map[n:1, m:map[m:1]] />");
+    accepted("[n=1 n=2]\n<Steps n=\" n=1\" a=` n=1\n n=2 ` b=x:n=1 c=[~n, ~n] d='n'>\n\t n=1 n=2\n</Steps>");
+    refused("<Lab n=1 a=\"x n=2\" n=3 />", 18, 19);
+    refused("<Lab a=map[n:1] n=[map[a:1]]\n\ta=2 />", 18, 30);
+}
+
+/// Many traits, of which the last has a name that one before it has, or none of them.
+#[test]
+fn request_six_in_long_markers() {
+    let names: Vec<String> = (0..1_023).map(|number| format!("n{number}")).collect();
+    let marker = |names: &[String]| format!("<Lab{}", names.iter().map(|name| format!(" {name}=1")).collect::<String>());
+    for count in [1, 2, 7, 8, 9, 15, 16, 17, 31, 32, 33, 63, 64, 65, 200, 1_023] {
+        let good = marker(&names[..count]);
+        assert_eq!(answer(format!("{good} />").as_bytes(), ALL).count, 1 + count);
+        for first in [0, count / 2, count - 1] {
+            refused(format!("{good} {}=1 />", names[first]), 18, good.len() + 1);
+            refused(format!("{good} {}", names[first]), 9, good.len() + 1 + names[first].len());
+            refused_with(format!("{good} {}=1 />", names[first]), count * 8, 11, good.rfind(' ').unwrap() + 1);
+        }
+    }
+    // its own 11 comes behind its 18, that of another name does not
+    let full = marker(&names);
+    refused(format!("{full} n0=1 />"), 18, full.len() + 1);
+    refused(format!("{full} m0=1 />"), 11, full.len() + 1);
+}
+
+/// Forms, rolls and adding pass the place on.
+#[test]
+fn request_six_is_passed_on() {
+    assert_eq!(write_form(TABLE, b"<Lab n=1 n=2/>", ALL, 16_384), (Answer { number: 18, place: 9, count: 0 }, Vec::new()));
+    adds("<Lab n=1 n=2/>", b"", 60, 0, Err((18, 9)));
+    adds("[a]\n<Lab n=1 n=2/>", b"x", 0, 1, Err((18, 13)));
+    records("<Lab n=1/>\n<Lab n=1 n=2/>\n<Lab n=1 n\n", &[[0, 11, 0, 11, 2], [11, 26, 18, 9, 0], [26, 37, 18, 9, 0]]);
 }

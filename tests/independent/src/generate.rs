@@ -1,7 +1,7 @@
 //! Makes request lines from a seed: tables, sheets, rolls and times that are valid, nearly valid, damaged, cut or at a limit.
 //! Follows document 01's grammar, and 001 §18's to §22's, to print trees in random layouts; each printed rule may be broken once.
 
-use crate::reader::{read_sheet, CONCEPTS_DEEP, ENTRIES, ENTRY_CELLS, NAME_BYTES, SHEET_BYTES};
+use crate::reader::{is_trait_name, read_sheet, CONCEPTS_DEEP, ENTRIES, ENTRY_CELLS, NAME_BYTES, SHEET_BYTES};
 use crate::rolls::{read_roll, RECORD_CELLS, ROLL_BYTES, SHEETS};
 use crate::to_hex;
 use crate::values::{Bracket, BRACKETS_DEEP, LIST, MAP, SET, TUPLE};
@@ -32,11 +32,11 @@ const SMALL: usize = 200;
 /// The requests about one table, sheet, roll or time, of all kinds.
 fn add_requests(lines: &mut Vec<String>, chance: &mut Chance, longest: usize) {
     let names = if SMALL < longest && chance.one_in(6) { Names::many(chance) } else { Names::random(chance) };
-    match chance.below(600) {
+    match chance.below(680) {
         0..=19 => add_table(lines, chance, &names, longest),
-        20..=27 => add_limit(lines, chance, longest),
-        28 => add_cuts(lines, chance, &names, longest),
-        29..=69 => {
+        20..=30 => add_limit(lines, chance, longest),
+        31 => add_cuts(lines, chance, &names, longest),
+        32..=69 => {
             let sheet = pieces_in_a_row(chance);
             add_sheet(lines, chance, &Names::papers().table(), sheet.as_bytes(), longest);
         }
@@ -59,6 +59,7 @@ fn add_requests(lines: &mut Vec<String>, chance: &mut Chance, longest: usize) {
             let sheet = one_bracketed(chance);
             add_sheet(lines, chance, &Names::papers().table(), &sheet, longest);
         }
+        490..=569 => add_marker(lines, chance, &names, longest),
         _ => {
             let sheet = any_sheet(chance, &names);
             add_sheet(lines, chance, &names.table(), &sheet, longest);
@@ -207,7 +208,7 @@ fn any_roll(chance: &mut Chance, names: &Names, longest: usize) -> Vec<u8> {
     }
 }
 
-/// A sheet as adding writes it, at times damaged behind its first two bytes or cut; or any other.
+/// A sheet as adding writes it, at times damaged behind its first two bytes or cut; or any other, or one with several traits.
 fn sheet_of_roll(chance: &mut Chance, names: &Names) -> Vec<u8> {
     let sheet = any_sheet(chance, names);
     let (_, form) = write_form(&names.table(), &sheet, PLENTY, SHEET_BYTES);
@@ -219,6 +220,7 @@ fn sheet_of_roll(chance: &mut Chance, names: &Names) -> Vec<u8> {
             part.extend(rest);
         }
         2 => part.truncate(chance.below(part.len() + 1)),
+        3 => part = one_marker(chance, names, SMALL),
         _ => {}
     }
     let end = chance.pick(&["\n", "\n", "\n", "\n", "", "\r\n", "\r", "\n\n\t\n"]);
@@ -246,6 +248,7 @@ fn add_adding(lines: &mut Vec<String>, chance: &mut Chance, names: &Names, longe
     let (names, sheet) = match chance.below(12) {
         0 => (names, of_length(SHEET_BYTES - 2 + chance.below(4)).into_bytes()),
         1 | 2 => (&papers, one_bracketed(chance)),
+        3 => (names, one_marker(chance, names, longest)),
         _ => (names, any_sheet(chance, names)),
     };
     let roll = any_roll(chance, names, longest);
@@ -417,7 +420,7 @@ fn pieces_in_a_row(chance: &mut Chance) -> String {
         "\"", "\\", "\\u", "{", "}", "0", "1", "D8", "'", "`", "[", "]", ",", " ", "\n", "/", ">", "x:", ".", "e", "-", "a", "true",
         "\u{e9}", "$", "~",
     ];
-    let (start, pieces) = match chance.below(13) {
+    let (start, pieces) = match chance.below(15) {
         0 => ("", &lines[..]),
         1 => ("<Lab>\n", &lines[..]),
         2 => ("\t<Steps>\n", &lines[..]),
@@ -430,6 +433,8 @@ fn pieces_in_a_row(chance: &mut Chance) -> String {
         9 => ("<Lab n=(", &BRACKET_PIECES[..]),
         10 => ("<Lab n=set[map[a:", &BRACKET_PIECES[..]),
         11 => ("<Lab n=", &BRACKET_PIECES[..]),
+        12 => ("<Lab n=1", &TRAIT_PIECES[..]),
+        13 => ("<Lab n=map[n:1] nN=\" n=1\"", &TRAIT_PIECES[..]),
         _ => ("<Lab n=", &values[..]),
     };
     let mut sheet = start.to_string();
@@ -1058,6 +1063,169 @@ const BRACKET_PIECES: [&str; 40] = [
     "1", "x:", "x:y", "\"k\"", "'c'", "$Ab", "04", "{12:00}", "{", "`", " ", "\n", "/", ">", "set", "map", "true", "\u{e9}",
 ];
 
+// ---- Several traits in one marker
+
+/// The requests about a marker with several traits; at times with just as many cells as are used, one fewer, or too few for an entry more.
+fn add_marker(lines: &mut Vec<String>, chance: &mut Chance, names: &Names, longest: usize) {
+    let (table, sheet) = (names.table(), one_marker(chance, names, longest));
+    add_sheet(lines, chance, &table, &sheet, longest);
+    if sheet.len() <= longest && chance.one_in(3) {
+        let used = entries_used(&table, &sheet) * ENTRY_CELLS;
+        let lent = *chance.pick(&[&used, &used.saturating_sub(1), &(used + ENTRY_CELLS - 1)]);
+        lines.push(format!("sheet {} {} {lent}", to_hex(&table), to_hex(&sheet)));
+    }
+}
+
+/// How many entries are made until the sheet is accepted or refused: with room for so many the answer is that with plenty.
+fn entries_used(table: &[u8], sheet: &[u8]) -> usize {
+    let answer = read_sheet(table, sheet, PLENTY).0;
+    let (mut fewest, mut enough) = (0, ENTRIES);
+    while fewest < enough {
+        let middle = (fewest + enough) / 2;
+        if read_sheet(table, sheet, middle * ENTRY_CELLS).0 == answer {
+            enough = middle;
+        } else {
+            fewest = middle + 1;
+        }
+    }
+    enough
+}
+
+/// A sheet with a marker of several traits, whose names differ; where they are many, most have a plain value. In two of three cases a name
+/// stands in it once more, or nearly so. At times cut, behind that name or anywhere.
+fn one_marker(chance: &mut Chance, names: &Names, longest: usize) -> Vec<u8> {
+    let count = trait_count(chance, longest);
+    let traits = trait_names(chance, count);
+    let (before, behind) = around_traits(chance, names, &traits);
+    let mut sheet = before;
+    let all_plain = chance.one_in(2);
+    for name in &traits {
+        let plain = all_plain || chance.below(count) > 16;
+        sheet.push_str(&good_trait(chance, name, plain));
+    }
+    if !chance.one_in(3) {
+        sheet.push_str(chance.pick(&WHITE_SPACES));
+        sheet.push_str(&name_once_more(chance, &traits));
+        if chance.one_in(8) {
+            return sheet.into_bytes();
+        }
+        sheet.push_str(chance.pick(&BEHIND_NAMES));
+    }
+    sheet.push_str(&behind);
+    let mut sheet = sheet.into_bytes();
+    if chance.one_in(12) {
+        sheet.truncate(chance.below(sheet.len()));
+    }
+    sheet
+}
+
+/// Few traits mostly, about 4, 5, 8 or 16 often, and seldom any number that a sheet of `longest` bytes has room for.
+fn trait_count(chance: &mut Chance, longest: usize) -> usize {
+    let most = ENTRIES.min(longest / 12 + 1);
+    let count = match chance.below(16) {
+        0..=8 => 1 + chance.below(6),
+        9..=12 => *chance.pick(&[&4, &5, &8, &16]) - 1 + chance.below(3),
+        13 | 14 => 1 + chance.below(40),
+        _ => 1 + chance.below(most),
+    };
+    count.min(most)
+}
+
+/// So many names of traits. No two are the same, and most of them nearly are.
+fn trait_names(chance: &mut Chance, count: usize) -> Vec<String> {
+    let mut names: Vec<String> = Vec::new();
+    while names.len() < count {
+        let name = if names.is_empty() || chance.one_in(3) {
+            chance.pick(&TRAIT_NAMES).to_string()
+        } else {
+            let earlier = chance.below(names.len());
+            nearly_name(chance, &names[earlier])
+        };
+        if is_trait_name(name.as_bytes()) && !names.contains(&name) {
+            names.push(name);
+        }
+    }
+    names
+}
+
+/// The name with one letter more, less, other or of the other case; at times it is no name of a trait any more.
+fn nearly_name(chance: &mut Chance, name: &str) -> String {
+    let mut name = name.to_string();
+    let at = chance.below(name.len());
+    let letter = chance.pick(&["a", "b", "n", "0", "9", "A", "N"]);
+    match chance.below(5) {
+        0 => name.insert_str(at, letter),
+        1 => name.push_str(letter),
+        2 => name.replace_range(at..=at, letter),
+        3 => drop(name.remove(at)),
+        _ => name.replace_range(at..=at, &other_case(&name[at..=at])),
+    }
+    name
+}
+
+/// What stands before and behind the traits of a marker: it is alone, or its parent or a sibling has traits of the same names.
+fn around_traits(chance: &mut Chance, names: &Names, traits: &[String]) -> (String, String) {
+    let parent = &names.children[chance.below(names.children.len())];
+    let known = if names.content.is_empty() || chance.one_in(2) { &names.children } else { &names.content };
+    let name = &known[chance.below(known.len())];
+    let shared: String = traits.iter().take(3).map(|name| format!(" {name}=1")).collect();
+    let end = match chance.below(4) {
+        0 => format!(">\n</{name}>"),
+        _ => chance.pick(&["/>", " />", "\n/>"]).to_string(),
+    };
+    match chance.below(8) {
+        0 => (format!("<{parent}{shared}>\n<{name}"), format!("{end}\n</{parent}>")),
+        1 => (format!("<{parent}>\n<{name}{shared} />\n<{name}"), format!("{end}\n<{name}{shared} />\n</{parent}>")),
+        2 => (format!("[{shared}{shared}]\n<{name}"), end),
+        _ => (format!("<{name}"), end),
+    }
+}
+
+/// White space, the name and a value: 1 where it is to be plain, else one in which the name may stand, too.
+fn good_trait(chance: &mut Chance, name: &str, plain: bool) -> String {
+    let value = match chance.below(14) {
+        _ if plain => "1".to_string(),
+        0 => format!("map[{name}:1, {name}:2]"),
+        1 => format!("[map[{name}: ~{name}], (~{name}, \"{name}=1\")]"),
+        2 => format!("\" {name}=1\""),
+        3 => format!("` {name}=1\n {name}=2`"),
+        4 => format!("x:{name}=1"),
+        5 | 6 => printed(chance, |printer| printer.value(1, None)),
+        _ => "1".to_string(),
+    };
+    format!("{}{name}={value}", chance.pick(&WHITE_SPACES))
+}
+
+/// The name of the first trait, of the last or of any; at times nearly so, or with more letters than the rule allows.
+fn name_once_more(chance: &mut Chance, names: &[String]) -> String {
+    let any = chance.below(names.len());
+    let name = &names[*chance.pick(&[&0, &(names.len() - 1), &any])];
+    match chance.below(16) {
+        0 | 1 => nearly_name(chance, name),
+        2 => format!("{name}ABC"),
+        3 => format!("{name}{}", "a".repeat(NAME_BYTES)),
+        _ => name.clone(),
+    }
+}
+
+/// Names of traits, from which others are made.
+const TRAIT_NAMES: [&str; 12] =
+    ["n", "u", "aB", "abC9", "x1", "aBCd", "node", "nodes", "abcdefxyz", "abcDefxyz", "freeUntil9", "n1234567890123456789012345678901"];
+
+const WHITE_SPACES: [&str; 7] = [" ", " ", " ", "  ", "\t", "\n", "\r\n\t"];
+
+/// What may stand behind the name of a trait, and what may not.
+const BEHIND_NAMES: [&str; 28] = [
+    "=1", "=1", "=1", "=9", "=true", "=\"a\"", "=[1, 2]", "=map[n:1]", "={now}", "=1 zz=04", "=1 zz=1", "=1?", "", "?", ">", "/>", " ",
+    "\n", "=", " =1", "==1", "=04", "=[1 2]", "=[[[[[[[[[", "=\"", "='ab'", ":1", "\u{e9}",
+];
+
+/// What traits are made of, and what may not stand between them.
+const TRAIT_PIECES: [&str; 26] = [
+    " ", " ", " ", "\n", "n", "nN", "nn", "m", "n=1", " n=1", " nN=2", " m=\"n\"", " m=map[m:1]", " nn=[1, 2]", "=", "=1", "=04", "N",
+    "ABC", "9", "?", ">", "/>", "\"", "\t", "[1]",
+];
+
 // ---- Damage
 
 /// The bytes with one to three of them changed, inserted or removed.
@@ -1087,7 +1255,7 @@ fn random_byte(chance: &mut Chance) -> u8 {
 /// A sheet at or just past one of the limits of "Sizes", with more room for its form than any form may take.
 fn add_limit(lines: &mut Vec<String>, chance: &mut Chance, longest: usize) {
     let over = chance.below(2);
-    let sheet = match chance.below(15) {
+    let sheet = match chance.below(17) {
         0 => format!("<Lab {}=1/>", "n".repeat(NAME_BYTES + over)),
         1 => format!("<L{}/>", "a".repeat(NAME_BYTES - 1 + over)),
         2 => format!("<Lab n={} />", in_brackets(chance, BRACKETS_DEEP + over, 0, "1")),
@@ -1101,6 +1269,8 @@ fn add_limit(lines: &mut Vec<String>, chance: &mut Chance, longest: usize) {
         11 => format!("<Lab n=map[{}a:{{now}}] />", "a:1,".repeat(ENTRIES - 3 + over)),
         12 => format!("<Lab n=({}) />", ["set[]"].repeat(ENTRIES - 2 + over).join(", ")),
         13 => of_key(SHEET_BYTES + over),
+        14 => format!("<Lab{} />", numbered_traits(ENTRIES - 1 + over)),
+        15 => format!("<Lab{} n{}=1 />", numbered_traits(ENTRIES - 2 + over), chance.below(ENTRIES)),
         _ => of_length(SHEET_BYTES - 1 + over) + "\n",
     };
     let table = Names::papers().table();
@@ -1108,6 +1278,11 @@ fn add_limit(lines: &mut Vec<String>, chance: &mut Chance, longest: usize) {
         lines.push(format!("form {} {} {PLENTY} {}", to_hex(&table), to_hex(sheet.as_bytes()), 4 * SHEET_BYTES));
     }
     add_sheet(lines, chance, &table, sheet.as_bytes(), longest);
+}
+
+/// So many traits, with names of a letter and a number.
+fn numbered_traits(count: usize) -> String {
+    (0..count).map(|number| format!(" n{number}=1")).collect()
 }
 
 /// `depth` Concepts in one another.
@@ -1346,10 +1521,16 @@ impl<'a> Printer<'a> {
     // ---- Traits and values
 
     fn traits(&mut self) {
-        for _ in 0..self.chance.below(3) + self.chance.below(3) * self.chance.below(2) {
+        let count = self.chance.below(3) + self.chance.below(3) * self.chance.below(2);
+        let names = trait_names(self.chance, count);
+        for (number, name) in names.iter().enumerate() {
             self.white_space();
-            let name = self.chance.pick(&["n", "u", "aB", "abC9", "x1", "aBCd"]);
-            self.put_or_slip(name, &["N", "aBCD", "9", "", "-", "n-", "n1234567890123456789012345678901x"]);
+            if number > 0 && self.slip() {
+                let earlier = self.chance.below(number);
+                self.put(&names[earlier]);
+            } else {
+                self.put_or_slip(name, &["N", "aBCD", "9", "", "-", "n-", "n1234567890123456789012345678901x"]);
+            }
             self.put_or_slip("=", &["", " =", "= ", "==", ":"]);
             self.value(BRACKETS_DEEP, None);
             if self.slip() {
@@ -1516,6 +1697,18 @@ mod tests {
     fn faulty_times_are_none() {
         for time in FAULTY_TIMES {
             assert_eq!(time_answer(time.as_bytes()), 0, "{time}");
+        }
+    }
+
+    #[test]
+    fn names_of_traits_differ_and_keep_their_rule() {
+        for seed in 0..200 {
+            let mut chance = Chance(seed);
+            let mut names = trait_names(&mut chance, 100);
+            assert!(names.iter().all(|name| is_trait_name(name.as_bytes())), "{names:?}");
+            names.sort();
+            names.dedup();
+            assert_eq!(names.len(), 100);
         }
     }
 

@@ -1,6 +1,6 @@
 //! Reads a mode table and a sheet, and hands back a span: every answer, and every cell at exit.
 //! Follows document 01, "The mode table", "The grammar", "Entries" and "Refusal numbers"; a map's items have names by document 02, request
-//! Five.
+//! Five, and no two traits of a Concept have the same name by request Six.
 
 use crate::values::{is_white_space, read_value, Key, Kind, Value};
 
@@ -156,7 +156,7 @@ fn is_concept_name(name: &[u8]) -> bool {
     keeps_name_rule(name) && name[0].is_ascii_uppercase()
 }
 
-fn is_trait_name(name: &[u8]) -> bool {
+pub fn is_trait_name(name: &[u8]) -> bool {
     keeps_name_rule(name) && name[0].is_ascii_lowercase()
 }
 
@@ -204,7 +204,7 @@ pub fn read_sheet(table: &[u8], sheet: &[u8], lent: usize) -> (Answer, Vec<u32>)
     }
 }
 
-/// The root Concept of a sheet that is accepted. Order: 1, 2, 3 over the whole sheet, then 4 to 11 by the fault met first.
+/// The root Concept of a sheet that is accepted. Order: 1, 2, 3 over the whole sheet, then 4 to 11 and 18 by the fault met first.
 pub fn read_root(table: &[u8], sheet: &[u8], lent: usize) -> Result<Concept, Refusal> {
     let table = read_table(table)?;
     if sheet.len() > SHEET_BYTES {
@@ -411,24 +411,37 @@ impl Reader<'_> {
             let apart = self.pass_while(is_white_space) > 0;
             match self.byte() {
                 Some(b'/' | b'>') => return Ok(traits),
-                Some(byte) if apart && byte.is_ascii_alphanumeric() => traits.push(self.one_trait()?),
+                Some(byte) if apart && byte.is_ascii_alphanumeric() => {
+                    let next = self.one_trait(&traits)?;
+                    traits.push(next);
+                }
                 _ => return Err(self.something_else_due()),
             }
         }
     }
 
     /// Name, "=", value. The whole value is read before the entries of trait and items are made.
-    fn one_trait(&mut self) -> Result<Trait, Refusal> {
+    fn one_trait(&mut self, earlier: &[Trait]) -> Result<Trait, Refusal> {
         let name = self.name()?;
-        if !is_trait_name(name.of(self.sheet)) {
-            return Err(Refusal { number: 4, place: name.start });
-        }
+        self.judge_trait_name(name, earlier)?;
         self.pass(b'=')?;
         let value = read_value(self.sheet, self.at)?;
         self.at = value.span.end;
         self.enter(name.start)?;
         self.enter_items(&value)?;
         Ok(Trait { name, value })
+    }
+
+    /// A trait name: 4, then 18 where an earlier trait of the same Concept has it.
+    fn judge_trait_name(&self, name: Span, earlier: &[Trait]) -> Result<(), Refusal> {
+        let letters = name.of(self.sheet);
+        if !is_trait_name(letters) {
+            return Err(Refusal { number: 4, place: name.start });
+        }
+        if earlier.iter().any(|one| one.name.of(self.sheet) == letters) {
+            return Err(Refusal { number: 18, place: name.start });
+        }
+        Ok(())
     }
 
     /// The items of a list, set, map or tuple in depth-first order.
