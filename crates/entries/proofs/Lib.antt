@@ -3,3 +3,4 @@ pub mod Zeros
 pub mod Laying
 pub mod Getting
 pub mod Slots
+pub mod Standing

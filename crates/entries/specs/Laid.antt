@@ -1,8 +1,9 @@
--- Entries laid into cells from a number on, and the entry that stands at a number.
+-- Entries laid into cells from a number on, entries that stand there, and the entry that stands at a number.
 -- Document 01, "Entries".
 use Prim.Native.Nat.{ℕ, suc, _+_, _*_, _≤_}
-use mathlib.Core.List.{List}
-use lib.ListN.{length}
+use mathlib.Core.Path.{_≡_}
+use mathlib.Core.List.{List, _++_}
+use lib.ListN.{length, drop}
 use lib.Seq.{sets}
 use lib.Dec.{leb}
 use Rattle.paper.specs.Limits.{entryLimit}
@@ -46,6 +47,15 @@ cellsAt cells n =
 
 unfoldable pub entryAt : List ℕ → ℕ → Entry
 entryAt cells n = pick (leb (suc n * entryCells) (length cells)) (cellsAt cells n) (unnamed 0 0 0 0 0 0)
+
+-- these entries stand in the cells from number n on
+pub record Stand (cells : List ℕ) (n : ℕ) (es : List Entry) : Type 0 where
+  pub rest : List ℕ
+  pub held : drop (n * entryCells) cells ≡ allCells es ++ rest
+
+-- the kind of entry n, 0 where there is none
+abbrev pub kindAt : List ℕ → ℕ → ℕ
+kindAt cells n = entryAt cells n .kind
 
 -- the slot so many entries on, and the one behind the next entry for those that it is the parent of
 abbrev pub slotAfter : Slot → ℕ → Slot

@@ -10,7 +10,7 @@ use lib.ListN.{length, getD, drop, length-drop, drop-of-length-le}
 use lib.Seq.{drop-drop}
 use borrow.Author.Tests.{eq-eqb, ne-eqb}
 use Rattle.paper.specs.declared.Refusal.{Refusal}
-use Rattle.paper.specs.Found.{Found, found, fault, andThen, Turn, more, over, stop, turnOf, manyOf}
+use Rattle.paper.specs.Found.{Found, found, fault, andThen, Turn, more, over, stop, turnOf, taking, manyOf}
 use Rattle.paper.specs.Bytes.{byte, bytes, lf, cr, isLineEnd, startsWith, encode}
 use Rattle.paper.specs.Values.{Piece, direct, escaped, Leaf, string, character, backtick, leafForm}
 use Rattle.paper.specs.ReadingValues.{escape, closes, breaks, itself, insideOf, pieceTurn, closeCharacter, characterOf, backtickTurn}
@@ -50,14 +50,14 @@ more-seen make f formed s p (fault n left) = refl
 
 module _ (turn : ℕ → List ℕ → Turn Piece) (shorter : (room : ℕ) (s : List ℕ) → Shorter s (turn room s)) (make : List Piece → Leaf) where
   run-over : (t left : List ℕ) → turn 0 t ≡ over left → quotedOf turn make t ≡ found (make []) left
-  run-over t left e = rw (many-turn (λ p. 0) turn shorter (suc (length t)) 0 t (omega arith), e)
+  run-over t left e = rw (many-turn (taking (λ p. 0)) turn shorter (suc (length t)) 0 t (omega arith), e)
 
   run-stop : (n : ℕ) (t left : List ℕ) → turn 0 t ≡ stop n left → quotedOf turn make t ≡ fault n left
-  run-stop n t left e = rw (many-turn (λ p. 0) turn shorter (suc (length t)) 0 t (omega arith), e)
+  run-stop n t left e = rw (many-turn (taking (λ p. 0)) turn shorter (suc (length t)) 0 t (omega arith), e)
 
   run-more : (f : ℕ) → ((ps : List Piece) → leafForm (make ps) ≡ f) → (s t mid : List ℕ) (p : Piece) → turn 0 t ≡ more p mid
       → shownOf leafForm s (quotedOf turn make mid) ≡ shownOf leafForm s (quotedOf turn make t)
-  run-more f formed s t mid p e = rw (many-turn (λ p. 0) turn shorter (suc (length t)) 0 t (omega arith), e)
+  run-more f formed s t mid p e = rw (many-turn (taking (λ p. 0)) turn shorter (suc (length t)) 0 t (omega arith), e)
       (more-seen make f formed s p (manyOf (λ p. 0) turn 0 mid))
 
 -- ---- an escape that was read

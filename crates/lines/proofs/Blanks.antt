@@ -8,7 +8,7 @@ use native.Mathlib.Omega.{arith}
 use lib.ListN.{length, getD, drop, drop-of-length-le}
 use lib.Dec.{eqb}
 use Rattle.paper.specs.declared.Refusal.{Refusal}
-use Rattle.paper.specs.Found.{found, fault, more, turnOf}
+use Rattle.paper.specs.Found.{found, fault, more, turnOf, taking}
 use Rattle.paper.specs.Bytes.{isBlank, isLineEnd, startsIn, lengthIn, front, behind, startsWith, space, tab, is}
 use Rattle.paper.specs.Reading.{lineRest, isBlankLine, blankTurn, blankLines, isTab, noSpace, tabsOnly, lastBlanks}
 use Rattle.paper.proofs.Tests.{split}
@@ -93,7 +93,7 @@ module _ (s : List ℕ) (at i : ℕ) (so-far : Lines s at i) (o : Bool) (asked :
   unfolding blankTurn
   lines-over r e f =
       says-read (λ bs. 0) (λ bs. 0) s (blankLines (drop i s)) r [] i 0 0 e (so-far .inside)
-      (turn-over (λ b. 0) blankTurn blank-shorter 0 (drop i s) (drop i s) (rw (sym asked ∙ f, blankTurn))) refl refl
+      (turn-over (taking (λ b. 0)) blankTurn blank-shorter 0 (drop i s) (drop i s) (rw (sym asked ∙ f, blankTurn))) refl refl
       ∙ so-far .same
 
   module _ (t : o ≡ true) where
@@ -104,7 +104,7 @@ module _ (s : List ℕ) (at i : ℕ) (so-far : Lines s at i) (o : Bool) (asked :
     pub lines-refused : (r : Part) (why : Refusal) (place : ℕ) → seen r ≡ passed s (lineRest (drop i s)) → r ≡ Refused why place
         → seen r ≡ passed s (blankLines (drop at s))
     lines-refused r why place e q =
-        turn-refused (λ b. 0) blankTurn blank-shorter 0 (drop i s) (λ b. 0) (λ b. 0) s turnOf (λ n left. refl) (λ bs. 0) (λ bs. 0) (lineRest (drop i s)) r why
+        turn-refused (taking (λ b. 0)) blankTurn blank-shorter 0 (drop i s) (λ b. 0) (λ b. 0) s turnOf (λ n left. refl) (λ bs. 0) (λ bs. 0) (lineRest (drop i s)) r why
         place e q a-line
         ∙ so-far .same
 
@@ -112,6 +112,6 @@ module _ (s : List ℕ) (at i : ℕ) (so-far : Lines s at i) (o : Bool) (asked :
     lines-on end line = record {
       inside = line .inside;
       same =
-          turn-more (λ b. 0) blankTurn blank-shorter 0 (drop i s) (λ bs. 0) (λ bs. 0) s (line .it) (drop end s) (a-line ∙ ap turnOf (line .finds))
+          turn-more (taking (λ b. 0)) blankTurn blank-shorter 0 (drop i s) (λ bs. 0) (λ bs. 0) s (line .it) (drop end s) (a-line ∙ ap turnOf (line .finds))
           ∙ so-far .same;
     }

@@ -11,7 +11,7 @@ use lib.Dec.{leb}
 use borrow.Author.Tests.{leb-true, leb-false}
 use Rattle.paper.specs.declared.Refusal.{Refusal}
 use Rattle.paper.specs.declared.Refusal.the-variants.{NoEntryLeft}
-use Rattle.paper.specs.Found.{Found, found, fault, andThen, Turn, more, over, stop, turnOf, manyOf}
+use Rattle.paper.specs.Found.{Found, found, fault, andThen, Turn, more, over, stop, turnOf, taking, manyOf}
 use Rattle.paper.specs.Bytes.{byte}
 use Rattle.paper.specs.Tree.{Blank, Line, Marker, Concept, content}
 use Rattle.paper.specs.Grammar.{blankOnto, closingOnto, linesOnto}
@@ -76,7 +76,7 @@ module _ (s w : List ℕ) (tabs start i : ℕ) (so-far : LinesTo s w tabs start 
 
     pub lines-refused : (why : Refusal) (place : ℕ) → r ≡ Refused why place → seen r ≡ passed s (linesOf tabs w (drop start s))
     lines-refused why place q =
-        turn-refused (λ l. 0) (lineTurn tabs w) (line-shorter tabs w) 0 (drop i s) (λ l. 0) (λ l. 0) s turnOf (λ n left. refl) (λ ls. 0) (λ ls. 0) (this .line)
+        turn-refused (taking (λ l. 0)) (lineTurn tabs w) (line-shorter tabs w) 0 (drop i s) (λ l. 0) (λ l. 0) s turnOf (λ n left. refl) (λ ls. 0) (λ ls. 0) (this .line)
         r why place seen-line q (this .is-turn)
         ∙ so-far .same
 
@@ -89,7 +89,7 @@ module _ (s w : List ℕ) (tabs start i : ℕ) (so-far : LinesTo s w tabs start 
             ahead = omega (arith, so-far .ahead, f .ahead);
             inside = f .inside;
             same =
-                turn-more (λ l. 0) (lineTurn tabs w) (line-shorter tabs w) 0 (drop i s) (λ ls. 0) (λ ls. 0) s (f .it) (drop end s)
+                turn-more (taking (λ l. 0)) (lineTurn tabs w) (line-shorter tabs w) 0 (drop i s) (λ ls. 0) (λ ls. 0) s (f .it) (drop end s)
                 (this .is-turn ∙ ap turnOf (f .finds))
                 ∙ so-far .same;
           },
@@ -113,7 +113,7 @@ module _ (s w : List ℕ) (tabs start i : ℕ) (so-far : LinesTo s w tabs start 
   all-lines n =
       let e =
       says-read (λ ls. 0) (λ ls. 0) s (linesOf tabs w (drop i s)) (Read i 0 0) [] i 0 0 refl (so-far .inside)
-      (turn-over (λ l. 0) (lineTurn tabs w) (line-shorter tabs w) 0 (drop i s) (drop i s) (rw (sym asked ∙ n, lineTurn))) refl refl in
+      (turn-over (taking (λ l. 0)) (lineTurn tabs w) (line-shorter tabs w) 0 (drop i s) (drop i s) (rw (sym asked ∙ n, lineTurn))) refl refl in
       found-at (λ ls. 0) (λ ls. 0) s (Read i 0 0) (λ lines left. ReadLines tabs w (drop start s) lines left) start (linesOf tabs w (drop start s)) i 0 0
       (e ∙ so-far .same) (lines-reads tabs w (drop start s)) (omega (arith, so-far .ahead, so-far .inside)) refl
 

@@ -10,7 +10,7 @@ use lib.ListN.{length, drop, length-drop, length-append}
 use lib.Seq.{drop-drop}
 use borrow.Author.Tests.{not-true, not-false}
 use Rattle.paper.specs.declared.Refusal.{Refusal}
-use Rattle.paper.specs.Found.{Found, turnOf}
+use Rattle.paper.specs.Found.{Found, turnOf, taking}
 use Rattle.paper.specs.Bytes.{byte, bytes, lengthIn, behind, startsWith}
 use Rattle.paper.specs.Tree.{Annotation}
 use Rattle.paper.specs.Grammar.{blankOnto, annotationOnto}
@@ -70,7 +70,7 @@ module _ (s : List ℕ) (at : ℕ) (lent : List ℕ) (slot : Slot) (cells : List
   unfolding annotationTurn annotationEntries
   notes-over n r e =
       so-far .onward r cells
-      (makes-over (λ a. 1) annotationTurn annotation-shorter left (drop i s) (counted made) (counted made) (annotationEntries (slot .parent) i) s cells
+      (makes-over (taking (λ a. 1)) annotationTurn annotation-shorter left (drop i s) (counted made) (counted made) (annotationEntries (slot .parent) i) s cells
       (slot .next + made) r i made made (rw (bracket ∙ not-true o n, annotationTurn)) e (so-far .inside) (sym (add-zero made)) (sym (add-zero made)) refl)
 
   module _ (n : not o ≡ false) where
@@ -98,7 +98,7 @@ module _ (s : List ℕ) (at : ℕ) (lent : List ℕ) (slot : Slot) (cells : List
         pub notes-refused : (why : Refusal) (place : ℕ) → r ≡ Refused why place → MakesNotes s at lent slot r after
         notes-refused why place q =
             so-far .onward r after
-            (makes-stop (λ a. 1) annotationTurn annotation-shorter left (drop i s) (λ a. 1) (λ a. 1) turnOf (λ k rest. refl) (counted made) (counted made)
+            (makes-stop (taking (λ a. 1)) annotationTurn annotation-shorter left (drop i s) (λ a. 1) (λ a. 1) turnOf (λ k rest. refl) (counted made) (counted made)
             (annotationEntries (slot .parent) i) s cells (slot .next + made) reading r after why place (noted .says) q (a-note left))
 
         module _ (end own mine : ℕ) (q : r ≡ Read end own mine) where
@@ -146,7 +146,7 @@ module _ (s : List ℕ) (at : ℕ) (lent : List ℕ) (slot : Slot) (cells : List
                 held = h ∙ so-far .held;
                 onward = λ other cells′ k.
                     so-far .onward other cells′
-                    (makes-more (λ a. 1) annotationTurn annotation-shorter left (drop i s) (counted made) (counted made) (annotationEntries (slot .parent) i)
+                    (makes-more (taking (λ a. 1)) annotationTurn annotation-shorter left (drop i s) (counted made) (counted made) (annotationEntries (slot .parent) i)
                     (annotationEntries (slot .parent) end) (noteEntries (slot .parent) (mark + 1) (it .it)) s cells after
                     (slot .next + made) (it .it) (drop end s) other cells′
                     (a-note left ∙ ap turnOf (it .finds)) entered (noted .laid (it .it) (drop end s) (it .finds))

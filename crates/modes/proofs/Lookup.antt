@@ -10,8 +10,8 @@ use lib.Dec.{ltb}
 use borrow.Author.Tests.{ltb-true, ltb-false, not-true}
 use Rattle.paper.specs.declared.Mode.the-variants.{Children, Content, Absent}
 use Rattle.paper.specs.Bytes.{same, all}
-use Rattle.paper.specs.Names.{among}
-use Rattle.paper.specs.Modes.{Modes, sections, distinct, sectionRule, tableRule, ValidTable, modeOf}
+use Rattle.paper.specs.Names.{among, distinct}
+use Rattle.paper.specs.Modes.{Modes, sections, sectionRule, tableRule, ValidTable, modeOf}
 use Rattle.paper.proofs.Tests.{split, true-false, or-right}
 use Rattle.paper.proofs.Lists.{both, same-is}
 use Rattle.paper.proofs.Finds.{Finds}

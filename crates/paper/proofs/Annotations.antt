@@ -7,7 +7,7 @@ use native.Mathlib.Omega.{arith}
 use lib.ListN.{length, drop, length-append}
 use lib.Dec.{eqb}
 use borrow.Author.Tests.{eqb-true}
-use Rattle.paper.specs.Found.{Found, found, fault, andThen}
+use Rattle.paper.specs.Found.{Found, found, fault, andThen, taking}
 use Rattle.paper.specs.Bytes.{byte, bytes, isLineEnd, all, elem, startsIn, lengthIn, behind, startsWith}
 use Rattle.paper.specs.Tree.{Annotation}
 use Rattle.paper.specs.Grammar.{blankOnto, tabsOnto, annotationOnto, annotationsOnto, blankRule, annotationText, annotationEscape, annotationRule}
@@ -152,7 +152,7 @@ pub record ReadAnnotations (room : ℕ) (s : List ℕ) (notes : List Annotation)
 pub annotations-reads : (room : ℕ) (s : List ℕ) → Reads s (λ notes left. ReadAnnotations room s notes left) (annotations room s)
 unfolding annotationsOnto all
 annotations-reads room s =
-    many-reads (λ a. 1) annotationTurn
+    many-reads (taking (λ a. 1)) annotationTurn
     (record {
       of-turn = λ room s a left. ReadAnnotation room s a left;
       of-end = λ room s left. (s ≡ left) × (startsWith (bytes "[") (behind isTab s) ≡ false);
@@ -171,13 +171,13 @@ annotations-reads room s =
 pub annotations-complete : (room : ℕ) (notes : List Annotation) (next : List ℕ) → all annotationRule notes ≡ true → length notes ≤ room
     → startsWith (bytes "[") (behind isTab next) ≡ false → annotations room (annotationsOnto notes next) ≡ found notes next
 unfolding annotationsOnto annotationTurn annotationRule annotation startsIn
-annotations-complete room [] next r l e = run-over (λ a. 1) annotationTurn annotation-shorter room next next (rw (e, annotationTurn))
+annotations-complete room [] next r l e = run-over (taking (λ a. 1)) annotationTurn annotation-shorter room next next (rw (e, annotationTurn))
 annotations-complete room (a ∷ notes) next r l e =
     let h = all-head annotationRule a notes r in
     let k = both (annotationText (a .text)) (blankRule (a .rest)) (h .0) in
     let inner = a .text ++ (byte "]" ∷ blankOnto (a .rest) (annotationsOnto notes next)) in
     let f : behind isTab (annotationsOnto (a ∷ notes) next) ≡ byte "[" ∷ inner = tabs-behind (a .tabs) (byte "[" ∷ inner) refl in
-    run-more (λ a. 1) annotationTurn annotation-shorter room (annotationsOnto (a ∷ notes) next) a (annotationsOnto notes next) notes next
+    run-more (taking (λ a. 1)) annotationTurn annotation-shorter room (annotationsOnto (a ∷ notes) next) a (annotationsOnto notes next) notes next
     (rw (
       f,
       starts-of (bytes "[") inner,

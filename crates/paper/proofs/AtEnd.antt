@@ -10,10 +10,10 @@ use lib.Dec.{leb, eqb}
 use borrow.Author.Tests.{eqb-true, eq-eqb}
 use Rattle.paper.specs.declared.brackets.Bracket.{Bracket}
 use Rattle.paper.specs.declared.Mode.the-variants.{Children, Absent}
-use Rattle.paper.specs.Found.{Found, found, fault, andThen, Turn, more, over, stop, turnOf, goOn, many, manyOf}
+use Rattle.paper.specs.Found.{Found, found, fault, andThen, Turn, more, over, stop, turnOf, goOn, many, runOf, taking, manyOf}
 use Rattle.paper.specs.Bytes.{byte, bytes, isUpper, isLower, isHex, isBlank, isLineEnd, isWhite, lengthIn, front, behind, elem, same, startsIn}
 use Rattle.paper.specs.Bytes.{startsWith, lf, cr, space, scalar, is, onward}
-use Rattle.paper.specs.Names.{run, pastRun, isName}
+use Rattle.paper.specs.Names.{run, pastRun, isName, among}
 use Rattle.paper.specs.Modes.{Modes}
 use Rattle.paper.specs.Values.{Piece, four, braces, escaped, opener, closer, mayBeEmpty, keyed, enders, keyEnders, isBare, isKeyForm, Key, Label}
 use Rattle.paper.specs.Values.{Value, More, bracket, comma, pieceRule, wordForm}
@@ -25,8 +25,8 @@ use Rattle.paper.specs.ReadingValues.{backtickTurn, wordLength, wordOf, 
 use Rattle.paper.specs.ReadingValues.{keyWord, atStart, keyOf, colon, labelOf}
 use Rattle.paper.specs.Reading.{Bounds, lineEnd, lineRest, isBlankLine, blankTurn, blankLines, isTab, noSpace, tabsOnly, nameOf, name, due, makes}
 use Rattle.paper.specs.Reading.{textOf, escapeOf, annotation, annotationTurn, annotations}
-use Rattle.paper.specs.Reading.{enters, trait, traitDue, traitTurn, ending, Opened, opened, admitted, head, opening, closing}
-use Rattle.paper.specs.Reading.{closesLine, textLine, otherLine, lineTurn, contentOf, lastBlanks, sheetTree}
+use Rattle.paper.specs.Reading.{enters, Earlier, withTrait, fresh, traitName, trait, traitDue, traitTurn, traitsBehind, noTrait}
+use Rattle.paper.specs.Reading.{ending, Opened, opened, admitted, head, opening, closing, closesLine, textLine, otherLine, lineTurn, contentOf, lastBlanks, sheetTree}
 use Rattle.paper.specs.Reading.{roomIn, insideBy, annotatedBy, pieceBy, isClosing, conceptOf, blockOf, bodyOf, annotatedOf, pieceOf}
 use Rattle.paper.proofs.Tests.{split, true-false}
 use Rattle.paper.proofs.Lists.{byFront, starts-is, both, is-not}
@@ -79,22 +79,23 @@ turn-of x cut = cut
 turn-of x (other e) = other e
 
 -- a run whose turns do, and take a byte each
-module _ {A : Type 0} (size : A → ℕ) (turn : ℕ → List ℕ → Turn A)
-    (shorter : (room : ℕ) (s : List ℕ) → Shorter s (turn room s)) (stops : (room : ℕ) (s : List ℕ) → Stops (turn room s)) where
-  many-ends : (fuel room : ℕ) (s : List ℕ) → length s < fuel → Ends (many size turn fuel room s)
+module _ {A B : Type 0} (with : B → A → B) (turn : B → List ℕ → Turn A)
+    (shorter : (so-far : B) (s : List ℕ) → Shorter s (turn so-far s)) (stops : (so-far : B) (s : List ℕ) → Stops (turn so-far s)) where
+  many-ends : (fuel : ℕ) (so-far : B) (s : List ℕ) → length s < fuel → Ends (many with turn fuel so-far s)
   unfolding many
-  many-ends zero room s h = absurd (omega arith)
-  many-ends (suc fuel) room s h = go (turn room s) (shorter room s) (stops room s) (λ a left l. many-ends fuel (room - size a) left (omega arith))
+  many-ends zero so-far s h = absurd (omega arith)
+  many-ends (suc fuel) so-far s h =
+      go (turn so-far s) (shorter so-far s) (stops so-far s) (λ a left l. many-ends fuel (with so-far a) left (omega arith))
     where
-      go : (x : Turn A) → Shorter s x → Stops x → ((a : A) (left : List ℕ) → length left < length s → Ends (many size turn fuel (room - size a) left))
-          → Ends (goOn (λ a left. many size turn fuel (room - size a) left) x)
-      go (more a left) l goes again = then (many size turn fuel (room - size a) left) (again a left l) (λ things end. finds)
+      go : (x : Turn A) → Shorter s x → Stops x → ((a : A) (left : List ℕ) → length left < length s → Ends (many with turn fuel (with so-far a) left))
+          → Ends (goOn (λ a left. many with turn fuel (with so-far a) left) x)
+      go (more a left) l goes again = then (many with turn fuel (with so-far a) left) (again a left l) (λ things end. finds)
       go (over left) l ends again = finds
       go (stop n left) l cut again = cut
       go (stop n left) l (other e) again = other e
 
-  run-ends : (room : ℕ) (s : List ℕ) → Ends (manyOf size turn room s)
-  run-ends room s = many-ends (suc (length s)) room s (omega arith)
+  run-ends : (so-far : B) (s : List ℕ) → Ends (runOf with turn so-far s)
+  run-ends so-far s = many-ends (suc (length s)) so-far s (omega arith)
 
 -- ---- lines and names
 
@@ -110,7 +111,7 @@ line-rest s = line-end (front isBlank s) (behind isBlank s)
 
 blank-lines : (s : List ℕ) → Ends (blankLines s)
 unfolding blankTurn
-blank-lines s = run-ends (λ b. 0) blankTurn blank-shorter turns 0 s
+blank-lines s = run-ends (taking (λ b. 0)) blankTurn blank-shorter turns 0 s
   where
     turns : (room : ℕ) (s : List ℕ) → Stops (blankTurn room s)
     turns room s = split (isBlankLine s) (λ e. rw (e, blankTurn) (turn-of (lineRest s) (line-rest s))) (λ e. rw (e, blankTurn) ends)
@@ -169,7 +170,7 @@ annotation-ends room tabs s =
 
 annotations-end : (room : ℕ) (s : List ℕ) → Ends (annotations room s)
 unfolding annotationTurn
-annotations-end room s = run-ends (λ a. 1) annotationTurn annotation-shorter turns room s
+annotations-end room s = run-ends (taking (λ a. 1)) annotationTurn annotation-shorter turns room s
   where
     turns : (room : ℕ) (s : List ℕ) → Stops (annotationTurn room s)
     turns room s =
@@ -210,7 +211,7 @@ module _ (quote : ℕ) (back : List ℕ) where
 
 string-ends : (s : List ℕ) → Ends (manyOf (λ p. 0) pieceTurn 0 s)
 unfolding pieceTurn
-string-ends s = run-ends (λ p. 0) pieceTurn turn-shorter turns 0 s
+string-ends s = run-ends (taking (λ p. 0)) pieceTurn turn-shorter turns 0 s
   where
     turns : (room : ℕ) (s : List ℕ) → Stops (pieceTurn room s)
     turns room [] = cut
@@ -223,7 +224,7 @@ string-ends s = run-ends (λ p. 0) pieceTurn turn-shorter turns 0 s
 
 backtick-ends : (s : List ℕ) → Ends (manyOf (λ p. 0) backtickTurn 0 s)
 unfolding backtickTurn
-backtick-ends s = run-ends (λ p. 0) backtickTurn tick-shorter turns 0 s
+backtick-ends s = run-ends (taking (λ p. 0)) backtickTurn tick-shorter turns 0 s
   where
     turns : (room : ℕ) (s : List ℕ) → Stops (backtickTurn room s)
     turns room [] = cut
@@ -351,24 +352,30 @@ enters-ends room named valued t left = split (leb (traitSize t) room) (λ e. rw 
     go zero = other refl
     go (suc items) = other refl
 
-trait-ends : (by : Bounds) (room : ℕ) (white s : List ℕ) → Ends (trait by room white s)
-unfolding trait
-trait-ends by room white s =
-    then (name (isName isLower (by .names)) s) (name-ends _ s)
-    (λ w left. then (due (byte "=") left) (due-ends (byte "=") left)
-    (λ b valued. then (valueOf (by .brackets) [] valued) (value-ends (suc (length valued)) (by .brackets) [] valued (omega arith)) (λ v left. enters-ends room s valued _ left)))
+fresh-ends : (names : List (List ℕ)) (at w left : List ℕ) → Ends (fresh names at w left)
+unfolding fresh
+fresh-ends names at w left = split (among names w) (λ e. rw (e, fresh) (other refl)) (λ e. rw (e, fresh) finds)
 
-traits-end : (by : Bounds) (room : ℕ) (s : List ℕ) → Ends (manyOf traitSize (traitTurn by) room s)
+trait-ends : (by : Bounds) (earlier : Earlier) (white s : List ℕ) → Ends (trait by earlier white s)
+unfolding trait
+trait-ends by earlier white s =
+    then (traitName by (earlier .names) s)
+    (then (name (isName isLower (by .names)) s) (name-ends _ s) (λ w left. fresh-ends (earlier .names) s w left))
+    (λ w left. then (due (byte "=") left) (due-ends (byte "=") left)
+    (λ b valued. then (valueOf (by .brackets) [] valued) (value-ends (suc (length valued)) (by .brackets) [] valued (omega arith))
+    (λ v left. enters-ends (earlier .room) s valued _ left)))
+
+traits-end : (by : Bounds) (earlier : Earlier) (s : List ℕ) → Ends (traitsBehind by earlier s)
 unfolding traitTurn traitDue
-traits-end by room s = run-ends traitSize (traitTurn by) (trait-shorter by) (λ room s. turns room s (behind isWhite s)) room s
+traits-end by earlier s = run-ends withTrait (traitTurn by) (trait-shorter by) (λ earlier s. turns earlier s (behind isWhite s)) earlier s
   where
-    turns : (room : ℕ) (s r : List ℕ) → Stops (traitDue by room s (front isWhite s) r)
-    turns room s [] = cut
-    turns room s (b ∷ l) =
+    turns : (earlier : Earlier) (s r : List ℕ) → Stops (traitDue by earlier s (front isWhite s) r)
+    turns earlier s [] = cut
+    turns earlier s (b ∷ l) =
         let white = front isWhite s in
         split (elem b (bytes ">/")) (λ e. rw (e, traitDue) ends)
         (λ e. split (leb 1 (length white))
-        (λ f. rw (e, traitDue, f) (turn-of (trait by room white (b ∷ l)) (trait-ends by room white (b ∷ l))))
+        (λ f. rw (e, traitDue, f) (turn-of (trait by earlier white (b ∷ l)) (trait-ends by earlier white (b ∷ l))))
         (λ f. rw (e, traitDue, f) (other refl)))
 
 ending-ends : (s : List ℕ) → Ends (ending s)
@@ -382,7 +389,7 @@ ending-ends (b ∷ l) =
 opened-ends : (by : Bounds) (room : ℕ) (w s : List ℕ) → Ends (opened by room w s)
 unfolding opened
 opened-ends by room w s =
-    then (manyOf traitSize (traitTurn by) room s) (traits-end by room s)
+    then (traitsBehind by (noTrait room) s) (traits-end by (noTrait room) s)
     (λ ts left. then (ending (behind isWhite left)) (ending-ends (behind isWhite left)) (λ e end. finds))
 
 admitted-ends : (m : Modes) (deeper room : ℕ) (s w left : List ℕ) → Ends (admitted m deeper room s w left)
@@ -413,7 +420,7 @@ text-line s = then (lineEnd [] (onward isLineEnd s)) (line-end [] (onward isLine
 
 lines-end : (tabs : ℕ) (w s : List ℕ) → Ends (manyOf (λ l. 0) (lineTurn tabs w) 0 s)
 unfolding lineTurn otherLine
-lines-end tabs w s = run-ends (λ l. 0) (lineTurn tabs w) (line-shorter tabs w) turns 0 s
+lines-end tabs w s = run-ends (taking (λ l. 0)) (lineTurn tabs w) (line-shorter tabs w) turns 0 s
   where
     others : (s r : List ℕ) → Stops (otherLine tabs s r)
     others s [] = cut

@@ -2,6 +2,7 @@
 -- Document 01, "Order".
 use Prim.Native.Nat.{ℕ, _≤_}
 use mathlib.Core.Path.{_≡_, refl, ap, _∙_}
+use mathlib.Core.Logic.{inl}
 use mathlib.Core.List.{List, []}
 use native.Mathlib.Omega.{arith}
 use Rattle.paper.specs.Found.{Found, found, fault}
@@ -10,6 +11,7 @@ use Rattle.paper.specs.Tree.{Sheet}
 use Rattle.paper.specs.Entries.{entries}
 use Rattle.paper.specs.Reading.{roomOf, sheetOf, refusal, reading}
 use Rattle.paper.specs.Writing.{Begun, tree, unread, begin}
+use Rattle.paper.proofs.Finds.{AtMost}
 use Rattle.paper.proofs.Before.{Only, table-only, table-whole}
 use Rattle.paper.proofs.Exactly.{Answers, sheet-answers, accepting}
 
@@ -22,7 +24,7 @@ pub record Sound (table s : List ℕ) (lent : ℕ) (t : Sheet) : Type 0 where
 -- reading refuses the sheet by this number and at this place
 pub record Unread (table s : List ℕ) (lent n at : ℕ) : Type 0 where
   pub least : 1 ≤ n
-  pub most : n ≤ 11
+  pub most : AtMost n
   pub is : reading table s lent ≡ refusal lent n at
 
 abbrev pub Begins : List ℕ → List ℕ → ℕ → Begun → Type 0
@@ -40,7 +42,7 @@ begins table s lent = by-table (modeTable table) refl (table-only table)
 
     by-table : (x : Found Modes) → modeTable table ≡ x → Only 1 table x → Begins table s lent (begin table s lent)
     by-table (found m left) e o = by-sheet m (e ∙ ap (found m) (table-whole table m left e)) (sheetOf m (roomOf lent) s) refl (sheet-answers m (roomOf lent) s)
-    by-table (fault n left) e o = rw (e, begin) (record { least = omega (arith, o .0); most = omega (arith, o .0); is = rw (e, reading) })
+    by-table (fault n left) e o = rw (e, begin) (record { least = omega (arith, o .0); most = inl (omega (arith, o .0)); is = rw (e, reading) })
 
 pub begins-tree : {table s : List ℕ} {lent : ℕ} {t : Sheet} → Sound table s lent t → begin table s lent ≡ tree t
 unfolding begin

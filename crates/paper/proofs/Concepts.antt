@@ -1,6 +1,7 @@
 -- Concepts and children bodies: what reading them finds, and that it finds what stands there. Assumes nothing.
 use Prim.Native.Nat.{ℕ, zero, suc, _+_, _-_, _≤_, _<_}
 use mathlib.Core.Path.{_≡_, refl, sym, ap, _∙_}
+use mathlib.Core.Logic.{inl}
 use mathlib.Core.Bool.{Bool, true, false, _&&_}
 use mathlib.Core.List.{List, [], _∷_, _++_}
 use native.Mathlib.Omega.{arith}
@@ -12,13 +13,13 @@ use Rattle.paper.specs.declared.Mode.the-variants.{Children, Content, Ab
 use Rattle.paper.specs.Found.{Found, found, andThen}
 use Rattle.paper.specs.Bytes.{byte, bytes, isUpper, isLower, isDigit, isLetter, isNameByte, isBlank, isLineEnd, isWhite, all, startsIn, lengthIn, behind}
 use Rattle.paper.specs.Bytes.{startsWith}
-use Rattle.paper.specs.Names.{nameRule, isName}
+use Rattle.paper.specs.Names.{nameRule, isName, distinct}
 use Rattle.paper.specs.Modes.{Modes, modeOf}
 use Rattle.paper.specs.Values.{valueOnto}
 use Rattle.paper.specs.Tree.{LineEnd, LF, CRLF, Blank, Annotation, Trait, Marker, Ending, block, self, Concept, selfClosed, children, content, Body, done}
 use Rattle.paper.specs.Tree.{blankLine, element, Annotated, BodyPiece, blankPiece, elementPiece, before}
 use Rattle.paper.specs.Grammar.{lineEndOnto, blankOnto, tabsOnto, annotationsOnto, traitsOnto, markerOnto, endingOnto, closingOnto, linesOnto, conceptOnto}
-use Rattle.paper.specs.Grammar.{bodyOnto, blankRule, annotationRule, traitRule, markerRule, opensBlock, lineRule, conceptRule, bodyRule, inMode, conceptModes}
+use Rattle.paper.specs.Grammar.{bodyOnto, blankRule, annotationRule, traitRule, traitNames, markerRule, opensBlock, lineRule, conceptRule, bodyRule, inMode, conceptModes}
 use Rattle.paper.specs.Grammar.{bodyModes}
 use Rattle.paper.specs.Limits.{traitFits, markerFits, conceptFits, bodyFits, conceptDepth, bodyDepth}
 use Rattle.paper.specs.Entries.{traitsSize, conceptSize, bodySize}
@@ -77,7 +78,7 @@ admitted-reads : (m : Modes) (deeper room : ℕ) (s w left : List ℕ) → Tail 
 unfolding admitted
 admitted-reads m zero room s w left t = fault-here s 10 (omega arith) (omega arith)
 admitted-reads m (suc deeper) room s w left t =
-    split (inMode Absent m w) (λ e. rw (e, admitted) (record { least = omega arith; most = omega arith; tail = tail-drop 1 s }))
+    split (inMode Absent m w) (λ e. rw (e, admitted) (record { least = omega arith; most = inl (omega arith); tail = tail-drop 1 s }))
     (λ e. rw (e, admitted) (reads-as s _ _ (makes room (drop 1 s) w left) (makes-reads s room (drop 1 s) w left (tail-drop 1 s) t)
     (λ v end h. record { named = h .1; listed = e; deep = omega arith; fits = h .0; same = h .2 })))
 
@@ -116,7 +117,7 @@ opens-made m by deeper room s w mid v start o left h a r =
     let short : leb (length (k .name)) (by .names) ≡ true = rw is (named-rule .1) in
     record {
       covers = h .marked ∙ ap (λ (l : List ℕ). byte "<" ∷ l) (h .named .covers ∙ rw is (ap (λ (l : List ℕ). w ++ l) (sym (a .same) ∙ r .covers)));
-      rule = and (and upper (r .rule)) (r .blank);
+      rule = and (and (and upper (r .rule)) (r .apart)) (r .blank);
       within = and short (r .within);
       opens = r .opens;
       listed = rw is (a .listed);
@@ -202,6 +203,12 @@ element-parts a b c d r =
     let q = both (a && b) c (p .0) in
     let s = both a b (q .0) in
     (s .0, s .1, q .1, p .1)
+
+-- a marker by its parts: its name, its traits, that no two of them have one name, and its white space
+pub marker-parts : (k : Marker) → markerRule k ≡ true
+    → (nameRule isUpper (k .name) ≡ true) × (all traitRule (k .traits) ≡ true) × (distinct (traitNames (k .traits)) ≡ true) × (all isWhite (k .white) ≡ true)
+unfolding markerRule
+marker-parts k r = element-parts (nameRule isUpper (k .name)) (all traitRule (k .traits)) (distinct (traitNames (k .traits))) (all isWhite (k .white)) r
 
 -- ---- a Concept with its annotations, and one piece of a body, by how a Concept is read
 
@@ -434,10 +441,9 @@ pub record MarkerStands (m : Modes) (by : Bounds) (deeper room : ℕ) (k : Marke
 
 pub opening-complete : (m : Modes) (by : Bounds) (deeper room : ℕ) (k : Marker) (e : Ending) (next : List ℕ) → MarkerStands m by deeper room k e
     → opening m by deeper room (markerOnto k (endingOnto e next)) ≡ found (record { marker = k; ends = e }) next
-unfolding markerRule markerFits isName
+unfolding markerFits isName
 opening-complete m by deeper room k e next p =
-    let v = both _ (all isWhite (k .white)) (p .rule) in
-    let n = both (nameRule isUpper (k .name)) (all traitRule (k .traits)) (v .0) in
+    let n = marker-parts k (p .rule) in
     let w = both (leb (length (k .name)) (by .names)) (all (traitFits (by .names) (by .brackets)) (k .traits)) (p .within) in
     let q = rule-name isUpper (k .name) (n .0) in
     let behind = traitsOnto (k .traits) (k .white ++ endingOnto e next) in
@@ -445,9 +451,9 @@ opening-complete m by deeper room k e next p =
     rw (
       due-complete (byte "<") (k .name ++ behind),
       name-found (isName isUpper (by .names)) (k .name) behind (q .0) (q .1) (and (n .0) (w .0))
-          (some-behind k e next (n .1) (v .1)) (name-ends k e next (n .1) (v .1)),
+          (some-behind k e next (n .1) (n .3)) (name-ends k e next (n .1) (n .3)),
       admitted-complete m deeper room (byte "<" ∷ (k .name ++ behind)) (k .name) behind (p .deep) (omega (arith, p .fits)) (p .listed),
-      opened-complete by (room - 1) k e next (n .1) (w .1) (v .1) (p .opens) f,
+      opened-complete by (room - 1) k e next (n .1) (n .2) (w .1) (n .3) (p .opens) f,
     )
 
 -- reading a Concept whose marker stands there goes on behind the marker
@@ -521,8 +527,8 @@ begins tabs b rest n l t o =
     }
 
 name-front : (k : Marker) (rest : List ℕ) → markerRule k ≡ true → startsWith (bytes "/") (k .name ++ rest) ≡ false
-unfolding markerRule startsWith isNameByte isLetter isUpper isLower isDigit
-name-front k rest r = let n = rule-name isUpper (k .name) (both (nameRule isUpper (k .name)) _ (both _ (all isWhite (k .white)) r .0) .0) in go (k .name) (n .0) (n .1)
+unfolding startsWith isNameByte isLetter isUpper isLower isDigit
+name-front k rest r = let n = rule-name isUpper (k .name) (marker-parts k r .0) in go (k .name) (n .0) (n .1)
   where
     go : (w : List ℕ) → all isNameByte w ≡ true → 0 < length w → startsWith (bytes "/") (w ++ rest) ≡ false
     go [] a l = absurd (omega arith)
@@ -603,8 +609,7 @@ element-piece read room a rest next n r b f e =
     ∙ rw (g .only, annotated-complete read room (a .notes) (a .tabs) (a .concept) (blankOnto rest next) n r f e, rest-complete rest next b)
 
 pub marker-name : (k : Marker) → markerRule k ≡ true → nameRule isUpper (k .name) ≡ true
-unfolding markerRule
-marker-name k r = both (nameRule isUpper (k .name)) (all traitRule (k .traits)) (both _ (all isWhite (k .white)) r .0) .0
+marker-name k r = marker-parts k r .0
 
 pub no-self : {X : Type 0} → self ≡ block → X
 no-self e = let z : _≡_ {A = ℕ} 0 1 = cc in absurd (omega arith)

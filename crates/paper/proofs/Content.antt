@@ -1,6 +1,7 @@
 -- Content: what reading its lines and its closing line finds, and that it finds what stands there. Assumes nothing.
 use Prim.Native.Nat.{ℕ, zero, suc, _+_, _-_, _<_}
 use mathlib.Core.Path.{_≡_, refl, sym, ap, _∙_}
+use mathlib.Core.Logic.{inl}
 use mathlib.Core.Bool.{Bool, true, false, not}
 use mathlib.Core.List.{List, [], _∷_, _++_, append-assoc, append-nil, append-cancel-left, head-eq-of-cons-eq}
 use native.Mathlib.Omega.{arith}
@@ -8,7 +9,7 @@ use lib.ListN.{length, drop, replicate, length-append, length-replicate}
 use lib.Seq.{drop-append-seam}
 use lib.Dec.{eqb}
 use borrow.Author.Tests.{eq-eqb, not-true}
-use Rattle.paper.specs.Found.{Found, found, fault, andThen, more, manyOf}
+use Rattle.paper.specs.Found.{Found, found, fault, andThen, more, manyOf, taking}
 use Rattle.paper.specs.Bytes.{byte, isBlank, isLineEnd, all, startsIn, lengthIn, behind, startsWith, tab, lf, cr, upTo, onward}
 use Rattle.paper.specs.Tree.{LineEnd, LF, CRLF, Blank, Line, blank, text, Marker, Concept, content}
 use Rattle.paper.specs.Grammar.{lineEndOnto, blankOnto, tabsOnto, closingOnto, lineOnto, linesOnto, blankRule, lineRule}
@@ -136,7 +137,7 @@ other-reads tabs s E e [] u = fault-end s
 other-reads tabs s E e (b ∷ r) u =
     split (startsWith (tabsOnto (suc tabs) []) s)
     (λ f. rw (f, otherLine) (turns-of s _ _ (textLine (drop (suc tabs) s)) (go f (textLine (drop (suc tabs) s)) (text-reads (drop (suc tabs) s)))))
-    (λ f. rw (f, otherLine) (record { least = omega arith; most = omega arith; tail = u }))
+    (λ f. rw (f, otherLine) (record { least = omega arith; most = inl (omega arith); tail = u }))
   where
     go : startsWith (tabsOnto (suc tabs) []) s ≡ true → (x : Found Line) → Reads (drop (suc tabs) s) (λ l left. ReadText (drop (suc tabs) s) l left) x
         → Reads s (λ l left. ReadLine tabs s l left) x
@@ -249,7 +250,7 @@ pub record ReadLines (tabs : ℕ) (w s : List ℕ) (lines : List Line) (left : L
 pub lines-reads : (tabs : ℕ) (w s : List ℕ) → Reads s (λ lines left. ReadLines tabs w s lines left) (manyOf (λ l. 0) (lineTurn tabs w) 0 s)
 unfolding linesOnto all
 lines-reads tabs w s =
-    many-reads (λ l. 0) (lineTurn tabs w)
+    many-reads (taking (λ l. 0)) (lineTurn tabs w)
     (record {
       of-turn = λ room s l left. ReadLine tabs s l left;
       of-end = λ room s left. (s ≡ left) × (closesLine tabs w s ≡ true);
@@ -263,10 +264,10 @@ lines-reads tabs w s =
 pub lines-complete : (tabs : ℕ) (w : List ℕ) (lines : List Line) (next : List ℕ) → all lineRule lines ≡ true → closesLine tabs w next ≡ true
     → manyOf (λ l. 0) (lineTurn tabs w) 0 (linesOnto tabs lines next) ≡ found lines next
 unfolding linesOnto lineTurn
-lines-complete tabs w [] next r e = run-over (λ l. 0) (lineTurn tabs w) (line-shorter tabs w) 0 next next (rw (e, lineTurn))
+lines-complete tabs w [] next r e = run-over (taking (λ l. 0)) (lineTurn tabs w) (line-shorter tabs w) 0 next next (rw (e, lineTurn))
 lines-complete tabs w (l ∷ lines) next r e =
     let h = all-head lineRule l lines r in
-    run-more (λ l. 0) (lineTurn tabs w) (line-shorter tabs w) 0 (linesOnto tabs (l ∷ lines) next) l (linesOnto tabs lines next) lines next
+    run-more (taking (λ l. 0)) (lineTurn tabs w) (line-shorter tabs w) 0 (linesOnto tabs (l ∷ lines) next) l (linesOnto tabs lines next) lines next
     (line-complete tabs w 0 l (linesOnto tabs lines next) (h .0)) (lines-complete tabs w lines next (h .1) e)
 
 -- ---- the Content of a block

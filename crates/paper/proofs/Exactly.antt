@@ -21,7 +21,7 @@ use Rattle.paper.specs.Entries.{Entry, entries, filled}
 use Rattle.paper.specs.Reading.{bounds, sheetTree, roomOf, sheetOf, Reading, refusal, reading}
 use Rattle.paper.proofs.Tests.{split}
 use Rattle.paper.proofs.Lists.{both, and}
-use Rattle.paper.proofs.Finds.{Tail, tail-place, Reads}
+use Rattle.paper.proofs.Finds.{Tail, tail-place, AtMost, Reads}
 use Rattle.paper.proofs.Scalars.{sheet-made}
 use Rattle.paper.proofs.Before.{Only, table-only, table-whole, bytes-only}
 use Rattle.paper.proofs.Tables.{table-exactly, table-back, table-invalid, fault-answer}
@@ -38,7 +38,7 @@ pub record Accepts (m : Modes) (room : ℕ) (s : List ℕ) (t : Sheet) : Type 0 
   pub limits : withinLimits s t ≡ true
   pub fit : length (entries t) ≤ room
 
--- the order of its refusals: 2 and 3 over the whole sheet, then 4 to 11, of which a 9 is at its end
+-- the order of its refusals: 2 and 3 over the whole sheet, then 4 to 11 and 18, of which a 9 is at its end
 pub record SheetOrder (s : List ℕ) (number place : ℕ) : Type 0 where
   pub too-long : (number ≡ 2) ↔ (sheetLimit < length s)
   pub long-place : number ≡ 2 → place ≡ sheetLimit
@@ -46,10 +46,10 @@ pub record SheetOrder (s : List ℕ) (number place : ℕ) : Type 0 where
   pub bytes-place : number ≡ 3 → sheetBytes s ≡ fault 3 (drop place s)
   pub cut-place : number ≡ 9 → place ≡ length s
 
--- every other answer is a number from 2 to 11, at a place of the sheet
+-- every other answer is a number from 2 to 11, or 18, at a place of the sheet
 pub record Rejects (s : List ℕ) (n : ℕ) (left : List ℕ) : Type 0 where
   pub least : 2 ≤ n
-  pub most : n ≤ 11
+  pub most : AtMost n
   pub place : placeIn s left ≤ length s
   pub short : placeIn s left ≤ sheetLimit
   pub order : SheetOrder s n (placeIn s left)
@@ -99,7 +99,7 @@ sheet-answers m room s =
     (λ e. rw (e, sheetOf) (bytes (ltb-false sheetLimit (length s) e) (sheetBytes s) refl (bytes-only s)))
   where
     long : sheetLimit < length s → Rejects s 2 (drop sheetLimit s)
-    long l = record { least = omega arith; most = omega arith; place = omega arith; short = omega (arith, length-drop sheetLimit s); order = long-order s l }
+    long l = record { least = omega arith; most = inl (omega arith); place = omega arith; short = omega (arith, length-drop sheetLimit s); order = long-order s l }
 
     tree : length s ≤ sheetLimit → (vs : List ℕ) → sheetBytes s ≡ found vs [] → (x : Found Sheet) → sheetTree m bounds conceptLimit room s ≡ x
         → Reads s (λ t left. ReadSheet m bounds conceptLimit room s t left) x → Answers m room s x
@@ -121,7 +121,7 @@ sheet-answers m room s =
         → Answers m room s (andThen x (λ vs left. sheetTree m bounds conceptLimit room s))
     bytes l (fault n left) e h =
         let order = bytes-order s n left l e (h .0) (h .1) in
-        record { least = omega (arith, h .0); most = omega (arith, h .0); place = omega arith; short = omega arith; order = order }
+        record { least = omega (arith, h .0); most = inl (omega (arith, h .0)); place = omega arith; short = omega arith; order = order }
     bytes l (found vs left) e h =
         tree l vs (e ∙ ap (found vs) (sheet-made s vs left e .empty)) (sheetTree m bounds conceptLimit room s) refl (sheet-reads m bounds conceptLimit room s)
 
@@ -163,13 +163,13 @@ pub record InOrder (table s : List ℕ) (number place : ℕ) : Type 0 where
   pub table-place : number ≡ 1 → readTable table ≡ refused 1 place
   pub of-sheet : 2 ≤ number → SheetOrder s number place
 
--- every other reading refuses: a number from 1 to 11, at a place of the table for 1 and of the sheet for the others, none past the longest sheet
+-- every other reading refuses: a number from 1 to 11, or 18, at a place of the table for 1 and of the sheet for the others, none past the longest sheet
 pub record Refused (table s : List ℕ) (lent : ℕ) : Type 0 where
   pub number : ℕ
   pub place : ℕ
   pub is : reading table s lent ≡ refusal lent number place
   pub least : 1 ≤ number
-  pub most : number ≤ 11
+  pub most : AtMost number
   pub in-table : number ≡ 1 → place ≤ length table
   pub in-sheet : 2 ≤ number → place ≤ length s
   pub short : place ≤ sheetLimit
@@ -226,7 +226,7 @@ refused-otherwise table s lent = by-table (modeTable table) refl (table-only tab
           place = placeIn table left;
           is = rw (e, reading);
           least = omega (arith, o .0);
-          most = omega (arith, o .0);
+          most = inl (omega (arith, o .0));
           in-table = λ q. omega arith;
           in-sheet = λ q. absurd (omega (arith, o .0));
           short = let k : readTable table .place ≡ placeIn table left = rw (e, readTable) in omega (arith, table-small table .0);

@@ -1,32 +1,44 @@
--- Where a 6 or a 10 stands in a value, document 02, Four and Five, phrase by phrase: in front of the fault stands what the grammar spells. Assumes nothing.
-use Prim.Native.Nat.{ℕ, suc, _≤_}
+-- Where a 6 or a 10 stands in a value, document 02, Four and Five, and an 18 at a name, Six, phrase by phrase: in front of the fault stands what the grammar
+-- spells. Assumes nothing.
+use Prim.Native.Nat.{ℕ, suc, _≤_, _<_}
 use mathlib.Core.Path.{_≡_, refl, sym, ap, _∙_}
 use mathlib.Core.Bool.{Bool, true, false, not, _&&_}
-use mathlib.Core.List.{List, [], _∷_, _++_}
+use mathlib.Core.List.{List, [], _∷_, _++_, append-nil, append-assoc}
 use mathlib.Core.Option.{none}
+use native.Mathlib.Omega.{arith}
 use lib.ListN.{length}
 use lib.Seq.{take-append-seam, drop-append-seam}
 use lib.Dec.{leb, eqb}
 use borrow.Author.Tests.{eqb-true, leb-true}
 use Rattle.paper.specs.declared.brackets.Bracket.{Bracket}
 use Rattle.paper.specs.Found.{found, fault, stop, turnOf}
-use Rattle.paper.specs.Bytes.{byte, bytes, isWhite, isLineEnd, all, elem, startsIn, startsWith, isBlank, front, is}
+use Rattle.paper.specs.Bytes.{byte, bytes, isLower, isNameByte, isWhite, isLineEnd, all, elem, startsIn, startsWith, isBlank, front, is}
+use Rattle.paper.specs.Names.{nameRule, isName, among, distinct}
 use Rattle.paper.specs.Times.{timeKind}
 use Rattle.paper.specs.Values.{Piece, piecesOnto, pieceRule, oneScalar, wordForm, opener, closer, keyed, enders, keyEnders, Key, Label, noLabel, labelOnto, labelRule}
 use Rattle.paper.specs.Values.{Value, bracket, More, comma, valueOnto, valueRule, bracketDepth, valueInSlash, endsWord, isEnder}
+use Rattle.paper.specs.Tree.{Trait}
+use Rattle.paper.specs.Grammar.{traitsOnto, traitRule, traitNames}
+use Rattle.paper.specs.Limits.{traitFits}
+use Rattle.paper.specs.Entries.{traitsSize}
 use Rattle.paper.specs.ReadingValues.{pieceTurn, characterOf, wordLeaf, leafOf, escape, breaks, insideOf, noBracket, opensWith, keyOf, labelOf, valueOf, itemAnd}
-use Rattle.paper.proofs.Tests.{split, true-false}
-use Rattle.paper.proofs.Lists.{both, without, front-of, behind-of}
+use Rattle.paper.specs.Reading.{Bounds, Earlier, withTrait, fresh, trait, traitTurn, traitsBehind, noTrait}
+use Rattle.paper.proofs.Tests.{split, true-false, apart}
+use Rattle.paper.proofs.Lists.{both, all-head, without, front-of, behind-of}
 use Rattle.paper.proofs.Finds.{Reads}
+use Rattle.paper.proofs.Runs.{run-stop, run-on}
+use Rattle.paper.proofs.Distinct.{distinct-apart}
+use Rattle.paper.proofs.Lines.{rule-name, name-complete}
 use Rattle.paper.proofs.Words.{Cut, word-only}
 use Rattle.paper.proofs.Pieces.{escape-place, turn-escapes, turn-breaks, pieces-stop}
 use Rattle.paper.proofs.Leaves.{leaf-string, leaf-character, leaf-temporal, leaf-word, character-closes, character-breaks, character-escapes, character-on, close-not}
-use Rattle.paper.proofs.Leaves.{byFirst, word-none, temporal-none}
+use Rattle.paper.proofs.Leaves.{Follows, byFirst, word-none, temporal-none}
 use Rattle.paper.proofs.ReadValues.{value-reads, value-of-leaf, value-of-deep, value-of-items, value-back, more-of-comma, more-of-other, follows-ender}
 use Rattle.paper.proofs.ReadValues.{begun, begins, item-stops, label-on}
 use Rattle.paper.proofs.WordKinds.{kinds, byKind, kind-first, word-form}
 use Rattle.paper.proofs.BracketKinds.{comma-ends}
 use Rattle.paper.proofs.Labels.{label-keyed, label-none, key-place, colon-due, label-reads}
+use Rattle.paper.proofs.Markers.{trait-shorter, trait-parts, name-due, turn-complete}
 
 -- ---- strings and characters
 
@@ -235,3 +247,52 @@ unfolding opensWith startsWith startsIn elem isWhite isBlank isLineEnd goodItems
 empty-tuple brackets also l =
     bad-item Bracket.Tuple brackets also start (byte ")" ∷ l) refl refl refl noLabel (byte ")" ∷ l) 6 (byte ")" ∷ l) (label-none Bracket.Tuple _ refl)
     (bad-word brackets (enders Bracket.Tuple) [] (byte ")") l (record { plain = refl; ends = refl; slash = λ z. refl }) refl refl no-word)
+
+-- ---- traits
+
+-- a name that is one of the earlier ones
+not-fresh : (names : List (List ℕ)) (s w left : List ℕ) → among names w ≡ true → fresh names s w left ≡ fault 18 s
+unfolding fresh
+not-fresh names s w left e = rw (e, fresh)
+
+-- white space may follow any value
+white-follows : (inSlash : Bool) (white next : List ℕ) → 0 < length white → all isWhite white ≡ true → Follows [] inSlash (white ++ next)
+unfolding isEnder isWhite isBlank isLineEnd
+white-follows inSlash [] next l r = absurd (omega arith)
+white-follows inSlash (b ∷ white) next l r =
+    let h = all-head isWhite b white r .0 in follows-ender [] inSlash b (white ++ next) (rw h) (apart isWhite b (byte ">") h refl)
+
+module _ (by : Bounds) (white w : List ℕ) (b : ℕ) (rest : List ℕ) (some : 0 < length white) (blank : all isWhite white ≡ true)
+    (named : isName isLower (by .names) w ≡ true) (past : isNameByte b ≡ false) where
+  -- so may traits, and white space behind them
+  traits-follow : (inSlash : Bool) (ts : List Trait) → all traitRule ts ≡ true → Follows [] inSlash (traitsOnto ts (white ++ (w ++ (b ∷ rest))))
+  unfolding traitsOnto
+  traits-follow inSlash [] r = white-follows inSlash white (w ++ (b ∷ rest)) some blank
+  traits-follow inSlash (t ∷ ts) r = let p = trait-parts t (all-head traitRule t ts r .0) in white-follows inSlash (t .white) _ (p .0) (p .1)
+
+  -- behind these earlier traits, and behind more
+  twice-at-once : (earlier : Earlier) → among (earlier .names) w ≡ true → traitTurn by earlier (white ++ (w ++ (b ∷ rest))) ≡ stop 18 (w ++ (b ∷ rest))
+  unfolding isName trait
+  twice-at-once earlier e =
+      let n = rule-name isLower w (both (nameRule isLower w) _ named .0) in
+      name-due by earlier white w (b ∷ rest) some blank (n .1) (n .0)
+      ∙ rw (name-complete (isName isLower (by .names)) w b rest (n .0) (n .1) named past, not-fresh (earlier .names) (w ++ (b ∷ rest)) w (b ∷ rest) e)
+
+  twice-behind : (earlier : Earlier) (ts : List Trait) → all traitRule ts ≡ true → all (traitFits (by .names) (by .brackets)) ts ≡ true
+      → distinct (earlier .names ++ traitNames ts) ≡ true → traitsSize ts ≤ earlier .room → among (earlier .names ++ traitNames ts) w ≡ true
+      → traitsBehind by earlier (traitsOnto ts (white ++ (w ++ (b ∷ rest)))) ≡ fault 18 (w ++ (b ∷ rest))
+  unfolding traitsOnto traitsSize
+  twice-behind earlier [] r f d l e = run-stop withTrait (traitTurn by) (trait-shorter by) earlier _ 18 (w ++ (b ∷ rest)) (twice-at-once earlier (rw append-nil at e))
+  twice-behind earlier (t ∷ ts) r f d l e =
+      let h = all-head traitRule t ts r in
+      let g = all-head (traitFits (by .names) (by .brackets)) t ts f in
+      run-on withTrait (traitTurn by) (trait-shorter by) earlier _ t (traitsOnto ts (white ++ (w ++ (b ∷ rest)))) 18 (w ++ (b ∷ rest))
+      (turn-complete by earlier t _ (h .0) (g .0) (distinct-apart (earlier .names) (t .name) (traitNames ts) d) (omega arith) (traits-follow _ ts (h .1)))
+      (twice-behind (withTrait earlier t) ts (h .1) (g .1) (rw append-assoc d) (omega arith) (rw append-assoc e))
+
+-- behind whatever good traits, a name that one of them has is an 18 at its first byte, whatever byte stands behind it and whatever follows
+pub name-twice : (by : Bounds) (room : ℕ) (ts : List Trait) (white w : List ℕ) (b : ℕ) (rest : List ℕ) → all traitRule ts ≡ true
+    → all (traitFits (by .names) (by .brackets)) ts ≡ true → distinct (traitNames ts) ≡ true → traitsSize ts ≤ room → 0 < length white → all isWhite white ≡ true
+    → isName isLower (by .names) w ≡ true → isNameByte b ≡ false → among (traitNames ts) w ≡ true
+    → traitsBehind by (noTrait room) (traitsOnto ts (white ++ (w ++ (b ∷ rest)))) ≡ fault 18 (w ++ (b ∷ rest))
+name-twice by room ts white w b rest r f d l some blank named past e = twice-behind by white w b rest some blank named past (noTrait room) ts r f d l e

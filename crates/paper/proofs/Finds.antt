@@ -1,6 +1,7 @@
 -- What holds of all that a reading finds, and of the faults that it meets. Assumes nothing.
 use Prim.Native.Nat.{ℕ, suc, _-_, _≤_}
 use mathlib.Core.Path.{_≡_, refl, ap, _∙_}
+use mathlib.Core.Logic.{_⊎_, inl}
 use mathlib.Core.List.{List, [], _∷_, _++_}
 use native.Mathlib.Nat.{sub-self}
 use native.Mathlib.Omega.{arith}
@@ -58,15 +59,19 @@ pub finds-then : {A B : Type 0} (P : A → List ℕ → Type 0) (Q : B → List 
 finds-then P Q next (found a left) h f = f a left h
 finds-then P Q next (fault n left) h f = tt
 
--- a fault of a list: one of the numbers from 4 to 11, at a place of the list
+-- the numbers of a sheet's faults behind these: up to 11, and 18
+abbrev pub AtMost : ℕ → Type 0
+AtMost n = (n ≤ 11) ⊎ (n ≡ 18)
+
+-- a fault of a list: one of the numbers from 4 to 11, or 18, at a place of the list
 pub record Fault (s : List ℕ) (n : ℕ) (left : List ℕ) : Type 0 where
   pub least : 4 ≤ n
-  pub most : n ≤ 11
+  pub most : AtMost n
   pub tail : Tail s left
 
 -- a fault of this number at a tail
 pub faults : {s left : List ℕ} (n : ℕ) → (4 ≤ n) × (n ≤ 11) → Tail s left → Fault s n left
-faults n h t = record { least = h .0; most = h .1; tail = t }
+faults n h t = record { least = h .0; most = inl (h .1); tail = t }
 
 pub fault-in : {s mid left : List ℕ} {n : ℕ} → Tail s mid → Fault mid n left → Fault s n left
 fault-in t f = record { least = f .least; most = f .most; tail = tail-then t (f .tail) }

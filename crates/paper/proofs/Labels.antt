@@ -100,7 +100,7 @@ quoted-leaf also v b l left e c r = go v c r
 
 at-start : {A : Type 0} (s : List ℕ) (P : A → List ℕ → Type 0) (x : Found A) → Reads s P x → Reads s P (atStart s x)
 at-start s P (found a left) h = h
-at-start s P (fault n left) h = split (eqb n 6) (λ f. rw f (faults n (h .least, h .most) whole)) (λ f. rw f h)
+at-start s P (fault n left) h = split (eqb n 6) (λ f. rw f (record { least = h .least; most = h .most; tail = whole })) (λ f. rw f h)
 
 pub key-reads : (also s : List ℕ) → Reads s (ReadKey also s) (keyOf also s)
 unfolding keyOf keyOnto keyRule

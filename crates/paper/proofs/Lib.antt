@@ -4,6 +4,7 @@ pub mod Told
 pub mod Finds
 pub mod Lists
 pub mod Runs
+pub mod Distinct
 pub mod Scalars
 pub mod Pieces
 pub mod Words

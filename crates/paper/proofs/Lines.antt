@@ -1,6 +1,7 @@
 -- Line ends, blank lines, names and the bytes that are due: what reading them finds, and that it finds what stands there. Assumes nothing.
 use Prim.Native.Nat.{ℕ, zero, suc, _+_, _-_, _≤_, _<_}
 use mathlib.Core.Path.{_≡_, refl, sym, ap, _∙_}
+use mathlib.Core.Logic.{inl}
 use mathlib.Core.Bool.{Bool, true, false, or-true}
 use mathlib.Core.List.{List, [], _∷_, _++_}
 use native.Mathlib.Omega.{arith}
@@ -8,7 +9,7 @@ use lib.ListN.{length, replicate, length-append, length-replicate}
 use lib.Seq.{length-take-le}
 use lib.Dec.{leb, ltb, eqb}
 use borrow.Author.Tests.{eqb-true, eq-eqb, leb-true, le-leb}
-use Rattle.paper.specs.Found.{Found, found, fault}
+use Rattle.paper.specs.Found.{Found, found, fault, taking}
 use Rattle.paper.specs.Bytes.{isNameByte, isUpper, isLetter, isBlank, isLineEnd, all, startsIn, lengthIn, front, behind, startsWith, lf, cr, tab, space, is}
 use Rattle.paper.specs.Names.{fewCapitals, nameRule, run, pastRun}
 use Rattle.paper.specs.Tree.{LineEnd, LF, CRLF, Blank}
@@ -21,10 +22,10 @@ use Rattle.paper.proofs.Runs.{Says, many-reads, Shorter, turns-shorter,
 
 -- a fault at the front of what is left
 pub fault-here : (s : List ℕ) (n : ℕ) → 4 ≤ n → n ≤ 11 → Fault s n s
-fault-here s n l h = record { least = l; most = h; tail = whole }
+fault-here s n l h = record { least = l; most = inl h; tail = whole }
 
 pub fault-end : (s : List ℕ) → Fault s 9 []
-fault-end s = record { least = omega arith; most = omega arith; tail = go s }
+fault-end s = record { least = omega arith; most = inl (omega arith); tail = go s }
   where
     go : (s : List ℕ) → Tail s []
     go [] = whole
@@ -99,7 +100,7 @@ pub record ReadBlanks (s : List ℕ) (bs : List Blank) (left : List ℕ) : Type 
   pub rule : all blankRule bs ≡ true
   pub stops : isBlankLine left ≡ false
 
-blank-says : Says Blank
+blank-says : Says Blank ℕ
 blank-says = record {
   of-turn = λ room s b left. ReadBlank s b left;
   of-end = λ room s left. (s ≡ left) × (isBlankLine s ≡ false);
@@ -115,7 +116,7 @@ blank-turns room s =
 pub blanks-reads : (s : List ℕ) → Reads s (λ bs left. ReadBlanks s bs left) (blankLines s)
 unfolding blank-says blanksOnto all
 blanks-reads s =
-    many-reads (λ b. 0) blankTurn blank-says blank-turns
+    many-reads (taking (λ b. 0)) blankTurn blank-says blank-turns
     (λ room s left e. record { covers = e .0; rule = refl; stops = rw (← e .0) (e .1) })
     (λ room s b mid bs left t r. record { covers = t .covers ∙ ap (blankOnto b) (r .covers); rule = and (t .rule) (r .rule); stops = r .stops })
     (suc (length s)) 0 s
@@ -126,10 +127,10 @@ blank-shorter room s =
 
 pub blanks-complete : (bs : List Blank) (next : List ℕ) → all blankRule bs ≡ true → isBlankLine next ≡ false → blankLines (blanksOnto bs next) ≡ found bs next
 unfolding blanksOnto blankTurn
-blanks-complete [] next r e = run-over (λ b. 0) blankTurn blank-shorter 0 next next (rw (e, blankTurn))
+blanks-complete [] next r e = run-over (taking (λ b. 0)) blankTurn blank-shorter 0 next next (rw (e, blankTurn))
 blanks-complete (b ∷ bs) next r e =
     let h = all-head blankRule b bs r in
-    run-more (λ b. 0) blankTurn blank-shorter 0 (blanksOnto (b ∷ bs) next) b (blanksOnto bs next) bs next
+    run-more (taking (λ b. 0)) blankTurn blank-shorter 0 (blanksOnto (b ∷ bs) next) b (blanksOnto bs next) bs next
     (rw (blank-line b (blanksOnto bs next) (h .0), blankTurn, rest-complete b (blanksOnto bs next) (h .0)))
     (blanks-complete bs next (h .1) e)
 
@@ -151,7 +152,7 @@ no-space : (s : List ℕ) (b : ℕ) (l : List ℕ) → Tail s (b ∷ l) → Read
 unfolding noSpace
 no-space s b l t =
     split (startsIn (is space) (behind isTab s))
-    (λ e. rw (e, noSpace) (record { least = omega arith; most = omega arith; tail = t }))
+    (λ e. rw (e, noSpace) (record { least = omega arith; most = inl (omega arith); tail = t }))
     (λ e. rw (e, noSpace) (tail-drop (lengthIn isTab s) s, refl))
 
 pub all-tabs : (n : ℕ) → all isBlank (replicate n tab) ≡ true
@@ -259,7 +260,7 @@ due-complete c next = rw (eq-eqb c c refl, due)
 pub makes-reads : {A : Type 0} (s : List ℕ) (room : ℕ) (at : List ℕ) (a : A) (left : List ℕ) → Tail s at → Tail s left
     → Reads s (λ b end. (0 < room) × (b ≡ a) × (end ≡ left)) (makes room at a left)
 unfolding makes
-makes-reads s zero at a left t u = record { least = omega arith; most = omega arith; tail = t }
+makes-reads s zero at a left t u = record { least = omega arith; most = inl (omega arith); tail = t }
 makes-reads s (suc room) at a left t u = (u, (omega arith, refl, refl))
 
 pub makes-complete : {A : Type 0} (room : ℕ) (at : List ℕ) (a : A) (left : List ℕ) → 0 < room → makes room at a left ≡ found a left

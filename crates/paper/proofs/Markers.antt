@@ -1,42 +1,63 @@
 -- Markers: what reading traits, the ending and a closing marker finds, and that it finds what stands there. Assumes nothing.
-use Prim.Native.Nat.{ℕ, zero, suc, _+_, _-_, _≤_, _<_}
+use Prim.Native.Nat.{ℕ, zero, suc, _+_, _≤_, _<_}
 use mathlib.Core.Path.{_≡_, refl, sym, ap, _∙_}
+use mathlib.Core.Logic.{inl, inr}
 use mathlib.Core.Bool.{Bool, true, false, not, _&&_}
-use mathlib.Core.List.{List, [], _∷_, _++_, map}
+use mathlib.Core.List.{List, [], _∷_, _++_, map, append-nil, append-assoc}
 use native.Mathlib.Omega.{arith}
 use lib.ListN.{length, drop, getD, length-append}
 use lib.Dec.{leb, eqb, eqb·suc-zero}
 use borrow.Author.Tests.{eqb-true, leb-true, le-leb, ne-eqb}
-use Rattle.paper.specs.Found.{found, fault, more, over, turnOf, manyOf}
+use Rattle.paper.specs.Found.{found, fault, more, over, turnOf}
 use Rattle.paper.specs.Bytes.{byte, bytes, isUpper, isLower, isDigit, isLetter, isNameByte, isBlank, isLineEnd, isWhite, all, elem, startsIn, lengthIn, front}
 use Rattle.paper.specs.Bytes.{behind, same, is}
-use Rattle.paper.specs.Names.{nameRule, isName}
+use Rattle.paper.specs.Names.{nameRule, isName, among, distinct}
 use Rattle.paper.specs.Values.{isEnder, endsWord, Value, valueOnto, valueRule, valueInSlash, bracketDepth}
 use Rattle.paper.specs.Tree.{Trait, Marker, Ending, block, self}
-use Rattle.paper.specs.Grammar.{traitOnto, traitsOnto, endingOnto, closingOnto, traitRule, slashLast, opensBlock}
+use Rattle.paper.specs.Grammar.{traitOnto, traitsOnto, endingOnto, closingOnto, traitRule, traitNames, slashLast, opensBlock}
 use Rattle.paper.specs.Limits.{traitFits}
 use Rattle.paper.specs.Entries.{itemEntries, traitSize, traitsSize}
 use Rattle.paper.specs.ReadingValues.{valueOf}
-use Rattle.paper.specs.Reading.{Bounds, name, due, enters, trait, traitDue, traitTurn, ending, Opened, opened, closing}
+use Rattle.paper.specs.Reading.{Bounds, name, due, enters, Earlier, withTrait, fresh, traitName, trait, traitDue, traitTurn, traitsBehind, noTrait}
+use Rattle.paper.specs.Reading.{ending, Opened, opened, closing}
 use Rattle.paper.proofs.Tests.{split, true-false, apart}
 use Rattle.paper.proofs.Lists.{both, and, all-head, front-all, front-behind, front-of, behind-of, same-is, same-of}
 use Rattle.paper.proofs.Finds.{Tail, whole, past, tail-length, tail-then, tail-drop, Reads, reads-as, reads-on, reads-in, Turns, turns-of}
 use Rattle.paper.proofs.Runs.{many-reads, Shorter, turns-shorter, run-more, run-over}
+use Rattle.paper.proofs.Distinct.{distinct-more, distinct-apart}
 use Rattle.paper.proofs.Lines.{fault-end, rule-name, ReadName, name-reads, name-complete, due-reads, due-complete}
 use Rattle.paper.proofs.Leaves.{Follows}
 use Rattle.paper.proofs.ReadValues.{ReadValue, value-reads, value-back}
 
 -- ---- one trait
 
+-- a name that is none of the earlier ones
+fresh-reads : (names : List (List ℕ)) (s w left : List ℕ) → Tail s left
+    → Reads s (λ v end. (v ≡ w) × (end ≡ left) × (among names w ≡ false)) (fresh names s w left)
+unfolding fresh
+fresh-reads names s w left u =
+    split (among names w) (λ e. rw (e, fresh) (record { least = omega arith; most = inr refl; tail = whole })) (λ e. rw (e, fresh) (u, (refl, refl, refl)))
+
+pub fresh-complete : (names : List (List ℕ)) (s w left : List ℕ) → among names w ≡ false → fresh names s w left ≡ found w left
+unfolding fresh
+fresh-complete names s w left e = rw (e, fresh)
+
+name-fresh : (by : Bounds) (names : List (List ℕ)) (s : List ℕ)
+    → Reads s (λ w left. ReadName (isName isLower (by .names)) s w left × (among names w ≡ false)) (traitName by names s)
+name-fresh by names s =
+    reads-on s (λ w left. ReadName (isName isLower (by .names)) s w left) _ _ (name (isName isLower (by .names)) s) (name-reads (isName isLower (by .names)) s)
+    (λ w left u n. reads-as s _ _ (fresh names s w left) (fresh-reads names s w left u) (λ v end e. rw (e .0, e .1) (n, e .2)))
+
 -- behind its white space
-pub record ReadTrait (by : Bounds) (room : ℕ) (white s : List ℕ) (t : Trait) (left : List ℕ) : Type 0 where
+pub record ReadTrait (by : Bounds) (earlier : Earlier) (white s : List ℕ) (t : Trait) (left : List ℕ) : Type 0 where
   pub is-white : t .white ≡ white
   pub covers : s ≡ t .name ++ (byte "=" ∷ valueOnto (t .value) left)
   pub named : isName isLower (by .names) (t .name) ≡ true
+  pub new : among (earlier .names) (t .name) ≡ false
   pub valued : valueRule [] (t .value) ≡ true
   pub depth : bracketDepth (t .value) ≤ by .brackets
   pub slash : valueInSlash (t .value) ≡ true → startsIn (is (byte ">")) left ≡ false
-  pub fits : traitSize t ≤ room
+  pub fits : traitSize t ≤ earlier .room
   pub shorter : length left < length s
 
 enters-reads : (s : List ℕ) (room : ℕ) (named valued : List ℕ) (t : Trait) (left : List ℕ) → Tail s named → Tail s valued → Tail s left
@@ -49,18 +70,19 @@ enters-reads s room named valued t left n v u =
     go : (room : ℕ)
         → Reads s (λ u end. (u ≡ t) × (end ≡ left) × (traitSize t ≤ room))
         (elim room [ zero ↦ fault 11 named | suc items ↦ fault 11 (drop (getD (map (λ e. e .nameStart) (itemEntries 0 0 0 (t .value))) items 0) valued) ])
-    go zero = record { least = omega arith; most = omega arith; tail = n }
+    go zero = record { least = omega arith; most = inl (omega arith); tail = n }
     go (suc items) =
-        record { least = omega arith; most = omega arith; tail = tail-then v (tail-drop (getD (map (λ e. e .nameStart) (itemEntries 0 0 0 (t .value))) items 0) valued) }
+        record { least = omega arith; most = inl (omega arith); tail = tail-then v (tail-drop (getD (map (λ e. e .nameStart) (itemEntries 0 0 0 (t .value))) items 0) valued) }
 
-trait-made : (by : Bounds) (room : ℕ) (white s w mid valued : List ℕ) (v : Value) (left : List ℕ) → ReadName (isName isLower (by .names)) s w mid
-    → mid ≡ byte "=" ∷ valued → ReadValue (by .brackets) [] valued v left → traitSize (record { white = white; name = w; value = v }) ≤ room
-    → ReadTrait by room white s (record { white = white; name = w; value = v }) left
-trait-made by room white s w mid valued v left n d r f =
+trait-made : (by : Bounds) (earlier : Earlier) (white s w mid valued : List ℕ) (v : Value) (left : List ℕ) → ReadName (isName isLower (by .names)) s w mid
+    → among (earlier .names) w ≡ false → mid ≡ byte "=" ∷ valued → ReadValue (by .brackets) [] valued v left
+    → traitSize (record { white = white; name = w; value = v }) ≤ earlier .room → ReadTrait by earlier white s (record { white = white; name = w; value = v }) left
+trait-made by earlier white s w mid valued v left n new d r f =
     record {
       is-white = refl;
       covers = n .covers ∙ ap (λ (l : List ℕ). w ++ l) (d ∙ ap (λ (l : List ℕ). byte "=" ∷ l) (r .covers));
       named = n .kept;
+      new = new;
       valued = r .rule;
       depth = r .depth;
       slash = r .slash;
@@ -68,38 +90,41 @@ trait-made by room white s w mid valued v left n d r f =
       shorter = omega (arith, ap length (n .covers), length-append w mid, ap length d, r .shorter);
     }
 
-pub trait-reads : (by : Bounds) (room : ℕ) (white s : List ℕ) → Reads s (λ t left. ReadTrait by room white s t left) (trait by room white s)
+pub trait-reads : (by : Bounds) (earlier : Earlier) (white s : List ℕ) → Reads s (λ t left. ReadTrait by earlier white s t left) (trait by earlier white s)
 unfolding trait
-trait-reads by room white s =
-    reads-on s (λ w left. ReadName (isName isLower (by .names)) s w left) _ _ (name (isName isLower (by .names)) s) (name-reads (isName isLower (by .names)) s)
+trait-reads by earlier white s =
+    reads-on s (λ w left. ReadName (isName isLower (by .names)) s w left × (among (earlier .names) w ≡ false)) _ _ (traitName by (earlier .names) s)
+    (name-fresh by (earlier .names) s)
     (λ w mid u n. reads-on s (λ b left. mid ≡ byte "=" ∷ left) _ _ (due (byte "=") mid) (reads-in u _ (due (byte "=") mid) (due-reads (byte "=") mid))
     (λ b valued u d. reads-on s (λ v left. ReadValue (by .brackets) [] valued v left) _ _ (valueOf (by .brackets) [] valued)
     (reads-in u _ (valueOf (by .brackets) [] valued) (value-reads (suc (length valued)) (by .brackets) [] valued))
-    (λ v left x r. reads-as s _ _ (enters room s valued (record { white = white; name = w; value = v }) left) (enters-reads s room s valued (record {
+    (λ v left x r. reads-as s _ _ (enters (earlier .room) s valued (record { white = white; name = w; value = v }) left)
+    (enters-reads s (earlier .room) s valued (record {
       white = white;
       name = w;
       value = v;
     }) left whole u x)
-    (λ t end e. rw (e .0, e .1) (trait-made by room white s w mid valued v left n d r (e .2))))))
+    (λ t end e. rw (e .0, e .1) (trait-made by earlier white s w mid valued v left (n .0) (n .1) d r (e .2))))))
 
 -- ---- the traits of a marker
 
-pub record ReadTurn (by : Bounds) (room : ℕ) (s : List ℕ) (t : Trait) (left : List ℕ) : Type 0 where
+pub record ReadTurn (by : Bounds) (earlier : Earlier) (s : List ℕ) (t : Trait) (left : List ℕ) : Type 0 where
   pub covers : s ≡ traitOnto t left
   pub rule : traitRule t ≡ true
   pub within : traitFits (by .names) (by .brackets) t ≡ true
+  pub new : among (earlier .names) (t .name) ≡ false
   pub slash : valueInSlash (t .value) ≡ true → startsIn (is (byte ">")) left ≡ false
-  pub fits : traitSize t ≤ room
+  pub fits : traitSize t ≤ earlier .room
   pub shorter : length left < length s
 
 -- what follows the traits begins, behind white space, with ">" or "/"
 abbrev pub endsMarker : List ℕ → Bool
 endsMarker s = startsIn (λ b. elem b (bytes ">/")) (behind isWhite s)
 
-turn-made : (by : Bounds) (room : ℕ) (s : List ℕ) → 0 < length (front isWhite s) → (t : Trait) (left : List ℕ)
-    → ReadTrait by room (front isWhite s) (behind isWhite s) t left → ReadTurn by room s t left
+turn-made : (by : Bounds) (earlier : Earlier) (s : List ℕ) → 0 < length (front isWhite s) → (t : Trait) (left : List ℕ)
+    → ReadTrait by earlier (front isWhite s) (behind isWhite s) t left → ReadTurn by earlier s t left
 unfolding traitRule traitFits isName
-turn-made by room s w t left r =
+turn-made by earlier s w t left r =
     let n = both (nameRule isLower (t .name)) (leb (length (t .name)) (by .names)) (r .named) in
     let some : leb 1 (length (t .white)) ≡ true = rw (r .is-white) (le-leb 1 (length (front isWhite s)) w) in
     let only : all isWhite (t .white) ≡ true = rw (r .is-white) (front-all isWhite s) in
@@ -107,17 +132,19 @@ turn-made by room s w t left r =
       covers = sym (front-behind isWhite s) ∙ ap (λ (l : List ℕ). front isWhite s ++ l) (r .covers) ∙ rw (r .is-white);
       rule = and (and (and some only) (n .0)) (r .valued);
       within = and (n .1) (le-leb (bracketDepth (t .value)) (by .brackets) (r .depth));
+      new = r .new;
       slash = r .slash;
       fits = r .fits;
       shorter = omega (arith, r .shorter, tail-length (tail-drop (lengthIn isWhite s) s));
     }
 
-turn-reads : (by : Bounds) (room : ℕ) (s : List ℕ) → Turns s (λ t left. ReadTurn by room s t left) (λ left. (s ≡ left) × (endsMarker s ≡ true)) (traitTurn by room s)
+turn-reads : (by : Bounds) (earlier : Earlier) (s : List ℕ)
+    → Turns s (λ t left. ReadTurn by earlier s t left) (λ left. (s ≡ left) × (endsMarker s ≡ true)) (traitTurn by earlier s)
 unfolding traitTurn traitDue startsIn
-turn-reads by room s = go (behind isWhite s) refl
+turn-reads by earlier s = go (behind isWhite s) refl
   where
     go : (r : List ℕ) → behind isWhite s ≡ r
-        → Turns s (λ t left. ReadTurn by room s t left) (λ left. (s ≡ left) × (endsMarker s ≡ true)) (traitDue by room s (front isWhite s) r)
+        → Turns s (λ t left. ReadTurn by earlier s t left) (λ left. (s ≡ left) × (endsMarker s ≡ true)) (traitDue by earlier s (front isWhite s) r)
     go [] e = fault-end s
     go (b ∷ l) e =
         let u : Tail s (b ∷ l) = rw e at (tail-drop (lengthIn isWhite s) s) in
@@ -127,30 +154,32 @@ turn-reads by room s = go (behind isWhite s) refl
           f,
           traitDue,
           g,
-        ) (turns-of s _ _ (trait by room (front isWhite s) (b ∷ l))
-        (reads-in u _ (trait by room (front isWhite s) (b ∷ l))
-        (reads-as (b ∷ l) _ _ (trait by room (front isWhite s) (b ∷ l)) (trait-reads by room (front isWhite s) (b ∷ l))
-        (λ t left h. turn-made by room s (leb-true 1 (length (front isWhite s)) g) t left (rw e h))))))
-        (λ g. rw (f, traitDue, g) (record { least = omega arith; most = omega arith; tail = u })))
+        ) (turns-of s _ _ (trait by earlier (front isWhite s) (b ∷ l))
+        (reads-in u _ (trait by earlier (front isWhite s) (b ∷ l))
+        (reads-as (b ∷ l) _ _ (trait by earlier (front isWhite s) (b ∷ l)) (trait-reads by earlier (front isWhite s) (b ∷ l))
+        (λ t left h. turn-made by earlier s (leb-true 1 (length (front isWhite s)) g) t left (rw e h))))))
+        (λ g. rw (f, traitDue, g) (record { least = omega arith; most = inl (omega arith); tail = u })))
 
-pub trait-shorter : (by : Bounds) (room : ℕ) (s : List ℕ) → Shorter s (traitTurn by room s)
-trait-shorter by room s = turns-shorter s _ _ (λ t left h. h .shorter) (traitTurn by room s) (turn-reads by room s)
+pub trait-shorter : (by : Bounds) (earlier : Earlier) (s : List ℕ) → Shorter s (traitTurn by earlier s)
+trait-shorter by earlier s = turns-shorter s _ _ (λ t left h. h .shorter) (traitTurn by earlier s) (turn-reads by earlier s)
 
-pub record ReadTraits (by : Bounds) (room : ℕ) (s : List ℕ) (ts : List Trait) (left : List ℕ) : Type 0 where
+pub record ReadTraits (by : Bounds) (earlier : Earlier) (s : List ℕ) (ts : List Trait) (left : List ℕ) : Type 0 where
   pub covers : s ≡ traitsOnto ts left
   pub rule : all traitRule ts ≡ true
+  pub apart : distinct (earlier .names) ≡ true → distinct (earlier .names ++ traitNames ts) ≡ true
   pub within : all (traitFits (by .names) (by .brackets)) ts ≡ true
   pub slash : slashLast ts ≡ true → startsIn (is (byte ">")) left ≡ false
-  pub fits : traitsSize ts ≤ room
+  pub fits : traitsSize ts ≤ earlier .room
   pub closed : endsMarker left ≡ true
 
-traits-more : (by : Bounds) (room : ℕ) (s : List ℕ) (t : Trait) (mid : List ℕ) (ts : List Trait) (left : List ℕ) → ReadTurn by room s t mid
-    → ReadTraits by (room - traitSize t) mid ts left → ReadTraits by room s (t ∷ ts) left
+traits-more : (by : Bounds) (earlier : Earlier) (s : List ℕ) (t : Trait) (mid : List ℕ) (ts : List Trait) (left : List ℕ) → ReadTurn by earlier s t mid
+    → ReadTraits by (withTrait earlier t) mid ts left → ReadTraits by earlier s (t ∷ ts) left
 unfolding traitsOnto all slashLast traitsSize
-traits-more by room s t mid ts left h r =
+traits-more by earlier s t mid ts left h r =
     record {
       covers = h .covers ∙ ap (traitOnto t) (r .covers);
       rule = and (h .rule) (r .rule);
+      apart = λ d. rw append-assoc at (r .apart (distinct-more (earlier .names) (t .name) d (h .new)));
       within = and (h .within) (r .within);
       slash = go ts (r .covers) (r .slash);
       fits = omega (arith, h .fits, r .fits);
@@ -162,19 +191,27 @@ traits-more by room s t mid ts left h r =
     go [] c f e = rw (← c) (h .slash e)
     go (u ∷ ts) c f e = f e
 
-pub traits-reads : (by : Bounds) (room : ℕ) (s : List ℕ) → Reads s (λ ts left. ReadTraits by room s ts left) (manyOf traitSize (traitTurn by) room s)
+pub traits-reads : (by : Bounds) (earlier : Earlier) (s : List ℕ) → Reads s (λ ts left. ReadTraits by earlier s ts left) (traitsBehind by earlier s)
 unfolding traitsOnto all slashLast traitsSize
-traits-reads by room s =
-    many-reads traitSize (traitTurn by)
+traits-reads by earlier s =
+    many-reads withTrait (traitTurn by)
     (record {
-      of-turn = λ room s t left. ReadTurn by room s t left;
-      of-end = λ room s left. (s ≡ left) × (endsMarker s ≡ true);
-      of-run = λ room s ts left. ReadTraits by room s ts left;
+      of-turn = λ earlier s t left. ReadTurn by earlier s t left;
+      of-end = λ earlier s left. (s ≡ left) × (endsMarker s ≡ true);
+      of-run = λ earlier s ts left. ReadTraits by earlier s ts left;
     })
     (turn-reads by)
-    (λ room s left e. record { covers = e .0; rule = refl; within = refl; slash = λ f. true-false (sym f); fits = omega arith; closed = rw (← e .0) (e .1) })
+    (λ earlier s left e. record {
+      covers = e .0;
+      rule = refl;
+      apart = λ d. rw append-nil d;
+      within = refl;
+      slash = λ f. true-false (sym f);
+      fits = omega arith;
+      closed = rw (← e .0) (e .1);
+    })
     (traits-more by)
-    (suc (length s)) room s
+    (suc (length s)) earlier s
 
 -- ---- the ending
 
@@ -198,6 +235,7 @@ pub record ReadOpened (by : Bounds) (room : ℕ) (w s : List ℕ) (o : Opened) (
   pub named : o .marker .name ≡ w
   pub covers : s ≡ traitsOnto (o .marker .traits) (o .marker .white ++ endingOnto (o .ends) left)
   pub rule : all traitRule (o .marker .traits) ≡ true
+  pub apart : distinct (traitNames (o .marker .traits)) ≡ true
   pub within : all (traitFits (by .names) (by .brackets)) (o .marker .traits) ≡ true
   pub blank : all isWhite (o .marker .white) ≡ true
   pub opens : o .ends ≡ block → opensBlock (o .marker) ≡ true
@@ -214,9 +252,9 @@ opens-made k left f = go (k .white) f
     go (b ∷ white) f = rw (eqb·suc-zero (length white))
 
 pub opened-reads : (by : Bounds) (room : ℕ) (w s : List ℕ) → Reads s (λ o left. ReadOpened by room w s o left) (opened by room w s)
-unfolding opened
+unfolding opened distinct
 opened-reads by room w s =
-    reads-on s (λ ts left. ReadTraits by room s ts left) _ _ (manyOf traitSize (traitTurn by) room s) (traits-reads by room s)
+    reads-on s (λ ts left. ReadTraits by (noTrait room) s ts left) _ _ (traitsBehind by (noTrait room) s) (traits-reads by (noTrait room) s)
     (λ ts mid u r. reads-on s (λ e left. behind isWhite mid ≡ endingOnto e left) _ _ (ending (behind isWhite mid))
     (reads-in (tail-then u (tail-drop (lengthIn isWhite mid) mid)) _ (ending (behind isWhite mid)) (ending-reads (behind isWhite mid)))
     (λ e left u k.
@@ -226,6 +264,7 @@ opened-reads by room w s =
         named = refl;
         covers = r .covers ∙ ap (traitsOnto ts) c;
         rule = r .rule;
+        apart = r .apart refl;
         within = r .within;
         blank = front-all isWhite mid;
         opens = λ b. opens-made (record { name = w; traits = ts; white = front isWhite mid }) left (λ f. rw (c, b) at (r .slash f));
@@ -277,11 +316,11 @@ module _ (white next : List ℕ) (l : 0 < length white) (r : all isWhite white �
   white-some = omega (arith, length-append white next)
 
 -- the end of a marker ends the run of traits
-turn-over : (by : Bounds) (room : ℕ) (s : List ℕ) → endsMarker s ≡ true → traitTurn by room s ≡ over s
+turn-over : (by : Bounds) (earlier : Earlier) (s : List ℕ) → endsMarker s ≡ true → traitTurn by earlier s ≡ over s
 unfolding traitTurn startsIn traitDue
-turn-over by room s e = go (behind isWhite s) e
+turn-over by earlier s e = go (behind isWhite s) e
   where
-    go : (r : List ℕ) → startsIn (λ b. elem b (bytes ">/")) r ≡ true → traitDue by room s (front isWhite s) r ≡ over s
+    go : (r : List ℕ) → startsIn (λ b. elem b (bytes ">/")) r ≡ true → traitDue by earlier s (front isWhite s) r ≡ over s
     go [] e = true-false (sym e)
     go (b ∷ l) e = rw (e, traitDue)
 
@@ -303,26 +342,28 @@ pub enters-complete : (room : ℕ) (named valued : List ℕ) (t : Trait) (left :
 unfolding enters
 enters-complete room named valued t left f = rw (le-leb (traitSize t) room f, enters)
 
-trait-complete : (by : Bounds) (room : ℕ) (t : Trait) (next : List ℕ) → traitRule t ≡ true → traitFits (by .names) (by .brackets) t ≡ true → traitSize t ≤ room
-    → Follows [] (valueInSlash (t .value)) next → trait by room (t .white) (t .name ++ (byte "=" ∷ valueOnto (t .value) next)) ≡ found t next
+trait-complete : (by : Bounds) (earlier : Earlier) (t : Trait) (next : List ℕ) → traitRule t ≡ true → traitFits (by .names) (by .brackets) t ≡ true
+    → among (earlier .names) (t .name) ≡ false → traitSize t ≤ earlier .room → Follows [] (valueInSlash (t .value)) next
+    → trait by earlier (t .white) (t .name ++ (byte "=" ∷ valueOnto (t .value) next)) ≡ found t next
 unfolding trait traitFits isName isNameByte isLetter isUpper isLower isDigit
-trait-complete by room t next r w f k =
+trait-complete by earlier t next r w new f k =
     let p = trait-parts t r in
     let n = rule-name isLower (t .name) (p .2) in
     let q = both (leb (length (t .name)) (by .names)) (leb (bracketDepth (t .value)) (by .brackets)) w in
     rw (
       name-complete (isName isLower (by .names)) (t .name) (byte "=") (valueOnto (t .value) next) (n .0) (n .1) (and (p .2) (q .0)) refl,
+      fresh-complete (earlier .names) (t .name ++ (byte "=" ∷ valueOnto (t .value) next)) (t .name) (byte "=" ∷ valueOnto (t .value) next) new,
       due-complete (byte "=") (valueOnto (t .value) next),
       value-back (t .value) (by .brackets) [] next (p .3) (leb-true (bracketDepth (t .value)) (by .brackets) (q .1)) k,
     )
-    (enters-complete room (t .name ++ (byte "=" ∷ valueOnto (t .value) next)) (valueOnto (t .value) next) t next f)
+    (enters-complete (earlier .room) (t .name ++ (byte "=" ∷ valueOnto (t .value) next)) (valueOnto (t .value) next) t next f)
 
 -- a name behind white space begins a trait
-name-due : (by : Bounds) (room : ℕ) (white w rest : List ℕ) → 0 < length white → all isWhite white ≡ true → 0 < length w → all isNameByte w ≡ true
-    → traitTurn by room (white ++ (w ++ rest)) ≡ turnOf (trait by room white (w ++ rest))
+pub name-due : (by : Bounds) (earlier : Earlier) (white w rest : List ℕ) → 0 < length white → all isWhite white ≡ true → 0 < length w → all isNameByte w ≡ true
+    → traitTurn by earlier (white ++ (w ++ rest)) ≡ turnOf (trait by earlier white (w ++ rest))
 unfolding traitTurn traitDue startsIn elem isNameByte isLetter isUpper isLower isDigit
-name-due by room white [] rest l r k n = absurd (omega arith)
-name-due by room white (b ∷ w) rest l r k n =
+name-due by earlier white [] rest l r k n = absurd (omega arith)
+name-due by earlier white (b ∷ w) rest l r k n =
     let h = all-head isNameByte b w n .0 in
     let a = front-of isWhite white (b ∷ (w ++ rest)) r (name-white b h) in
     rw (
@@ -335,23 +376,27 @@ name-due by room white (b ∷ w) rest l r k n =
       a,
     )
 
-turn-complete : (by : Bounds) (room : ℕ) (t : Trait) (next : List ℕ) → traitRule t ≡ true → traitFits (by .names) (by .brackets) t ≡ true → traitSize t ≤ room
-    → Follows [] (valueInSlash (t .value)) next → traitTurn by room (traitOnto t next) ≡ more t next
-turn-complete by room t next r w f k =
+pub turn-complete : (by : Bounds) (earlier : Earlier) (t : Trait) (next : List ℕ) → traitRule t ≡ true → traitFits (by .names) (by .brackets) t ≡ true
+    → among (earlier .names) (t .name) ≡ false → traitSize t ≤ earlier .room → Follows [] (valueInSlash (t .value)) next
+    → traitTurn by earlier (traitOnto t next) ≡ more t next
+turn-complete by earlier t next r w new f k =
     let p = trait-parts t r in
     let n = rule-name isLower (t .name) (p .2) in
-    name-due by room (t .white) (t .name) (byte "=" ∷ valueOnto (t .value) next) (p .0) (p .1) (n .1) (n .0) ∙ ap turnOf (trait-complete by room t next r w f k)
+    name-due by earlier (t .white) (t .name) (byte "=" ∷ valueOnto (t .value) next) (p .0) (p .1) (n .1) (n .0)
+    ∙ ap turnOf (trait-complete by earlier t next r w new f k)
 
-pub traits-complete : (by : Bounds) (room : ℕ) (ts : List Trait) (next : List ℕ) → all traitRule ts ≡ true → all (traitFits (by .names) (by .brackets)) ts ≡ true
-    → traitsSize ts ≤ room → Closes ts next → manyOf traitSize (traitTurn by) room (traitsOnto ts next) ≡ found ts next
+pub traits-complete : (by : Bounds) (earlier : Earlier) (ts : List Trait) (next : List ℕ) → all traitRule ts ≡ true
+    → all (traitFits (by .names) (by .brackets)) ts ≡ true → distinct (earlier .names ++ traitNames ts) ≡ true → traitsSize ts ≤ earlier .room → Closes ts next
+    → traitsBehind by earlier (traitsOnto ts next) ≡ found ts next
 unfolding traitsOnto traitsSize
-traits-complete by room [] next r w f c = run-over traitSize (traitTurn by) (trait-shorter by) room next next (turn-over by room next (c .closed))
-traits-complete by room (t ∷ ts) next r w f c =
+traits-complete by earlier [] next r w d f c = run-over withTrait (traitTurn by) (trait-shorter by) earlier next next (turn-over by earlier next (c .closed))
+traits-complete by earlier (t ∷ ts) next r w d f c =
     let h = all-head traitRule t ts r in
     let g = all-head (traitFits (by .names) (by .brackets)) t ts w in
-    run-more traitSize (traitTurn by) (trait-shorter by) room (traitsOnto (t ∷ ts) next) t (traitsOnto ts next) ts next
-    (turn-complete by room t (traitsOnto ts next) (h .0) (g .0) (omega arith) (follows-more ts t next (h .1) c))
-    (traits-complete by (room - traitSize t) ts next (h .1) (g .1) (omega arith) (closes-more t ts next c))
+    run-more withTrait (traitTurn by) (trait-shorter by) earlier (traitsOnto (t ∷ ts) next) t (traitsOnto ts next) ts next
+    (turn-complete by earlier t (traitsOnto ts next) (h .0) (g .0) (distinct-apart (earlier .names) (t .name) (traitNames ts) d) (omega arith)
+    (follows-more ts t next (h .1) c))
+    (traits-complete by (withTrait earlier t) ts next (h .1) (g .1) (rw append-assoc d) (omega arith) (closes-more t ts next c))
 
 -- ---- an opening marker behind its name, and a closing one, are found where they stand
 
@@ -384,13 +429,14 @@ closes-end k e next r o = go (k .white) e r o
         }
 
 pub opened-complete : (by : Bounds) (room : ℕ) (k : Marker) (e : Ending) (next : List ℕ) → all traitRule (k .traits) ≡ true
-    → all (traitFits (by .names) (by .brackets)) (k .traits) ≡ true → all isWhite (k .white) ≡ true → (e ≡ block → opensBlock k ≡ true) → traitsSize (k .traits) ≤ room
+    → distinct (traitNames (k .traits)) ≡ true → all (traitFits (by .names) (by .brackets)) (k .traits) ≡ true → all isWhite (k .white) ≡ true
+    → (e ≡ block → opensBlock k ≡ true) → traitsSize (k .traits) ≤ room
     → opened by room (k .name) (traitsOnto (k .traits) (k .white ++ endingOnto e next)) ≡ found (record { marker = k; ends = e }) next
 unfolding opened
-opened-complete by room k e next r w b o f =
+opened-complete by room k e next r d w b o f =
     let s = ends-white e next in
     rw (
-      traits-complete by room (k .traits) (k .white ++ endingOnto e next) r w f (closes-end k e next b o),
+      traits-complete by (noTrait room) (k .traits) (k .white ++ endingOnto e next) r w d f (closes-end k e next b o),
       behind-of isWhite (k .white) (endingOnto e next) b s,
       ending-complete e next,
       front-of isWhite (k .white) (endingOnto e next) b s,
@@ -406,7 +452,7 @@ closing-reads w s =
     (λ v left x n. split (same w v)
     (λ f. rw f (reads-as s _ _ (due (byte ">") left) (reads-in x _ (due (byte ">") left) (due-reads (byte ">") left))
     (λ b end g. d ∙ ap (λ (l : List ℕ). byte "<" ∷ l) (e ∙ ap (λ (l : List ℕ). byte "/" ∷ l) (n .covers ∙ rw (← same-is w v f) (ap (λ (l : List ℕ). w ++ l) g))))))
-    (λ f. rw f (record { least = omega arith; most = omega arith; tail = u })))))
+    (λ f. rw f (record { least = omega arith; most = inl (omega arith); tail = u })))))
 
 pub closing-complete : (w next : List ℕ) → all isNameByte w ≡ true → 0 < length w → closing w (closingOnto w next) ≡ found (byte ">") next
 unfolding closing isNameByte isLetter isUpper isLower isDigit

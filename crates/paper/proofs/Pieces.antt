@@ -8,7 +8,7 @@ use lib.ListN.{length, take, drop, length-append, take-append-drop}
 use lib.Seq.{take-at, drop-at}
 use lib.Dec.{leb, eqb}
 use borrow.Author.Tests.{leb-true, le-leb, lt-leb, eqb-true, not-true}
-use Rattle.paper.specs.Found.{Found, found, fault, more, over, stop, turnOf, manyOf}
+use Rattle.paper.specs.Found.{Found, found, fault, more, over, stop, turnOf, manyOf, taking}
 use Rattle.paper.specs.Bytes.{byte, bytes, isDigit, isHex, isLineEnd, all, elem, startsIn, startsWith, lengthIn, front, behind, scalar, isScalar, encode, is}
 use Rattle.paper.specs.Values.{Piece, direct, escaped, four, braces, pieceOnto, piecesOnto, spellsScalar, hexValue, pieceRule, oneScalar, backtickRule}
 use Rattle.paper.specs.ReadingValues.{judged, fourDigits, bracedDigits, escape, closes, escapes, breaks, itself, insideOf, pieceTurn, backtickTurn}
@@ -307,7 +307,7 @@ piece-turns room (b ∷ l) =
 pub pieces-read : (s : List ℕ) → Reads s (Quoted s) (manyOf (λ p. 0) pieceTurn 0 s)
 unfolding piecesOnto
 pieces-read s =
-    many-reads (λ p. 0) pieceTurn
+    many-reads (taking (λ p. 0)) pieceTurn
     (record { of-turn = λ room s p left. Stood (byte "\"") s p left; of-end = λ room s left. s ≡ byte "\"" ∷ left; of-run = λ room s ps left. Quoted s ps left })
     piece-turns
     (λ room s left e. record { covers = e; rule = all-nil _ })
@@ -330,19 +330,19 @@ turn-back room (braces digits) next e =
 pub pieces-back : (ps : List Piece) (left : List ℕ) → all (pieceRule (byte "\"")) ps ≡ true
     → manyOf (λ p. 0) pieceTurn 0 (piecesOnto ps (byte "\"" ∷ left)) ≡ found ps left
 unfolding piecesOnto insideOf
-pieces-back [] left e = run-over (λ p. 0) pieceTurn turn-shorter 0 _ left (turn-closes 0 (byte "\"") left refl)
+pieces-back [] left e = run-over (taking (λ p. 0)) pieceTurn turn-shorter 0 _ left (turn-closes 0 (byte "\"") left refl)
 pieces-back (p ∷ ps) left e =
     let h = all-head (pieceRule (byte "\"")) p ps e in
-    run-more (λ p. 0) pieceTurn turn-shorter 0 _ p (piecesOnto ps (byte "\"" ∷ left)) ps left (turn-back 0 p _ (h .0)) (pieces-back ps left (h .1))
+    run-more (taking (λ p. 0)) pieceTurn turn-shorter 0 _ p (piecesOnto ps (byte "\"" ∷ left)) ps left (turn-back 0 p _ (h .0)) (pieces-back ps left (h .1))
 
 -- behind spelt pieces a fault is told as it is
 pub pieces-stop : (ps : List Piece) (next : List ℕ) (n : ℕ) (left : List ℕ) → all (pieceRule (byte "\"")) ps ≡ true → pieceTurn 0 next ≡ stop n left
     → manyOf (λ p. 0) pieceTurn 0 (piecesOnto ps next) ≡ fault n left
 unfolding piecesOnto
-pieces-stop [] next n left e f = run-stop (λ p. 0) pieceTurn turn-shorter 0 next n left f
+pieces-stop [] next n left e f = run-stop (taking (λ p. 0)) pieceTurn turn-shorter 0 next n left f
 pieces-stop (p ∷ ps) next n left e f =
     let h = all-head (pieceRule (byte "\"")) p ps e in
-    run-on (λ p. 0) pieceTurn turn-shorter 0 _ p (piecesOnto ps next) n left (turn-back 0 p _ (h .0)) (pieces-stop ps next n left (h .1) f)
+    run-on (taking (λ p. 0)) pieceTurn turn-shorter 0 _ p (piecesOnto ps next) n left (turn-back 0 p _ (h .0)) (pieces-stop ps next n left (h .1) f)
 
 -- ---- backticks
 
@@ -404,7 +404,7 @@ tick-turns room (b ∷ l) =
 pub ticks-read : (s : List ℕ) → Reads s (Ticked s) (manyOf (λ p. 0) backtickTurn 0 s)
 unfolding piecesOnto
 ticks-read s =
-    many-reads (λ p. 0) backtickTurn
+    many-reads (taking (λ p. 0)) backtickTurn
     (record { of-turn = λ room s p left. Tick s p left; of-end = λ room s left. s ≡ byte "`" ∷ left; of-run = λ room s ps left. Ticked s ps left })
     tick-turns
     (λ room s left e. ticked-end s left e)
@@ -428,16 +428,16 @@ not-tick (braces digits ∷ ps) left e = refl
 pub ticks-back : (after : Bool) (ps : List Piece) (left : List ℕ) → backtickRule after ps ≡ true
     → manyOf (λ p. 0) backtickTurn 0 (piecesOnto ps (byte "`" ∷ left)) ≡ found ps left
 unfolding backtickRule piecesOnto pieceOnto
-ticks-back after [] left e = run-over (λ p. 0) backtickTurn tick-shorter 0 _ left (tick-closes 0 left)
+ticks-back after [] left e = run-over (taking (λ p. 0)) backtickTurn tick-shorter 0 _ left (tick-closes 0 left)
 ticks-back after (direct b ∷ ps) left e =
     let h = both (not (eqb b (byte "`"))) (backtickRule (eqb b (byte "\\")) ps) e in
-    run-more (λ p. 0) backtickTurn tick-shorter 0 _ (direct b) (piecesOnto ps (byte "`" ∷ left)) ps left
+    run-more (taking (λ p. 0)) backtickTurn tick-shorter 0 _ (direct b) (piecesOnto ps (byte "`" ∷ left)) ps left
     (tick-itself 0 _ b (not-true (eqb b (byte "`")) (h .0)) (tick-apart b _ (λ f. not-tick ps left (rw f at (h .1)))))
     (ticks-back (eqb b (byte "\\")) ps left (h .1))
 ticks-back after (escaped b ∷ ps) left e =
     let h = both (eqb b (byte "`")) (backtickRule false ps) e in
     rw (eqb-true b (byte "`") (h .0))
-    (run-more (λ p. 0) backtickTurn tick-shorter 0 _ (escaped (byte "`")) (piecesOnto ps (byte "`" ∷ left)) ps left (tick-escapes 0 _) (ticks-back false ps left (h .1)))
+    (run-more (taking (λ p. 0)) backtickTurn tick-shorter 0 _ (escaped (byte "`")) (piecesOnto ps (byte "`" ∷ left)) ps left (tick-escapes 0 _) (ticks-back false ps left (h .1)))
 ticks-back after (four digits ∷ ps) left e = true-false (sym e)
 ticks-back after (braces digits ∷ ps) left e = true-false (sym e)
 

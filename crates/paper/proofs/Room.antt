@@ -2,16 +2,15 @@
 use Prim.Native.Nat.{ℕ, zero, suc, _+_, _-_, _≤_}
 use mathlib.Core.Path.{_≡_, refl, ap, subst}
 use mathlib.Core.Bool.{Bool, true, false}
-use mathlib.Core.List.{List, [], _∷_, map}
+use mathlib.Core.List.{List, [], _∷_, _++_, map}
 use mathlib.Core.Logic.{_⊎_, inl, inr, ⊎-elim}
 use native.Mathlib.Omega.{arith}
 use lib.ListN.{length, drop, getD}
 use lib.Dec.{leb, ltb}
 use borrow.Author.Tests.{leb-true, le-leb}
 use Rattle.paper.specs.declared.Mode.the-variants.{Children, Absent}
-use Rattle.paper.specs.Found.{Found, found, fault, andThen, Turn, more, over, stop, turnOf, goOn, many}
-use Rattle.paper.specs.Bytes.{byte, bytes, isLower, isWhite, lengthIn, front, behind, elem, startsWith, sheetBytes}
-use Rattle.paper.specs.Names.{isName}
+use Rattle.paper.specs.Found.{Found, found, fault, andThen, Turn, more, over, stop, turnOf, goOn, many, taking}
+use Rattle.paper.specs.Bytes.{byte, bytes, isWhite, lengthIn, front, behind, elem, startsWith, sheetBytes}
 use Rattle.paper.specs.Modes.{Modes}
 use Rattle.paper.specs.Tree.{Trait, Marker, Ending, block, self, Concept, done, before}
 use Rattle.paper.specs.Grammar.{inMode}
@@ -19,8 +18,8 @@ use Rattle.paper.specs.Limits.{sheetLimit, conceptLimit}
 use Rattle.paper.specs.Entries.{itemEntries, traitSize, bodySize}
 use Rattle.paper.specs.ReadingValues.{valueOf}
 use Rattle.paper.specs.Reading.{Bounds, bounds, blankLines, isBlankLine, isTab, tabsOnly, lineRest, name, due, makes, textOf, annotation, annotationTurn}
-use Rattle.paper.specs.Reading.{annotations, enters, trait, traitDue, traitTurn, Opened, opened, admitted, head, opening, contentOf, roomIn, insideBy, annotatedBy}
-use Rattle.paper.specs.Reading.{pieceBy, isClosing, concept, childrenOf, body, conceptOf, sheetTree, sheetOf}
+use Rattle.paper.specs.Reading.{annotations, enters, Earlier, withTrait, traitName, trait, traitDue, traitTurn, noTrait, Opened, opened, admitted, head, opening}
+use Rattle.paper.specs.Reading.{contentOf, roomIn, insideBy, annotatedBy, pieceBy, isClosing, concept, childrenOf, body, conceptOf, sheetTree, sheetOf}
 use Rattle.paper.proofs.Tests.{split}
 
 -- a reading that is out of room
@@ -71,26 +70,29 @@ Turns x y = (x ≡ y) ⊎ Stopped x
 turns-of : {A : Type 0} (x y : Found A) → Within x y → Turns (turnOf x) (turnOf y)
 turns-of {A} x y w = ⊎-elim (λ e. inl (ap turnOf e)) (λ k. inr (record { left = k .left; is = ap turnOf (k .is) })) w
 
-module _ {A : Type 0} (size : A → ℕ) (turn : ℕ → List ℕ → Turn A) (h : (room wide : ℕ) (s : List ℕ) → room ≤ wide → Turns (turn room s) (turn wide s)) where
-  going-on : (fuel room wide : ℕ) → room ≤ wide
-      → ((room wide : ℕ) (s : List ℕ) → room ≤ wide → Within (many size turn fuel room s) (many size turn fuel wide s)) → (t : Turn A)
-      → Within (goOn (λ a left. many size turn fuel (room - size a) left) t) (goOn (λ a left. many size turn fuel (wide - size a) left) t)
-  going-on fuel room wide l again (more a left) =
+-- a run behind what leaves less, and one behind what leaves more, where that stays so with each thing
+module _ {A B : Type 0} (with : B → A → B) (turn : B → List ℕ → Turn A) (Less : B → B → Type 0)
+    (stays : (less much : B) (a : A) → Less less much → Less (with less a) (with much a))
+    (h : (less much : B) (s : List ℕ) → Less less much → Turns (turn less s) (turn much s)) where
+  going-on : (fuel : ℕ) (less much : B) → Less less much
+      → ((less much : B) (s : List ℕ) → Less less much → Within (many with turn fuel less s) (many with turn fuel much s)) → (t : Turn A)
+      → Within (goOn (λ a left. many with turn fuel (with less a) left) t) (goOn (λ a left. many with turn fuel (with much a) left) t)
+  going-on fuel less much l again (more a left) =
       within-map _ _ (λ things end. found (a ∷ things) end)
-      (again (room - size a) (wide - size a) left (omega arith))
-  going-on fuel room wide l again (over left) = inl refl
-  going-on fuel room wide l again (stop n left) = inl refl
+      (again (with less a) (with much a) left (stays less much a l))
+  going-on fuel less much l again (over left) = inl refl
+  going-on fuel less much l again (stop n left) = inl refl
 
-  within-many : (fuel room wide : ℕ) (s : List ℕ) → room ≤ wide → Within (many size turn fuel room s) (many size turn fuel wide s)
+  within-many : (fuel : ℕ) (less much : B) (s : List ℕ) → Less less much → Within (many with turn fuel less s) (many with turn fuel much s)
   unfolding many
-  within-many zero room wide s l = inl refl
-  within-many (suc fuel) room wide s l =
+  within-many zero less much s l = inl refl
+  within-many (suc fuel) less much s l =
       ⊎-elim
-      (λ e. subst (λ (t : Turn A). Within (goOn (λ a left. many size turn fuel (room - size a) left) (turn room s))
-      (goOn (λ a left. many size turn fuel (wide - size a) left) t)) e
-      (going-on fuel room wide l (λ r w s k. within-many fuel r w s k) (turn room s)))
-      (λ k. inr (record { left = k .left; is = ap (goOn (λ a left. many size turn fuel (room - size a) left)) (k .is) }))
-      (h room wide s l)
+      (λ e. subst (λ (t : Turn A). Within (goOn (λ a left. many with turn fuel (with less a) left) (turn less s))
+      (goOn (λ a left. many with turn fuel (with much a) left) t)) e
+      (going-on fuel less much l (λ r w s k. within-many fuel r w s k) (turn less s)))
+      (λ k. inr (record { left = k .left; is = ap (goOn (λ a left. many with turn fuel (with less a) left)) (k .is) }))
+      (h less much s l)
 
 -- ---- entries
 
@@ -102,7 +104,8 @@ within-makes (suc room) (suc wide) at a left l = inl refl
 
 within-annotations : (room wide : ℕ) (s : List ℕ) → room ≤ wide → Within (annotations room s) (annotations wide s)
 unfolding annotation annotationTurn
-within-annotations room wide s l = within-many (λ a. 1) annotationTurn turn (suc (length s)) room wide s l
+within-annotations room wide s l =
+    within-many (taking (λ a. 1)) annotationTurn (λ room wide. room ≤ wide) (λ room wide a l. omega arith) turn (suc (length s)) room wide s l
   where
     one : (room wide tabs : ℕ) (s : List ℕ) → room ≤ wide → Within (annotation room tabs s) (annotation wide tabs s)
     one room wide tabs s l = within-on (textOf s) _ _ (λ t left. within-map _ _ _ (within-makes room wide s t left l))
@@ -124,23 +127,29 @@ within-enters room wide at valued t left l =
     none zero e = record { left = at; is = rw (e, enters) }
     none (suc items) e = record { left = drop (getD (map (λ e. e .nameStart) (itemEntries 0 0 0 (t .value))) items 0) valued; is = rw (e, enters) }
 
+-- the same names, and no more room
+abbrev Fewer : Earlier → Earlier → Type 0
+Fewer few many = (few .names ≡ many .names) × (few .room ≤ many .room)
+
 within-opened : (by : Bounds) (room wide : ℕ) (w s : List ℕ) → room ≤ wide → Within (opened by room w s) (opened by wide w s)
 unfolding opened trait traitTurn traitDue
 within-opened by room wide w s l =
     within-map _ _ _
-    (within-many traitSize (traitTurn by) (λ room wide s l. due-one room wide s (front isWhite s) (behind isWhite s) l) (suc (length s)) room wide s l)
+    (within-many withTrait (traitTurn by) Fewer (λ few many t l. (ap (λ (ns : List (List ℕ)). ns ++ (t .name ∷ [])) (l .0), omega (arith, l .1)))
+    (λ few many s l. due-one few many s (front isWhite s) (behind isWhite s) l) (suc (length s)) (noTrait room) (noTrait wide) s (refl, l))
   where
-    one : (room wide : ℕ) (white s : List ℕ) → room ≤ wide → Within (trait by room white s) (trait by wide white s)
-    one room wide white s l =
-        within-on (name (isName isLower (by .names)) s) _ _
+    one : (few many : Earlier) (white s : List ℕ) → Fewer few many → Within (trait by few white s) (trait by many white s)
+    one few many white s l =
+        subst (λ (ns : List (List ℕ)). Within (trait by few white s) (trait by (record { names = ns; room = many .room }) white s)) (l .0)
+        (within-on (traitName by (few .names) s) _ _
         (λ v left. within-on (due (byte "=") left) _ _
-        (λ b valued. within-on (valueOf (by .brackets) [] valued) _ _ (λ x left. within-enters room wide s valued _ left l)))
+        (λ b valued. within-on (valueOf (by .brackets) [] valued) _ _ (λ x left. within-enters (few .room) (many .room) s valued _ left (l .1)))))
 
-    due-one : (room wide : ℕ) (s white rest : List ℕ) → room ≤ wide → Turns (traitDue by room s white rest) (traitDue by wide s white rest)
-    due-one room wide s white [] l = inl refl
-    due-one room wide s white (b ∷ rest) l =
+    due-one : (few many : Earlier) (s white rest : List ℕ) → Fewer few many → Turns (traitDue by few s white rest) (traitDue by many s white rest)
+    due-one few many s white [] l = inl refl
+    due-one few many s white (b ∷ rest) l =
         split (elem b (bytes ">/")) (λ e. rw (e, traitDue) (inl refl))
-        (λ e. split (leb 1 (length white)) (λ f. rw (e, traitDue, f) (turns-of _ _ (one room wide white (b ∷ rest) l))) (λ f. rw (e, traitDue, f) (inl refl)))
+        (λ e. split (leb 1 (length white)) (λ f. rw (e, traitDue, f) (turns-of _ _ (one few many white (b ∷ rest) l))) (λ f. rw (e, traitDue, f) (inl refl)))
 
 -- ---- Concepts
 

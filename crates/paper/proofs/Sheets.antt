@@ -1,6 +1,7 @@
 -- Whole sheets: what reading finds, and that it finds what stands there. Assumes nothing.
 use Prim.Native.Nat.{ℕ, _+_, _-_, _≤_}
 use mathlib.Core.Path.{_≡_, refl, sym, ap, _∙_}
+use mathlib.Core.Logic.{inl}
 use mathlib.Core.Bool.{true}
 use mathlib.Core.List.{List, [], _∷_, _++_}
 use native.Mathlib.Omega.{arith}
@@ -34,7 +35,7 @@ last-reads s = go (behind isBlank s) refl
   where
     go : (r : List ℕ) → behind isBlank s ≡ r → Reads s (λ last left. (left ≡ []) × (s ≡ last ++ []) × (all isBlank last ≡ true)) (lastBlanks (front isBlank s) r)
     go [] e = (rw e at (tail-drop (lengthIn isBlank s) s), (refl, sym (front-behind isBlank s) ∙ ap (λ (l : List ℕ). front isBlank s ++ l) e, front-all isBlank s))
-    go (b ∷ l) e = record { least = omega arith; most = omega arith; tail = rw e at (tail-drop (lengthIn isBlank s) s) }
+    go (b ∷ l) e = record { least = omega arith; most = inl (omega arith); tail = rw e at (tail-drop (lengthIn isBlank s) s) }
 
 last-complete : (last : List ℕ) → all isBlank last ≡ true → lastBlanks (front isBlank (last ++ [])) (behind isBlank (last ++ [])) ≡ found last []
 unfolding lastBlanks startsIn

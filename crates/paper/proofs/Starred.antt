@@ -150,6 +150,20 @@ cases =
           ∷ 3 ∷ 16 ∷ 1 ∷ 1 ∷ 22 ∷ 23 ∷ 25 ∷ 31 ∷ 3 ∷ 11 ∷ 4 ∷ 0 ∷ 26 ∷ 26 ∷ 26 ∷ 30 ∷ [];
       form = "<Lab n=map[\"k\": set[1], b: (x:a])] />\n";
     }
+    -- request Six: a name that stands again, before what follows it and its value, with no entry left for the first and for the second; a cut and a bad one; and another
+    ∷ refusedCase "<Lab n=1 n>" (refused 18 9) ∷ refusedCase "<Lab n=1 n=04 />" (refused 18 9)
+    ∷ record { sheet = "<Lab n=1 n=9 />"; lent = 8; answer = refused 11 5; entries = []; form = "" }
+    ∷ record { sheet = "<Lab n=1 n=9 />"; lent = 16; answer = refused 18 9; entries = []; form = "" }
+    ∷ refusedCase "<Lab n=1 n" (refused 9 10) ∷ refusedCase "<Lab n=1 nABC=1 />" (refused 4 9)
+    ∷ record {
+      sheet = "<Lab n=1 nN=2 />";
+      lent = 24;
+      answer = accepted 16 3;
+      entries =
+          1 ∷ 1 ∷ 4294967295 ∷ 2 ∷ 1 ∷ 4 ∷ 0 ∷ 16 ∷ 2 ∷ 4 ∷ 0 ∷ 0 ∷ 5 ∷ 6 ∷ 7 ∷ 8
+          ∷ 2 ∷ 4 ∷ 0 ∷ 0 ∷ 9 ∷ 11 ∷ 12 ∷ 13 ∷ [];
+      form = "<Lab n=1 nN=2 />\n";
+    }
     ∷ []
 
 pub starred : map seen cases ≡ map due cases
@@ -182,7 +196,7 @@ unfolding table cases formOf seen many
     ReadingValues.leafOf ReadingValues.opensWith ReadingValues.keyWord ReadingValues.keyOf ReadingValues.colon ReadingValues.labelOf
     ReadingValues.value
     Reading.lineEnd Reading.blankTurn Reading.noSpace Reading.nameOf Reading.due Reading.makes Reading.textOf
-    Reading.annotation Reading.annotationTurn Reading.enters Reading.trait Reading.traitDue Reading.traitTurn
+    Reading.annotation Reading.annotationTurn Reading.enters Reading.fresh Reading.trait Reading.traitDue Reading.traitTurn
     Reading.ending Reading.opened Reading.admitted Reading.closing Reading.atLineEnd Reading.closesLine
     Reading.textLine Reading.otherLine Reading.lineTurn Reading.contentOf Reading.concept Reading.lastBlanks
     Reading.sheetTree Reading.sheetOf Reading.reading

@@ -8,7 +8,7 @@ use native.Mathlib.Omega.{arith}
 use lib.ListN.{length, take, drop, replicate, length-replicate}
 use lib.Dec.{leb}
 use lib.Seq.{take-append-seam}
-use Rattle.paper.specs.Bytes.{byte, tab, all, isBlank, isWhite, isLower, isUpper}
+use Rattle.paper.specs.Bytes.{byte, tab, all, isBlank, isWhite, isLower}
 use Rattle.paper.specs.Names.{nameRule}
 use Rattle.paper.specs.declared.brackets.Bracket.{Bracket}
 use Rattle.paper.specs.Values.{opener, enders, Label, noLabel, label, Value, leaf, emptyBracket, bracket, More, close, comma, keyOnto, labelOnto, valueOnto}
@@ -24,7 +24,7 @@ use Rattle.paper.specs.Canonical.{LabelSense, ValueSense, single, held, 
 use Rattle.paper.specs.Canonical.{empty, with, SheetSense, labelSense, valueSense, moreSense, markerSense, lineSense, annotationSense, conceptSense, bodySense}
 use Rattle.paper.specs.Canonical.{meaning}
 use Rattle.paper.proofs.Lists.{both, all-head}
-use Rattle.paper.proofs.Concepts.{element-parts}
+use Rattle.paper.proofs.Concepts.{element-parts, marker-parts}
 use Rattle.paper.proofs.Labels.{key-append, label-append}
 use Rattle.paper.proofs.ReadValues.{value-append}
 use Rattle.paper.proofs.Fronts.{blank-front, blanks-front, note-front, notes-front, trait-front, marker-front}
@@ -234,10 +234,8 @@ module _ (s : List ℕ) where
     marker-named = part-is s (at + 1) (k .name) (traitsOnto (k .traits) (k .white ++ rest)) past-mark
 
     marker-tells : (own : ℕ) → markerRule k ≡ true → AllTell s (traitEntries own (own + 1) (markerName at k) (k .traits)) (traitSenses (markerSense k .traits))
-    unfolding markerRule
     marker-tells own r =
-        traits-tell (k .traits) own (own + 1) (markerName at k) (k .white ++ rest)
-        (both (nameRule isUpper (k .name)) (all traitRule (k .traits)) (both (nameRule isUpper (k .name) && all traitRule (k .traits)) (all isWhite (k .white)) r .0) .1)
+        traits-tell (k .traits) own (own + 1) (markerName at k) (k .white ++ rest) (marker-parts k r .1)
         (past-bytes s (at + 1) (k .name) (traitsOnto (k .traits) (k .white ++ rest)) past-mark)
 
   past-opening : (k : Marker) (end : Blank) (at : ℕ) (rest : List ℕ) → drop at s ≡ markerOnto k (endingOnto block (blankOnto end rest))

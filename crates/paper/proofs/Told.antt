@@ -11,7 +11,7 @@ use Rattle.paper.specs.declared.Answer.{Answer}
 use Rattle.paper.specs.declared.Answer.the-variants.{Accepted, Refused}
 use Rattle.paper.specs.declared.Refusal.{Refusal}
 use Rattle.paper.specs.declared.Refusal.the-variants.{Table, SheetTooLong, Bytes, Name, Unlisted, Value, Due, ClosingName, Cut, TooDeep, NoEntryLeft, NoRoom}
-use Rattle.paper.specs.declared.Refusal.the-variants.{RollTooLong, BeforeBoundary, TooManySheets, RootAnnotated, View}
+use Rattle.paper.specs.declared.Refusal.the-variants.{RollTooLong, BeforeBoundary, TooManySheets, RootAnnotated, View, TraitTwice}
 
 refusals : List Refusal
 refusals =
@@ -32,6 +32,7 @@ refusals =
     TooManySheets ∷
     RootAnnotated ∷
     View ∷
+    TraitTwice ∷
     []
 
 -- the refusal that a number names; 0 names none
@@ -58,6 +59,7 @@ named-back BeforeBoundary = refl
 named-back TooManySheets = refl
 named-back RootAnnotated = refl
 named-back View = refl
+named-back TraitTwice = refl
 
 pub number-injective : (why other : Refusal) → numberOf why ≡ numberOf other → why ≡ other
 number-injective why other e =

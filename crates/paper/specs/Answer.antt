@@ -5,7 +5,7 @@ use Rattle.paper.specs.declared.Answer.{Answer}
 use Rattle.paper.specs.declared.Answer.the-variants.{Accepted, Refused}
 use Rattle.paper.specs.declared.Refusal.{Refusal}
 use Rattle.paper.specs.declared.Refusal.the-variants.{Table, SheetTooLong, Bytes, Name, Unlisted, Value, Due, ClosingName, Cut, TooDeep, NoEntryLeft, NoRoom}
-use Rattle.paper.specs.declared.Refusal.the-variants.{RollTooLong, BeforeBoundary, TooManySheets, RootAnnotated, View}
+use Rattle.paper.specs.declared.Refusal.the-variants.{RollTooLong, BeforeBoundary, TooManySheets, RootAnnotated, View, TraitTwice}
 
 pub record Told : Type 0 where
   pub number : ℕ
@@ -37,6 +37,7 @@ numberOf BeforeBoundary = 14
 numberOf TooManySheets = 15
 numberOf RootAnnotated = 16
 numberOf View = 17
+numberOf TraitTwice = 18
 
 abbrev pub told : Answer → Told
 told (Accepted at many) = accepted at many

@@ -30,13 +30,21 @@ goOn rest (more a left) = andThen (rest a left) (λ things end. found (a ∷ thi
 goOn rest (over left) = found [] left
 goOn rest (stop n left) = fault n left
 
--- a run of things, where each takes its size off the room. A turn takes a byte at least, so that fuel above the length is never used up
-unfoldable pub many : {A : Type 0} → (A → ℕ) → (ℕ → List ℕ → Turn A) → ℕ → ℕ → List ℕ → Found (List A)
-many size turn zero room s = fault 9 s
-many size turn (suc fuel) room s = goOn (λ a left. many size turn fuel (room - size a) left) (turn room s)
+-- a run of things, where each turn is given what the things before it leave: of `so-far`, one thing more makes `with so-far thing`.
+-- A turn takes a byte at least, so that fuel above the length is never used up
+unfoldable pub many : {A B : Type 0} → (B → A → B) → (B → List ℕ → Turn A) → ℕ → B → List ℕ → Found (List A)
+many with turn zero so-far s = fault 9 s
+many with turn (suc fuel) so-far s = goOn (λ a left. many with turn fuel (with so-far a) left) (turn so-far s)
+
+abbrev pub runOf : {A B : Type 0} → (B → A → B) → (B → List ℕ → Turn A) → B → List ℕ → Found (List A)
+runOf with turn so-far s = many with turn (suc (length s)) so-far s
+
+-- the same where each thing takes its size off the room, and leaves nothing else
+abbrev pub taking : {A : Type 0} → (A → ℕ) → ℕ → A → ℕ
+taking size room a = room - size a
 
 abbrev pub manyOf : {A : Type 0} → (A → ℕ) → (ℕ → List ℕ → Turn A) → ℕ → List ℕ → Found (List A)
-manyOf size turn room s = many size turn (suc (length s)) room s
+manyOf size turn room s = runOf (taking size) turn room s
 
 -- where what is left begins in the whole
 abbrev pub placeIn : List ℕ → List ℕ → ℕ

@@ -3,14 +3,14 @@
 use Prim.Native.Nat.{ℕ, suc}
 use mathlib.Core.Path.{_≡_}
 use mathlib.Core.Bool.{Bool, true, false, not, _&&_, _||_}
-use mathlib.Core.List.{List, [], _∷_, _++_}
+use mathlib.Core.List.{List, [], _∷_, _++_, map}
 use lib.ListN.{length, replicate}
 use lib.Dec.{leb, eqb}
 use Rattle.paper.specs.declared.Mode.{Mode}
 use Rattle.paper.specs.declared.Mode.the-variants.{Children, Content, Absent}
 use Rattle.paper.specs.Found.{found}
 use Rattle.paper.specs.Bytes.{byte, bytes, isUpper, isLower, isBlank, isWhite, isLineEnd, all, elem, sheetBytes, lf, cr, tab}
-use Rattle.paper.specs.Names.{nameRule}
+use Rattle.paper.specs.Names.{nameRule, distinct}
 use Rattle.paper.specs.Modes.{Modes, modeOf}
 use Rattle.paper.specs.Values.{valueOnto, valueRule, valueInSlash}
 use Rattle.paper.specs.Tree.{LineEnd, LF, CRLF, Blank, Trait, Marker, Annotation, Line, blank, text, Concept, selfClosed, children, content, Body, done, blankLine}
@@ -102,8 +102,13 @@ annotationRule a = annotationText (a .text) && blankRule (a .rest)
 unfoldable pub traitRule : Trait → Bool
 traitRule t = leb 1 (length (t .white)) && all isWhite (t .white) && nameRule isLower (t .name) && valueRule [] (t .value)
 
+-- the names of traits, in their order
+abbrev pub traitNames : List Trait → List (List ℕ)
+traitNames ts = map (λ t. t .name) ts
+
+-- no two traits of one marker have the same name
 unfoldable pub markerRule : Marker → Bool
-markerRule k = nameRule isUpper (k .name) && all traitRule (k .traits) && all isWhite (k .white)
+markerRule k = nameRule isUpper (k .name) && all traitRule (k .traits) && distinct (traitNames (k .traits)) && all isWhite (k .white)
 
 -- a value that ends in "/" stands directly before what follows the traits
 unfoldable pub slashLast : List Trait → Bool

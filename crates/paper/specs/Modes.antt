@@ -11,7 +11,7 @@ use Rattle.paper.specs.declared.Mode.the-variants.{Children, Content, Ab
 use Rattle.paper.specs.Answer.{Told, accepted, refused}
 use Rattle.paper.specs.Found.{Found, found, fault, andThen, placeIn}
 use Rattle.paper.specs.Bytes.{within, all}
-use Rattle.paper.specs.Names.{nameLimit, isConceptName, among}
+use Rattle.paper.specs.Names.{nameLimit, isConceptName, among, distinct}
 
 abbrev pub sectionLimit : ℕ
 sectionLimit = 64
@@ -38,11 +38,6 @@ sectionsOnto (ws ∷ others) = length ws ∷ namesOnto ws (sectionsOnto others)
 
 unfoldable pub tableOnto : Modes → List ℕ
 tableOnto m = sectionsOnto (sections m)
-
--- no two of the names are the same
-unfoldable pub distinct : List (List ℕ) → Bool
-distinct [] = true
-distinct (w ∷ ws) = not (among ws w) && distinct ws
 
 -- at most so many names, each of them a Concept's by the name rule, of 1 to 32 bytes
 unfoldable pub sectionRule : List (List ℕ) → Bool

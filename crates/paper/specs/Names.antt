@@ -1,7 +1,7 @@
 -- Names: the run of letters and digits that stands somewhere, and the rule for Concepts and traits.
 -- Document 01, "The grammar", Names, and "Sizes".
 use Prim.Native.Nat.{ℕ, _+_}
-use mathlib.Core.Bool.{Bool, true, false, _&&_}
+use mathlib.Core.Bool.{Bool, true, false, not, _&&_}
 use mathlib.Core.List.{List, [], _∷_}
 use lib.ListN.{length}
 use lib.Dec.{leb, ltb}
@@ -45,3 +45,8 @@ isTraitName = isName isLower nameLimit
 unfoldable pub among : List (List ℕ) → List ℕ → Bool
 among [] w = false
 among (n ∷ ns) w = elim (same n w) [ true ↦ true | false ↦ among ns w ]
+
+-- no two of the names are the same
+unfoldable pub distinct : List (List ℕ) → Bool
+distinct [] = true
+distinct (w ∷ ws) = not (among ws w) && distinct ws

@@ -2,15 +2,15 @@
 -- Document 01, "Refusal numbers" and "Order"; the fault met first from left to right.
 use Prim.Native.Nat.{ℕ, zero, suc, _+_, _-_, _/_, min}
 use mathlib.Core.Bool.{Bool, true, false, _&&_}
-use mathlib.Core.List.{List, [], _∷_, map}
+use mathlib.Core.List.{List, [], _∷_, _++_, map}
 use lib.ListN.{length, drop, getD, replicate}
 use lib.Dec.{leb, ltb, eqb}
 use Rattle.paper.specs.declared.Mode.the-variants.{Children, Absent}
 use Rattle.paper.specs.Answer.{Told, accepted, refused}
-use Rattle.paper.specs.Found.{Found, found, fault, andThen, Turn, over, stop, turnOf, manyOf, placeIn}
+use Rattle.paper.specs.Found.{Found, found, fault, andThen, Turn, over, stop, turnOf, runOf, manyOf, placeIn}
 use Rattle.paper.specs.Bytes.{byte, bytes, isUpper, isLower, isBlank, isWhite, isLineEnd, lengthIn, front, behind, elem, same, startsIn, startsWith, sheetBytes, lf}
 use Rattle.paper.specs.Bytes.{cr, tab, space, is, upTo, onward}
-use Rattle.paper.specs.Names.{nameLimit, run, pastRun, isName}
+use Rattle.paper.specs.Names.{nameLimit, run, pastRun, isName, among}
 use Rattle.paper.specs.Modes.{Modes, modeTable}
 use Rattle.paper.specs.Tree.{LF, CRLF, Blank, Trait, Marker, Annotation, Line, blank, text, Concept, selfClosed, children, content, Body, done, Annotated}
 use Rattle.paper.specs.Tree.{BodyPiece, blankPiece, elementPiece, before, Sheet, Ending, block, self}
@@ -128,19 +128,43 @@ enters room named valued t left =
       | false ↦ elim room [ zero ↦ fault 11 named | suc items ↦ fault 11 (drop (getD (map (λ e. e .nameStart) (itemEntries 0 0 0 (t .value))) items 0) valued) ]
     ]
 
-unfoldable pub trait : Bounds → ℕ → List ℕ → List ℕ → Found Trait
-trait by room white s =
-    andThen (name (isName isLower (by .names)) s) (λ w left. andThen (due (byte "=") left) (λ b valued. andThen (valueOf (by .brackets) [] valued) (λ v left.
-    enters room s valued (record { white = white; name = w; value = v }) left)))
+-- what the traits of a marker leave for those behind them: their names, none of which may stand again, and the room
+pub record Earlier : Type 0 where
+  pub names : List (List ℕ)
+  pub room : ℕ
+
+abbrev pub withTrait : Earlier → Trait → Earlier
+withTrait earlier t = record { names = earlier .names ++ (t .name ∷ []); room = earlier .room - traitSize t }
+
+-- the name w is none of these; `at` is the list from it on
+unfoldable pub fresh : List (List ℕ) → List ℕ → List ℕ → List ℕ → Found (List ℕ)
+fresh names at w left = elim (among names w) [ true ↦ fault 18 at | false ↦ found w left ]
+
+-- the name of a trait, judged by the rule and against the earlier ones
+abbrev pub traitName : Bounds → List (List ℕ) → List ℕ → Found (List ℕ)
+traitName by names s = andThen (name (isName isLower (by .names)) s) (fresh names s)
+
+unfoldable pub trait : Bounds → Earlier → List ℕ → List ℕ → Found Trait
+trait by earlier white s =
+    andThen (traitName by (earlier .names) s) (λ w left. andThen (due (byte "=") left) (λ b valued. andThen (valueOf (by .brackets) [] valued) (λ v left.
+    enters (earlier .room) s valued (record { white = white; name = w; value = v }) left)))
 
 -- behind the name or a value: another trait after white space, or the end of the marker
-unfoldable pub traitDue : Bounds → ℕ → List ℕ → List ℕ → List ℕ → Turn Trait
-traitDue by room s white [] = stop 9 []
-traitDue by room s white (b ∷ l) =
-    elim (elem b (bytes ">/")) [ true ↦ over s | false ↦ elim (leb 1 (length white)) [ true ↦ turnOf (trait by room white (b ∷ l)) | false ↦ stop 7 (b ∷ l) ] ]
+unfoldable pub traitDue : Bounds → Earlier → List ℕ → List ℕ → List ℕ → Turn Trait
+traitDue by earlier s white [] = stop 9 []
+traitDue by earlier s white (b ∷ l) =
+    elim (elem b (bytes ">/")) [ true ↦ over s | false ↦ elim (leb 1 (length white)) [ true ↦ turnOf (trait by earlier white (b ∷ l)) | false ↦ stop 7 (b ∷ l) ] ]
 
-unfoldable pub traitTurn : Bounds → ℕ → List ℕ → Turn Trait
-traitTurn by room s = traitDue by room s (front isWhite s) (behind isWhite s)
+unfoldable pub traitTurn : Bounds → Earlier → List ℕ → Turn Trait
+traitTurn by earlier s = traitDue by earlier s (front isWhite s) (behind isWhite s)
+
+-- traits behind these earlier ones
+abbrev pub traitsBehind : Bounds → Earlier → List ℕ → Found (List Trait)
+traitsBehind by earlier s = runOf withTrait (traitTurn by) earlier s
+
+-- the first trait of a marker has none before it
+abbrev pub noTrait : ℕ → Earlier
+noTrait room = record { names = []; room = room }
 
 -- how a marker ends
 unfoldable pub ending : List ℕ → Found Ending
@@ -155,7 +179,7 @@ pub record Opened : Type 0 where
 -- traits, white space and the ending of a marker of this name
 unfoldable pub opened : Bounds → ℕ → List ℕ → List ℕ → Found Opened
 opened by room w s =
-    andThen (manyOf traitSize (traitTurn by) room s) (λ ts left. andThen (ending (behind isWhite left)) (λ e end.
+    andThen (traitsBehind by (noTrait room) s) (λ ts left. andThen (ending (behind isWhite left)) (λ e end.
     found (record { marker = record { name = w; traits = ts; white = front isWhite left }; ends = e }) end))
 
 -- a Concept's name is judged in this order: the rule, the nesting, the table, the room. s is the list from its "<" on
@@ -312,7 +336,7 @@ sheetTree m by deeper room s =
 abbrev pub roomOf : ℕ → ℕ
 roomOf lent = min (lent / entryCells) entryLimit
 
--- the faults of a sheet under a valid table, in the paper's order: 2, 3, then 4 to 11
+-- the faults of a sheet under a valid table, in the paper's order: 2, 3, then 4 to 11 and 18
 unfoldable pub sheetOf : Modes → ℕ → List ℕ → Found Sheet
 sheetOf m room s =
     elim (ltb sheetLimit (length s)) [

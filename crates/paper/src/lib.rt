@@ -26,6 +26,7 @@ pub enum Refusal {
     TooManySheets,
     RootAnnotated,
     View,
+    TraitTwice,
 }
 
 // The paper's number of a refusal.
@@ -50,6 +51,7 @@ pub fn number(refusal: Refusal) -> u32
         Refusal::TooManySheets => 15,
         Refusal::RootAnnotated => 16,
         Refusal::View => 17,
+        Refusal::TraitTwice => 18,
     }
 }
 

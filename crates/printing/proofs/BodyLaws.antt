@@ -18,11 +18,11 @@ use Rattle.paper.proofs.Lists.{both}
 use Rattle.paper.proofs.Sizes.{notes-size, inside-size}
 use Rattle.paper.proofs.Concepts.{element-parts}
 use Rattle.paper.proofs.Fronts.{blank-front, notes-front, whole-front, concept-ends, past-front, past-bytes}
-use Rattle.entries.specs.Laid.{entryAt}
+use Rattle.entries.specs.Laid.{entryAt, Stand, kindAt}
+use Rattle.entries.proofs.Standing.{stand-entry, stand-front, stand-back}
 use Rattle.quoting.specs.Page.{page, Puts}
-use Rattle.printing.specs.Standing.{Stand, kindAt, Ends, OfConcept, OfBody}
+use Rattle.printing.specs.Standing.{Ends, OfConcept, OfBody}
 use Rattle.printing.specs.Walking.{OfNotes, Keeps, KeepsBody, printRest, NotesPut, ConceptPut}
-use Rattle.printing.proofs.Standing.{stand-entry, stand-front, stand-back}
 
 -- ---- an empty line, where there is one
 

@@ -21,13 +21,12 @@ use Rattle.paper.proofs.Lists.{both, all-head}
 use Rattle.paper.proofs.Sizes.{traits-size}
 use Rattle.paper.proofs.Concepts.{element-parts}
 use Rattle.paper.proofs.Fronts.{marker-front, blank-front, past-front, past-bytes}
-use Rattle.entries.specs.Laid.{entryAt}
+use Rattle.entries.specs.Laid.{entryAt, Stand}
+use Rattle.entries.proofs.Standing.{stand-entry, stand-front, stand-back, ofKind, item-kinds}
 use Rattle.quoting.specs.Page.{page, Puts}
-use Rattle.printing.specs.Standing.{Stand, Ends, OfConcept, OfBody}
+use Rattle.printing.specs.Standing.{Ends, OfConcept, OfBody}
 use Rattle.printing.specs.Walking.{OfContent, Keeps, traitsIn, Elements, ContentPut, ConceptPut, BodyPut}
 use Rattle.printing.specs.Wholes.{MarkerPut}
-use Rattle.printing.proofs.Standing.{stand-entry, stand-front, stand-back, ofKind}
-use Rattle.printing.proofs.Three.{item-kinds}
 use Rattle.quoting.proofs.Parts.{part-is}
 use Rattle.printing.proofs.BodyLaws.{own-entry}
 

@@ -25,14 +25,14 @@ use Rattle.paper.proofs.Labels.{key-append, label-append, label-parts}
 use Rattle.paper.proofs.ReadValues.{value-append}
 use Rattle.paper.proofs.Concepts.{element-parts}
 use Rattle.text.proofs.Places.{front-behind}
-use Rattle.entries.specs.Laid.{entryAt}
+use Rattle.entries.specs.Laid.{entryAt, Stand}
+use Rattle.entries.proofs.Standing.{stand-front, stand-back, stand-entry}
 use Rattle.quoting.specs.Page.{page, Puts}
 use Rattle.quoting.specs.Leaves.{LeafPut, LabelPut}
-use Rattle.printing.specs.Standing.{Stand, OfValue, OfItem}
+use Rattle.printing.specs.Standing.{OfValue, OfItem}
 use Rattle.printing.specs.Wholes.{ItemLabelPut, ValuePut}
 use Rattle.quoting.proofs.Parts.{part-is}
 use Rattle.quoting.proofs.ByForm.{word-range}
-use Rattle.printing.proofs.Standing.{stand-front, stand-back, stand-entry}
 
 -- ---- commas
 

@@ -1,5 +1,4 @@
 -- Laws that the proofs of this crate use, over plain lists and numbers.
-pub mod Standing
 pub mod ItemLaws
 pub mod TraitParts
 pub mod Three

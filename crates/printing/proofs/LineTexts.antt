@@ -20,10 +20,10 @@ use Rattle.paper.proofs.Fronts.{lines-front, past-front, front-append}
 use Rattle.text.proofs.Places.{front-behind}
 use Rattle.text.proofs.Stretch.{Stretch, front-at, behind-at, skips-end, skips-some, blank-text, tab-text}
 use Rattle.entries.specs.Laid.{entryAt}
+use Rattle.entries.proofs.Standing.{stand-entry}
 use Rattle.quoting.specs.Page.{page, Puts}
 use Rattle.printing.specs.Texts.{inked, PastEnd, LinesStay}
 use Rattle.printing.specs.Walking.{OfContent}
-use Rattle.printing.proofs.Standing.{stand-entry}
 use Rattle.quoting.proofs.Parts.{part-is}
 use Rattle.quoting.proofs.Sequences.{Sequence, Left, left-all, left-on, left-over}
 

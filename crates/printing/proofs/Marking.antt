@@ -1,14 +1,14 @@
 -- Markers put: their traits one after another, and what stands before the end and at it. Document 01, "Canonical form". Assumes nothing.
 use Prim.Native.Nat.{ℕ, suc, _+_, _-_}
 use mathlib.Core.Path.{_≡_, refl, sym, ap, _∙_}
-use mathlib.Core.Bool.{Bool, true, false, not, _&&_, _||_}
+use mathlib.Core.Bool.{Bool, true, false, not, _||_}
 use mathlib.Core.List.{List, [], _∷_, _++_, map}
 use native.Mathlib.Nat.{add-zero}
 use native.Mathlib.Omega.{arith}
 use lib.ListN.{length, take, drop, length-map}
 use lib.Dec.{leb, eqb}
-use Rattle.paper.specs.Bytes.{byte, bytes, lf, space, isUpper, isWhite, all}
-use Rattle.paper.specs.Names.{nameLimit, nameRule}
+use Rattle.paper.specs.Bytes.{byte, bytes, lf, space, all}
+use Rattle.paper.specs.Names.{nameLimit}
 use Rattle.paper.specs.Values.{spelling, endsInSlash}
 use Rattle.paper.specs.Tree.{Trait, Marker, Concept, selfClosed, children, content, Body, done, blankLine, element, Ending, block, self}
 use Rattle.paper.specs.Grammar.{traitOnto, traitsOnto, markerOnto, endingOnto, tabsOnto, blankOnto, conceptOnto, traitRule, markerRule, bodyOnto, closingOnto}
@@ -21,13 +21,14 @@ use Rattle.paper.proofs.Tests.{true-false}
 use Rattle.paper.proofs.Lists.{both, all-head}
 use Rattle.paper.proofs.Sizes.{traits-size}
 use Rattle.paper.proofs.Fronts.{past-bytes}
-use Rattle.entries.specs.Laid.{entryAt}
+use Rattle.paper.proofs.Concepts.{marker-parts}
+use Rattle.entries.specs.Laid.{entryAt, Stand, kindAt}
+use Rattle.entries.proofs.Standing.{stand-front, stand-back, stand-entry}
 use Rattle.quoting.specs.Page.{page, Puts}
-use Rattle.printing.specs.Standing.{Stand, Ends, kindAt, OfTraits, OfConcept}
+use Rattle.printing.specs.Standing.{Ends, OfTraits, OfConcept}
 use Rattle.printing.specs.Marking.{traitSense, endingOf, isSelf, leadOnto, traitsPrint, breakOnto}
 use Rattle.printing.specs.Wholes.{TraitPut, TraitsPut}
 use Rattle.quoting.proofs.Parts.{part-is}
-use Rattle.printing.proofs.Standing.{stand-front, stand-back, stand-entry}
 use Rattle.printing.proofs.ItemLaws.{spelling-is}
 use Rattle.printing.proofs.TraitParts.{trait-value, first-kind, front-of, back-of}
 use Rattle.printing.proofs.Three.{ends-there}
@@ -228,7 +229,7 @@ module _ (s cells : List ℕ) (n depth : ℕ) (e : Entry) (g : e ≡ entryAt cel
   pub marker-put : (parent place tabs : ℕ) (c : Concept) → OfConcept s cells n parent place tabs c → markerRule (markerOf c) ≡ true
       → markerFits nameLimit bracketLimit (markerOf c) ≡ true
       → (next ≡ n + 1 + traitsSize (markerOf c .traits)) × Puts out at (λ x. printMarker depth (markerSense (markerOf c)) (endingOf c) (lf ∷ x)) after to
-  unfolding markerRule markerFits
+  unfolding markerFits
   marker-put parent place tabs c o r f =
       let k = markerOf c in
       let m = marker-of s cells n parent place tabs c o in
@@ -240,8 +241,7 @@ module _ (s cells : List ℕ) (n depth : ℕ) (e : Entry) (g : e ≡ entryAt cel
       ∙ part-is s place (markerName place k) name behind (m .spelt) size in
       let traits : OfTraits s cells (n + 1) n (markerName place k) (k .traits) =
       record { after = k .white ++ m .after; spelt = ap (λ (i : ℕ). drop i s) size ∙ past-bytes s place name behind (m .spelt); stand = m .stand } in
-      let rules = both (nameRule isUpper (k .name) && all traitRule (k .traits)) (all isWhite (k .white)) r in
-      let rule = both (nameRule isUpper (k .name)) (all traitRule (k .traits)) (rules .0) .1 in
+      let rule = marker-parts k r .1 in
       let fit = both (leb (length (k .name)) nameLimit) (all (traitFits nameLimit bracketLimit) (k .traits)) f .1 in
       let got = p₂ n (markerName place k) (k .traits) traits (m .ends) rule fit in
       let ends : closed ≡ isSelf (endingOf c) = shut ∙ ap (λ (x : Entry). eqb (x .form) 1) own ∙ closed-is c in

@@ -11,11 +11,10 @@ use Rattle.paper.specs.Grammar.{tabsOnto, blankOnto, annotationOnto, annotation
 use Rattle.paper.specs.Entries.{Entry, unnamed, annotationEntries}
 use Rattle.paper.specs.Canonical.{annotationSense, printNotes}
 use Rattle.paper.proofs.Fronts.{note-front, past-front, past-bytes}
-use Rattle.entries.specs.Laid.{entryAt}
+use Rattle.entries.specs.Laid.{entryAt, kindAt}
+use Rattle.entries.proofs.Standing.{stand-entry, stand-back}
 use Rattle.quoting.specs.Page.{page, Puts}
-use Rattle.printing.specs.Standing.{kindAt}
 use Rattle.printing.specs.Walking.{OfNotes}
-use Rattle.printing.proofs.Standing.{stand-entry, stand-back}
 use Rattle.quoting.proofs.Parts.{part-is}
 
 -- ---- one annotation

@@ -14,12 +14,13 @@ use Rattle.paper.specs.Entries.{entries}
 use Rattle.paper.specs.Canonical.{conceptSense, meaning, printConcept, print, canonical}
 use Rattle.paper.proofs.Sizes.{notes-size, entries-size}
 use Rattle.paper.proofs.Fronts.{blanks-front, notes-front, past-front, past-bytes}
+use Rattle.entries.specs.Laid.{Stand, kindAt}
 use Rattle.entries.proofs.Laying.{cells-length}
 use Rattle.entries.proofs.Getting.{at-none}
+use Rattle.entries.proofs.Standing.{stand-front, stand-back}
 use Rattle.quoting.specs.Page.{page}
-use Rattle.printing.specs.Standing.{Stand, kindAt, Ends, OfConcept}
+use Rattle.printing.specs.Standing.{Ends, OfConcept}
 use Rattle.printing.specs.Walking.{OfNotes, OfSheet, NotesPut, ConceptPut}
-use Rattle.printing.proofs.Standing.{stand-front, stand-back}
 use Rattle.printing.proofs.BodyLaws.{own-entry}
 
 module _ (s cells : List ℕ) (t : Sheet) (of : OfSheet s cells t) where

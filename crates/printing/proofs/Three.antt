@@ -1,44 +1,24 @@
 -- Whether three traits stand: the kinds of their entries, with items between them. Document 01, "Entries". Assumes nothing.
 use Prim.Native.Nat.{ℕ, suc, _+_, _≤_, _<_}
 use mathlib.Core.Path.{_≡_, refl, sym, ap, _∙_}
-use mathlib.Core.Bool.{true, false, not}
+use mathlib.Core.Bool.{false, not}
 use mathlib.Core.List.{List, [], _∷_}
 use native.Mathlib.Nat.{add-zero}
 use native.Mathlib.Omega.{arith}
 use lib.ListN.{length}
 use lib.Dec.{leb, eqb}
 use borrow.Author.Tests.{leb-true, lt-leb, eq-eqb, ne-eqb, leb-false}
-use Rattle.paper.specs.Bytes.{all}
-use Rattle.paper.specs.Values.{opener, Value, leaf, emptyBracket, bracket, More, close, comma}
 use Rattle.paper.specs.Tree.{Trait}
 use Rattle.paper.specs.Grammar.{traitOnto}
-use Rattle.paper.specs.Entries.{itemEntries, moreEntries, itemSize, valueWidth, labelWidth, traitSize, traitsSize, traitValue, traitEntry, traitEntries}
+use Rattle.paper.specs.Entries.{itemEntries, itemSize, traitSize, traitsSize, traitValue, traitEntry, traitEntries}
 use Rattle.paper.proofs.Tests.{split, upTo}
-use Rattle.paper.proofs.Lists.{all-append}
 use Rattle.paper.proofs.Sizes.{item-size}
-use Rattle.printing.specs.Standing.{Stand, Ends, Past, kindAt}
-use Rattle.printing.proofs.Standing.{stand-back, kinds-between, ofKind}
+use Rattle.entries.specs.Laid.{Stand, kindAt}
+use Rattle.entries.proofs.Standing.{stand-back, kinds-between, item-kinds}
+use Rattle.printing.specs.Standing.{Ends, Past}
 use Rattle.printing.proofs.TraitParts.{trait-front, trait-back, first-kind}
 
 -- ---- the kinds of a trait's entries
-
-mutual
-  unfolding itemEntries all
-
-  pub item-kinds : (v : Value) (parent next at : ℕ) → all (ofKind 3) (itemEntries parent next at v) ≡ true
-  item-kinds (leaf v) parent next at = refl
-  item-kinds (emptyBracket k) parent next at = refl
-  item-kinds (bracket k a v more) parent next at =
-      let start = at + length (opener k) + labelWidth a in
-      all-append (ofKind 3) (itemEntries next (next + 1) start v) (moreEntries parent (next + 1 + itemSize v) (start + valueWidth v) more)
-      (item-kinds v next (next + 1) start) (more-kinds more parent (next + 1 + itemSize v) (start + valueWidth v))
-
-  more-kinds : (more : More) (parent next at : ℕ) → all (ofKind 3) (moreEntries parent next at more) ≡ true
-  more-kinds close parent next at = refl
-  more-kinds (comma white a v more) parent next at =
-      let start = at + 1 + length white + labelWidth a in
-      all-append (ofKind 3) (itemEntries next (next + 1) start v) (moreEntries parent (next + 1 + itemSize v) (start + valueWidth v) more)
-      (item-kinds v next (next + 1) start) (more-kinds more parent (next + 1 + itemSize v) (start + valueWidth v))
 
 pub ends-there : (cells : List ℕ) (n : ℕ) (m : ℕ) → Ends cells m → m ≡ n → Ends cells n
 ends-there cells n m e q = rw q at e

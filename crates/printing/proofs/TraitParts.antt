@@ -20,13 +20,13 @@ use Rattle.paper.proofs.Fronts.{past-bytes}
 use Rattle.paper.proofs.ReadValues.{value-append}
 use Rattle.paper.proofs.Sizes.{item-size}
 use Rattle.text.proofs.Places.{front-behind}
-use Rattle.entries.specs.Laid.{entryAt}
+use Rattle.entries.specs.Laid.{entryAt, Stand, kindAt}
+use Rattle.entries.proofs.Standing.{stand-front, stand-back, stand-entry}
 use Rattle.quoting.specs.Page.{page, Puts}
-use Rattle.printing.specs.Standing.{Stand, kindAt, OfValue, OfTrait, OfTraits}
+use Rattle.printing.specs.Standing.{OfValue, OfTrait, OfTraits}
 use Rattle.printing.specs.Marking.{traitSense}
 use Rattle.printing.specs.Wholes.{ValuePut}
 use Rattle.quoting.proofs.Parts.{part-is}
-use Rattle.printing.proofs.Standing.{stand-front, stand-back, stand-entry}
 
 -- ---- a trait's bytes
 

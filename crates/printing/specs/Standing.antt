@@ -1,26 +1,17 @@
 -- Trees that stand before the writer: their entries in the cells, their bytes in the sheet.
 -- Document 01, "Entries"; document 02, Five.
-use Prim.Native.Nat.{ℕ, _+_, _*_, _/_, _≤_, _<_}
+use Prim.Native.Nat.{ℕ, _+_, _/_, _≤_, _<_}
 use mathlib.Core.Path.{_≡_}
-use mathlib.Core.List.{List, _∷_, _++_}
+use mathlib.Core.List.{List, _∷_}
 use lib.ListN.{length, drop}
 use Rattle.paper.specs.declared.brackets.Bracket.{Bracket}
 use Rattle.paper.specs.Values.{bracketForm, Label, labelOnto, Value, valueOnto, valueForm}
 use Rattle.paper.specs.Tree.{Trait, Concept, Body}
 use Rattle.paper.specs.Grammar.{traitOnto, traitsOnto, conceptOnto, bodyOnto}
-use Rattle.paper.specs.Entries.{Entry, entryCells, allCells, itemsOf, valueWidth, labelWidth, itemEntry, itemEntries, traitValue, traitEntry, traitEntries}
+use Rattle.paper.specs.Entries.{Entry, entryCells, itemsOf, valueWidth, labelWidth, itemEntry, itemEntries, traitValue, traitEntry, traitEntries}
 use Rattle.paper.specs.Entries.{conceptSize, conceptEntry, insideEntries, bodyEntries}
-use Rattle.entries.specs.Laid.{entryAt}
+use Rattle.entries.specs.Laid.{Stand, kindAt}
 use Rattle.printing.specs.declared.items.Holding.{Holding}
-
--- these entries stand in the cells from number n on
-pub record Stand (cells : List ℕ) (n : ℕ) (es : List Entry) : Type 0 where
-  pub rest : List ℕ
-  pub held : drop (n * entryCells) cells ≡ allCells es ++ rest
-
--- the kind of entry n, 0 where there is none
-abbrev pub kindAt : List ℕ → ℕ → ℕ
-kindAt cells n = entryAt cells n .kind
 
 -- no trait and no item goes on at entry n
 pub record Ends (cells : List ℕ) (n : ℕ) : Type 0 where

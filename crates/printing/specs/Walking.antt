@@ -15,9 +15,9 @@ use Rattle.paper.specs.Limits.{bracketLimit, conceptLimit, conceptFits, bodyFit
 use Rattle.paper.specs.Entries.{Entry, unnamed, annotationEntries, conceptSize, bodySize, bodyCount, allCells, entries}
 use Rattle.paper.specs.Canonical.{BodySense, annotationSense, lineSense, conceptSense, bodySense, printNotes, printLines, printConcept, printBody, printMore}
 use Rattle.paper.specs.Canonical.{canonical}
-use Rattle.entries.specs.Laid.{entryAt}
+use Rattle.entries.specs.Laid.{entryAt, Stand, kindAt}
 use Rattle.quoting.specs.Page.{page, Puts}
-use Rattle.printing.specs.Standing.{Stand, kindAt, Ends, OfConcept, OfBody}
+use Rattle.printing.specs.Standing.{Ends, OfConcept, OfBody}
 
 -- annotations from entry n on, whose lines start at `at`
 pub record OfNotes (s cells : List ℕ) (n parent at : ℕ) (notes : List Annotation) : Type 0 where

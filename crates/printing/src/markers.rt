@@ -23,8 +23,9 @@ ghost use Rattle.paper.specs.Values.{endsInSlash};
 ghost use Rattle.paper.specs.Tree.{Trait, Ending};
 ghost use Rattle.paper.specs.Grammar.{endingOnto};
 ghost use Rattle.paper.specs.Entries.{traitsSize, traitEntries};
+ghost use Rattle.entries.specs.Laid.{Stand, kindAt};
 ghost use Rattle.quoting.specs.Page.{Puts};
-ghost use Rattle.printing.specs.Standing.{Stand, Ends, Past, Ahead, kindAt};
+ghost use Rattle.printing.specs.Standing.{Ends, Past, Ahead};
 ghost use Rattle.printing.specs.Marking.{isSelf, leadOnto, breakOnto};
 ghost use Rattle.printing.specs.Wholes.{TraitPut, TraitsPut, MarkerPut};
 

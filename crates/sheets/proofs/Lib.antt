@@ -1,6 +1,8 @@
 -- Laws that the proofs of this crate use, over plain lists and numbers.
 pub mod Slots
 pub mod Lengths
+pub mod Alike
+pub mod TraitNames
 pub mod TraitLaws
 pub mod TraitRuns
 pub mod Marked

@@ -7,7 +7,7 @@ use native.Mathlib.Nat.{add-zero}
 use native.Mathlib.Omega.{arith}
 use lib.ListN.{length, getD, drop}
 use lib.Dec.{eqb}
-use Rattle.paper.specs.Found.{found}
+use Rattle.paper.specs.Found.{found, taking}
 use Rattle.paper.specs.Bytes.{byte, lf, space, isBlank, isLineEnd, startsIn, startsWith, lengthIn}
 use Rattle.paper.specs.Modes.{Modes}
 use Rattle.paper.specs.Grammar.{annotationsOnto}
@@ -75,7 +75,7 @@ module _ {s : List ℕ} {at mark : ℕ} (line : Behind (byte "<") s at mark) whe
   no-notes : (room : ℕ) → annotations room (drop at s) ≡ found [] (drop at s)
   unfolding annotationTurn
   no-notes room =
-      turn-over (λ a. 1) annotationTurn annotation-shorter room (drop at s) (drop at s)
+      turn-over (taking (λ a. 1)) annotationTurn annotation-shorter room (drop at s) (drop at s)
       (rw (behind-at isTab s at mark (line .run), annotationTurn, no-other line (byte "[") refl))
 
   pub mark-piece : (m : Modes) (deeper room : ℕ)

@@ -20,7 +20,7 @@ use Rattle.paper.specs.Modes.{Modes, modeOf}
 use Rattle.paper.specs.Tree.{Trait, Marker, Ending as Ends, block, self}
 use Rattle.paper.specs.Entries.{Entry, traitsSize, traitEntries}
 use Rattle.paper.specs.Grammar.{inMode}
-use Rattle.paper.specs.Reading.{due, name, makes, ending, Opened as Marked, opened, admitted, head, named, bounds}
+use Rattle.paper.specs.Reading.{due, name, makes, noTrait, ending, Opened as Marked, opened, admitted, head, named, bounds}
 use Rattle.paper.proofs.Finds.{Reads}
 use Rattle.paper.proofs.Lines.{makes-complete}
 use Rattle.paper.proofs.Markers.{ReadTraits, traits-reads, ending-reads, ReadOpened, opened-reads}
@@ -128,10 +128,10 @@ end-found s mark h a says e end q =
 -- traits that are read up to an end
 traits-at : (of : List Trait → List Entry) (s cells : List ℕ) (n room to : ℕ) (t : Part) (after : List ℕ) (end made own : ℕ)
     → to ≤ length s → Makes traitsSize length of s cells n (traitsOf room (drop to s)) t after → t ≡ Read end made own
-    → FoundAt traitsSize length (ReadTraits bounds room (drop to s)) s to (traitsOf room (drop to s)) end made own
+    → FoundAt traitsSize length (ReadTraits bounds (noTrait room) (drop to s)) s to (traitsOf room (drop to s)) end made own
 traits-at of s cells n room to t after end made own h k q =
-    found-at traitsSize length s t (ReadTraits bounds room (drop to s)) to (traitsOf room (drop to s)) end made own (k .says)
-    (traits-reads bounds room (drop to s)) h q
+    found-at traitsSize length s t (ReadTraits bounds (noTrait room) (drop to s)) to (traitsOf room (drop to s)) end made own (k .says)
+    (traits-reads bounds (noTrait room) (drop to s)) h q
 
 -- what a marker makes of its ending
 abbrev markedBy : Marker → Found Ends → Found Marked
@@ -236,13 +236,13 @@ module _ {s : List ℕ} {start to : ℕ} {cells : List ℕ} {slot : Slot} {after
 
 -- a name that the table lists, and the form of its blocks
 module _ (m : Modes) (w : List ℕ) where
-  pub in-children : Children ≡ modeOf m w → (inMode Absent m w ≡ false) × (blockForm m w ≡ 2)
+  pub in-children : Children ≡ modeOf m w → {form : ℕ} → form ≡ 2 → (inMode Absent m w ≡ false) × (blockForm m w ≡ form)
   unfolding inMode
-  in-children e = (rw (sym e, inMode), rw (sym e, blockForm, inMode))
+  in-children e f = (rw (sym e, inMode), rw (sym e, blockForm, inMode, f))
 
-  pub in-content : Content ≡ modeOf m w → (inMode Absent m w ≡ false) × (blockForm m w ≡ 3)
+  pub in-content : Content ≡ modeOf m w → {form : ℕ} → form ≡ 3 → (inMode Absent m w ≡ false) × (blockForm m w ≡ form)
   unfolding inMode
-  in-content e = (rw (sym e, inMode), rw (sym e, blockForm, inMode))
+  in-content e f = (rw (sym e, inMode), rw (sym e, blockForm, inMode, f))
 
 -- a marker that is found behind a name has that name
 held-named : (room : ℕ) (at w left : List ℕ) (o : Marked) (end : List ℕ) → heldOf room at w left ≡ found o end → o .marker .name ≡ w

@@ -21,7 +21,6 @@ use paper::kinds;
 use text::nesting::Nesting;
 use text::parts::starts_with;
 use text::runs;
-use text::runs::Class;
 ghost use mathlib.Core.Path.{_≡_};
 ghost use Prim.Native.Nat.{_≤_};
 ghost use lib.ListN.{length};
@@ -197,7 +196,7 @@ fn read_children(
     let mut made = 0;
     let mut own = 0;
     loop {
-        let mark = runs::end(s, i, Class::Tab);
+        let mark = runs::tab_end(s, i);
         if starts_with(s, mark, &CLOSING) {
             return Part::Read {
                 end: mark,
@@ -296,7 +295,7 @@ pub fn read_annotated(
     else {
         return notes;
     };
-    let mark = runs::end(s, line, Class::Tab);
+    let mark = runs::tab_end(s, line);
     let concept = read_concept(
         table,
         s,

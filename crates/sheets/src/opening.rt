@@ -13,15 +13,12 @@ use modes::mode_of;
 use paper::Mode;
 use paper::Refusal;
 use paper::forms;
-use text::classes::is_white;
 use text::nesting::Deeper;
 use text::nesting::Nesting;
 use text::runs;
-use text::runs::Class;
 ghost use mathlib.Core.Path.{_≡_};
-ghost use Prim.Native.Nat.{suc, _+_, _≤_, _<_};
+ghost use Prim.Native.Nat.{suc, _≤_, _<_};
 ghost use lib.ListN.{length, drop};
-ghost use Rattle.paper.specs.Bytes.{isWhite, lengthIn};
 ghost use Rattle.paper.specs.Reading.{head, bounds};
 ghost use Rattle.modes.specs.Index.{Indexed};
 ghost use Rattle.entries.specs.Laid.{Fits};
@@ -96,11 +93,12 @@ fn read_named(
     let Deeper::Inside(inside) = nesting.step() else {
         return unopened(Refusal::TooDeep, at);
     };
-    match mode_of(table, index, &s[start..to]) {
-        Mode::Absent => unopened(Refusal::Unlisted, start),
-        Mode::Children => read_marker(s, start, to, forms::CHILDREN, inside, cells, slot),
-        Mode::Content => read_marker(s, start, to, forms::CONTENT, inside, cells, slot),
-    }
+    let block = match mode_of(table, index, &s[start..to]) {
+        Mode::Absent => return unopened(Refusal::Unlisted, start),
+        Mode::Children => forms::CHILDREN,
+        Mode::Content => forms::CONTENT,
+    };
+    read_marker(s, start, to, block, inside, cells, slot)
 }
 
 // Goes on behind the name that stands from `start` to `to`, which is of a Concept that may stand here;
@@ -123,7 +121,7 @@ fn read_marker(
     }
     match read_traits(s, to, cells, slot.under()) {
         Part::Refused { refusal, place } => unopened(refusal, place),
-        Part::Read { end, made, own } => match read_ending(s, white_end(s, end)) {
+        Part::Read { end, made, own } => match read_ending(s, runs::white_end(s, end)) {
             Ending::Refused { refusal, place } => unopened(refusal, place),
             Ending::Closed(end) => Opening::Opened {
                 form: forms::SELF_CLOSED,
@@ -143,19 +141,6 @@ fn read_marker(
             },
         },
     }
-}
-
-// Where the white space that stands at `at` ends. Mostly there is none before the end of a marker, so one byte is looked at first.
-fn white_end(s: &[u8], at: usize) -> usize
-    requires { ⌜ at ≤ length (now s) ⌝ }
-    ensures { λ r. ⌜ (r ≡ at + lengthIn isWhite (drop at (now (s .entry)))) × (at ≤ r) × (r ≤ length (now (s .entry))) ⌝ }
-{
-    if at < s.len() {
-        if !is_white(s[at]) {
-            return at;
-        }
-    }
-    runs::end(s, at, Class::White)
 }
 
 fn unopened(refusal: Refusal, place: usize) -> Opening

@@ -7,7 +7,7 @@ use mathlib.Core.Logic.{⊎-elim}
 use native.Mathlib.Omega.{arith}
 use lib.ListN.{length}
 use Rattle.paper.specs.Entries.{Entry}
-use Rattle.printing.specs.Standing.{Stand}
+use Rattle.entries.specs.Laid.{Stand}
 use Rattle.printing.proofs.ConceptLaws.{TraitsLeft, traits-all, trait-on, other-on, traits-over}
 use Rattle.printing.proofs.concepts.count_traits.Statement.{statement}
 use Rattle.printing.proofs.concepts.count_traits.Tie as tie

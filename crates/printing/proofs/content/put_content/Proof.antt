@@ -2,7 +2,7 @@
 use mathlib.Core.Path.{refl, _∙_}
 use native.Mathlib.Omega.{arith}
 use Rattle.entries.specs.Laid.{entryOf}
-use Rattle.printing.proofs.Standing.{stand-inside}
+use Rattle.entries.proofs.Standing.{stand-inside}
 use Rattle.printing.proofs.LineTexts.{content-lines, content-tabs}
 use borrow.Author.Needs.{needs}
 use Rattle.printing.proofs.content.put_content.Statement.{statement}

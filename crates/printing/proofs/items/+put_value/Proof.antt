@@ -12,9 +12,9 @@ use Rattle.paper.specs.Values.{Value, valueRule, bracketDepth}
 use Rattle.paper.proofs.brackets.Bracket.closer.Reads as closer-reads
 use Rattle.entries.specs.Laid.{entryOf}
 use Rattle.entries.proofs.get.Reads as get-reads
+use Rattle.entries.proofs.Standing.{stand-inside}
 use Rattle.printing.specs.Standing.{Holds, OfValue}
 use Rattle.printing.proofs.ItemLaws.{Items, items-first, items-on, items-over, bracket-put, leaf-value, deep-value}
-use Rattle.printing.proofs.Standing.{stand-inside}
 use Rattle.printing.proofs.items.put_value.Reads as put-value
 use Rattle.printing.proofs.items.put_value.Kinds as put-value-kinds
 use Rattle.printing.proofs.items.+put_value.Lts-put_value as put-value-lts

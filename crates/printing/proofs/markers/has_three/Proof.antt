@@ -5,7 +5,7 @@ use native.Mathlib.Omega.{arith}
 use lib.Dec.{eqb}
 use borrow.Author.Needs.{needs}
 use Rattle.printing.proofs.Three.{three-none, three-one, three-more}
-use Rattle.printing.proofs.Standing.{kind-inside}
+use Rattle.entries.proofs.Standing.{kind-inside}
 use Rattle.printing.proofs.markers.has_three.Statement.{statement}
 use Rattle.printing.proofs.markers.has_three.Tie as tie
 

@@ -5,9 +5,9 @@ use native.Mathlib.Omega.{arith}
 use lib.ListN.{length}
 use borrow.Author.Needs.{needs}
 use Rattle.paper.specs.Entries.{entryCells}
-use Rattle.printing.specs.Standing.{kindAt}
+use Rattle.entries.specs.Laid.{kindAt}
+use Rattle.entries.proofs.Standing.{kind-inside}
 use Rattle.printing.proofs.Three.{items-step}
-use Rattle.printing.proofs.Standing.{kind-inside}
 use Rattle.printing.proofs.markers.past_items.Statement.{statement}
 use Rattle.printing.proofs.markers.past_items.Tie as tie
 

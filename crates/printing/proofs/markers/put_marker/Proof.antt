@@ -5,8 +5,8 @@ use native.Mathlib.Omega.{arith}
 use borrow.Author.Needs.{needs}
 use Rattle.text.proofs.Either.{either-first, either-second}
 use Rattle.entries.specs.Laid.{entryOf}
+use Rattle.entries.proofs.Standing.{stand-inside}
 use Rattle.printing.proofs.Marking.{marker-put}
-use Rattle.printing.proofs.Standing.{stand-inside}
 use Rattle.printing.proofs.markers.put_marker.Statement.{statement}
 use Rattle.printing.proofs.markers.put_marker.Tie as tie
 

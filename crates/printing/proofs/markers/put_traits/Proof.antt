@@ -14,9 +14,9 @@ use Rattle.paper.specs.Tree.{Trait}
 use Rattle.paper.specs.Names.{nameLimit}
 use Rattle.paper.specs.Bytes.{all}
 use Rattle.entries.specs.Laid.{entryOf}
+use Rattle.entries.proofs.Standing.{kind-inside}
 use Rattle.printing.specs.Standing.{Ends, OfTraits}
 use Rattle.printing.proofs.Marking.{Left, left-first, left-on, left-over}
-use Rattle.printing.proofs.Standing.{kind-inside}
 use Rattle.printing.proofs.markers.put_traits.Statement.{statement}
 use Rattle.printing.proofs.markers.put_traits.Tie as tie
 

@@ -7,10 +7,9 @@ use native.Mathlib.Omega.{arith}
 use lib.ListN.{length}
 use Rattle.paper.specs.Tree.{Annotation}
 use Rattle.paper.specs.Entries.{Entry, entryCells}
-use Rattle.entries.specs.Laid.{entryOf}
-use Rattle.printing.specs.Standing.{kindAt}
+use Rattle.entries.specs.Laid.{entryOf, kindAt}
+use Rattle.entries.proofs.Standing.{kind-inside}
 use Rattle.printing.specs.Walking.{OfNotes}
-use Rattle.printing.proofs.Standing.{kind-inside}
 use Rattle.printing.proofs.NoteLaws.{NotesLeft, notes-all, notes-on, notes-over}
 use Rattle.printing.proofs.notes.put_notes.Statement.{statement}
 use Rattle.printing.proofs.notes.put_notes.Tie as tie

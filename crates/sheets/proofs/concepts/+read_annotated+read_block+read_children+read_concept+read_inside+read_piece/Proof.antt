@@ -52,7 +52,7 @@ use Rattle.sheets.proofs.concepts.end_concept.Reads as end-concept-read
 use Rattle.sheets.proofs.concepts.end_line.Reads as end-line-reads
 use Rattle.sheets.proofs.opening.read_opening.Reads as read-opening-reads
 use Rattle.text.proofs.parts.starts_with.Reads as starts-with-reads
-use Rattle.text.proofs.runs.end.Reads as end-reads
+use Rattle.text.proofs.runs.tab_end.Reads as tab-end-reads
 use Rattle.sheets.proofs.concepts.+read_annotated+read_block+read_children+read_concept+read_inside+read_piece.{statement}
 use Rattle.sheets.proofs.concepts.+read_annotated+read_block+read_children+read_concept+read_inside+read_piece.Tie.{close}
 
@@ -142,7 +142,7 @@ read-piece-below t =
 
 abbrev read-annotated-calls : ℕ → read-annotated-lts.Claims
 read-annotated-calls t =
-    (read-all-reads.Asked, read-all-reads.Learnt, end-reads.Asked, end-reads.Learnt, after-reads.Asked, after-reads.Learnt, read-concept-below t, read-concept.Post)
+    (read-all-reads.Asked, read-all-reads.Learnt, tab-end-reads.Asked, tab-end-reads.Learnt, after-reads.Asked, after-reads.Learnt, read-concept-below t, read-concept.Post)
 
 abbrev read-block-calls : ℕ → read-block-lts.Claims
 read-block-calls t = (
@@ -156,8 +156,8 @@ read-block-calls t = (
 
 abbrev read-children-calls : ℕ → read-children-lts.Claims
 read-children-calls t = (
-  end-reads.Asked,
-  end-reads.Learnt,
+  tab-end-reads.Asked,
+  tab-end-reads.Learnt,
   starts-with-reads.Asked,
   starts-with-reads.Learnt,
   after-reads.Asked,
@@ -233,8 +233,8 @@ read-annotated-returns t c =
     annotated.notes-refused (c .before .before .before .before .before .before .before .before .before .pre .1) (c .before .before .before .before .read-all .ensures) _
     (c .enum-told .given .1)
 
-read-annotated-end-requires : (t : ℕ) → read-annotated-lts.Need-end-requires (read-annotated-calls t) (read-annotated-at t) read-annotated.Post
-read-annotated-end-requires t c κs = annotated-notes t (c .before) .inside
+read-annotated-tab-end-requires : (t : ℕ) → read-annotated-lts.Need-tab-end-requires (read-annotated-calls t) (read-annotated-at t) read-annotated.Post
+read-annotated-tab-end-requires t c κs = annotated-notes t (c .before) .inside
 
 read-annotated-sub-read-concept : (t : ℕ) → read-annotated-lts.Need-sub-read-concept (read-annotated-calls t) (read-annotated-at t) read-annotated.Post
 read-annotated-sub-read-concept t c = search needs
@@ -249,10 +249,10 @@ read-annotated-read-concept-requires t c κs =
         arith,
         at-notes .before .before .before .before .before .before .before .before .before .pre .0,
         annotated-notes t at-notes .ahead,
-        c .before .before .end .ensures,
+        c .before .before .tab-end .ensures,
       ),
       annotated.concept-stands (annotated-notes t
-          at-notes) (c .before .before .end .ensures) (c .after .ensures) (at-notes .before .before .before .before .read-all .kept .1 .1 .0),
+          at-notes) (c .before .before .tab-end .ensures) (c .after .ensures) (at-notes .before .before .before .before .read-all .kept .1 .1 .0),
     )
 
 read-annotated-enum-known-concept : (t : ℕ) → read-annotated-lts.Need-enum-known-concept (read-annotated-calls t) (read-annotated-at t) read-annotated.Post
@@ -267,22 +267,22 @@ read-annotated-same-length-2 t c = search needs
 read-annotated-returns-2 : (t : ℕ) → read-annotated-lts.Need-returns-2 (read-annotated-calls t) (read-annotated-at t) read-annotated.Post
 read-annotated-returns-2 t c =
     let at-read-concept = c .before .before .before .before in
-    annotated.concept-refused (annotated-notes t (at-read-concept .before .before .before .before .before)) (at-read-concept .before .before .before .end .ensures)
+    annotated.concept-refused (annotated-notes t (at-read-concept .before .before .before .before .before)) (at-read-concept .before .before .before .tab-end .ensures)
     (at-read-concept .before .after .ensures) _ (at-read-concept .read-concept .ensures) (c .enum-told2 .given .1)
 
-read-annotated-add-t18 : (t : ℕ) → read-annotated-lts.Need-add-t18 (read-annotated-calls t) (read-annotated-at t) read-annotated.Post
-read-annotated-add-t18 t c =
+read-annotated-add-t17 : (t : ℕ) → read-annotated-lts.Need-add-t17 (read-annotated-calls t) (read-annotated-at t) read-annotated.Post
+read-annotated-add-t17 t c =
     let at-read-concept = c .before .before .before .before .before in
     let notes = annotated-notes t (at-read-concept .before .before .before .before .before) in
     omega (
       arith,
-      annotated.all-few notes (at-read-concept .before .before .before .end .ensures) (at-read-concept .before .after .ensures) _
+      annotated.all-few notes (at-read-concept .before .before .before .tab-end .ensures) (at-read-concept .before .after .ensures) _
           (at-read-concept .read-concept .ensures) (c .before .concept .given .1),
       notes .stands .fits .few,
     )
 
-read-annotated-add-t22 : (t : ℕ) → read-annotated-lts.Need-add-t22 (read-annotated-calls t) (read-annotated-at t) read-annotated.Post
-read-annotated-add-t22 t c =
+read-annotated-add-t21 : (t : ℕ) → read-annotated-lts.Need-add-t21 (read-annotated-calls t) (read-annotated-at t) read-annotated.Post
+read-annotated-add-t21 t c =
     let notes =
     annotated-notes t (c .before .before .before .before .before .before .before .before .before .before) in omega (arith, notes .few, notes .stands .fits .few)
 
@@ -292,7 +292,7 @@ read-annotated-same-length-3 t c = search needs
 read-annotated-returns-3 : (t : ℕ) → read-annotated-lts.Need-returns-3 (read-annotated-calls t) (read-annotated-at t) read-annotated.Post
 read-annotated-returns-3 t c =
     let at-read-concept = c .before .before .before .before .before in
-    annotated.annotated-read (annotated-notes t (at-read-concept .before .before .before .before .before)) (at-read-concept .before .before .before .end .ensures)
+    annotated.annotated-read (annotated-notes t (at-read-concept .before .before .before .before .before)) (at-read-concept .before .before .before .tab-end .ensures)
     (at-read-concept .before .after .ensures) _ (at-read-concept .read-concept .ensures) (c .before .concept .given .1)
 
 -- ---- read_block: the rest of the line, the children, the closing marker
@@ -391,16 +391,16 @@ children-ahead : (t : ℕ) (c : read-children-lts.After-piece (read-children-cal
 children-ahead t c =
     let at-read-piece = c .before .before .before .before in
     let at-if = at-read-piece .before .before .before in
-    piece-ahead (at-if .before .before .before .before .loop .inv) (at-if .before .before .before .end .ensures) (at-if .before .starts-with .ensures) (at-if .if1 .left)
+    piece-ahead (at-if .before .before .before .before .loop .inv) (at-if .before .before .before .tab-end .ensures) (at-if .before .starts-with .ensures) (at-if .if1 .left)
     (at-read-piece .before .after .ensures) (at-read-piece .read-piece .ensures) (c .piece .given .1)
 
 read-children-loop-holds : (t : ℕ)
     → read-children-lts.Need-loop-holds (read-children-calls t) (read-children-at t) read-children.Post read-children-Inv-loop read-children-μ-loop
 read-children-loop-holds t c = pieces-begin _ _ _ _ _ _ (c .before .before .before .pre .1 .in-sheet .inside) (c .before .before .before .pre .1 .fits .inside)
 
-read-children-end-requires : (t : ℕ)
-    → read-children-lts.Need-end-requires (read-children-calls t) (read-children-at t) read-children.Post read-children-Inv-loop read-children-μ-loop
-read-children-end-requires t c κs = c .loop .inv .inside
+read-children-tab-end-requires : (t : ℕ)
+    → read-children-lts.Need-tab-end-requires (read-children-calls t) (read-children-at t) read-children.Post read-children-Inv-loop read-children-μ-loop
+read-children-tab-end-requires t c κs = c .loop .inv .inside
 
 read-children-slice-aggregate-starts-with : (t : ℕ)
     → read-children-lts.Need-slice-aggregate-starts-with (read-children-calls t) (read-children-at t) read-children.Post read-children-Inv-loop read-children-μ-loop
@@ -416,7 +416,8 @@ read-children-same-length t c = c .before .before .before .before .loop .inv .he
 
 read-children-returns : (t : ℕ)
     → read-children-lts.Need-returns (read-children-calls t) (read-children-at t) read-children.Post read-children-Inv-loop read-children-μ-loop
-read-children-returns t c = pieces-over (c .before .before .before .before .loop .inv) (c .before .before .before .end .ensures) (c .before .starts-with .ensures) (c .if1 .taken)
+read-children-returns t c =
+    pieces-over (c .before .before .before .before .loop .inv) (c .before .before .before .tab-end .ensures) (c .before .starts-with .ensures) (c .if1 .taken)
 
 read-children-after-requires : (t : ℕ)
     → read-children-lts.Need-after-requires (read-children-calls t) (read-children-at t) read-children.Post read-children-Inv-loop read-children-μ-loop
@@ -431,7 +432,7 @@ read-children-read-piece-requires t c κs =
       omega (arith, top .pre .0, at-loop .loop .inv .ahead),
       (
         stands-on (top .pre .1) (at-loop .loop .inv .inside) (fits-after _ (top .pre .1 .fits) (at-loop .loop .inv .held) (at-loop .loop .inv .few) (c .after .ensures)),
-        c .before .before .before .before .before .end .ensures,
+        c .before .before .before .before .before .tab-end .ensures,
       ),
     )
 
@@ -454,7 +455,7 @@ read-children-returns-2 : (t : ℕ)
 read-children-returns-2 t c =
     let at-read-piece = c .before .before .before .before in
     let at-if = at-read-piece .before .before .before in
-    pieces-refused (at-if .before .before .before .before .loop .inv) (at-if .before .before .before .end .ensures) (at-if .before .starts-with .ensures) (at-if .if1 .left)
+    pieces-refused (at-if .before .before .before .before .loop .inv) (at-if .before .before .before .tab-end .ensures) (at-if .before .starts-with .ensures) (at-if .if1 .left)
     (at-read-piece .before .after .ensures) (at-read-piece .read-piece .ensures) (c .enum-told .given .1)
 
 read-children-add-made : (t : ℕ)
@@ -479,7 +480,7 @@ read-children-loop-again : (t : ℕ)
 read-children-loop-again t c =
     let at-read-piece = c .before .before .before .before .before in
     let at-if = at-read-piece .before .before .before in
-    pieces-on (at-if .before .before .before .before .loop .inv) (at-if .before .before .before .end .ensures) (at-if .before .starts-with .ensures) (at-if .if1 .left)
+    pieces-on (at-if .before .before .before .before .loop .inv) (at-if .before .before .before .tab-end .ensures) (at-if .before .starts-with .ensures) (at-if .if1 .left)
     (at-read-piece .before .after .ensures) (at-read-piece .read-piece .ensures) (c .before .piece .given .1) (at-read-piece .read-piece .kept .1 .1 .1 .1 .1 .0)
 
 -- ---- read_concept: the opening marker, what follows it, the entry before them
@@ -738,7 +739,7 @@ pub +read-annotated+read-block+read-children+read-concept+read-inside+read-piece
     (read-annotated-enum-told t)
     (read-annotated-same-length t)
     (read-annotated-returns t)
-    (read-annotated-end-requires t)
+    (read-annotated-tab-end-requires t)
     (read-annotated-sub-read-concept t)
     (read-annotated-after-requires t)
     (read-annotated-read-concept-requires t)
@@ -746,8 +747,8 @@ pub +read-annotated+read-block+read-children+read-concept+read-inside+read-piece
     (read-annotated-enum-told-2 t)
     (read-annotated-same-length-2 t)
     (read-annotated-returns-2 t)
-    (read-annotated-add-t18 t)
-    (read-annotated-add-t22 t)
+    (read-annotated-add-t17 t)
+    (read-annotated-add-t21 t)
     (read-annotated-same-length-3 t)
     (read-annotated-returns-3 t))
     (λ t. read-block-lts.spec (read-block-calls t)
@@ -775,7 +776,7 @@ pub +read-annotated+read-block+read-children+read-concept+read-inside+read-piece
     read-children-Inv-loop
     read-children-μ-loop
     (read-children-loop-holds t)
-    (read-children-end-requires t)
+    (read-children-tab-end-requires t)
     (read-children-slice-aggregate-starts-with t)
     (read-children-starts-with-requires t)
     (read-children-same-length t)

@@ -39,6 +39,7 @@ read-traits-requires c κs = (
   c .before .before .before .before .before .before .pre .0,
   fits-under (c .before .before .before .before .before .before .pre .2) (c .before .before .before .is-full .ensures) (c .before .before .if1 .left)
       (c .under .ensures),
+  rw (c .under .ensures),
 )
 
 enum-known-refusal : tie.Need-enum-known-refusal

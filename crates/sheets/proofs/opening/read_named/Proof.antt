@@ -1,6 +1,7 @@
 -- A law for each way out: the nesting, the table, and what follows a name that is admitted.
 use Prim.Native.Nat.{suc}
 use mathlib.Core.Path.{_≡_, sym, _∙_}
+use mathlib.Core.Logic.{⊎-elim}
 use native.Mathlib.Omega.{arith}
 use borrow.Author.Needs.{needs}
 use Rattle.text.proofs.Deepening.{one-less, no-less}
@@ -51,22 +52,6 @@ enum-told-2 c = search needs
 unopened-requires-2 : tie.Need-unopened-requires-2
 unopened-requires-2 c κs = search needs
 
-enum-told-3 : tie.Need-enum-told-3
-enum-told-3 c = search needs
-
-read-marker-requires : tie.Need-read-marker-requires
-read-marker-requires c κs =
-    let top = c .before .before .before .before .before .before .before .before .before .before .before .before in
-    (top .pre .1, omega (arith, top .pre .2), top .pre .3)
-
-enum-told-4 : tie.Need-enum-told-4
-enum-told-4 c = search needs
-
-read-marker-requires-2 : tie.Need-read-marker-requires-2
-read-marker-requires-2 c κs =
-    let top = c .before .before .before .before .before .before .before .before .before .before .before .before in
-    (top .pre .1, omega (arith, top .pre .2), top .pre .3)
-
 returns-2 : tie.Need-returns-2
 returns-2 c =
     let at-mode-of = c .before .before .before in
@@ -74,27 +59,30 @@ returns-2 c =
     unlisted _ (top .pre .1) (top .pre .2) (top .pre .3) _ (fewer (at-mode-of .before .before .before))
     (sym (c .before .enum-told2 .given .1) ∙ at-mode-of .mode-of .ensures) (c .unopened2 .ensures)
 
+enum-told-3 : tie.Need-enum-told-3
+enum-told-3 c = search needs
+
+enum-told-4 : tie.Need-enum-told-4
+enum-told-4 c = search needs
+
+read-marker-requires : tie.Need-read-marker-requires
+read-marker-requires c κs =
+    let top = c .before .before .before .before .before .before .before .before .before .before .before in
+    (top .pre .1, omega (arith, top .pre .2), top .pre .3)
+
 same-length : tie.Need-same-length
 same-length c = search needs
 
 returns-3 : tie.Need-returns-3
 returns-3 c =
-    let at-enum-told = c .before .before .before .before in
-    let at-inside = at-enum-told .before .before .before .before .before in
-    let top = at-inside .before .before .before .before .before .before in
-    listed _ (top .pre .1) (top .pre .2) (top .pre .3) _ (fewer at-inside)
-    (in-children _ _ (sym (at-enum-told .enum-told3 .given .1) ∙ at-enum-told .before .before .mode-of .ensures)) (c .before .before .read-marker .ensures)
-
-same-length-2 : tie.Need-same-length-2
-same-length-2 c = search needs
-
-returns-4 : tie.Need-returns-4
-returns-4 c =
-    let at-enum-told = c .before .before .before .before in
-    let at-inside = at-enum-told .before .before .before .before .before in
-    let top = at-inside .before .before .before .before .before .before in
-    listed _ (top .pre .1) (top .pre .2) (top .pre .3) _ (fewer at-inside)
-    (in-content _ _ (sym (at-enum-told .enum-told4 .given .1) ∙ at-enum-told .before .before .mode-of .ensures)) (c .before .before .read-marker2 .ensures)
+    let at-read-marker = c .before .before in
+    let at-match = at-read-marker .before .before in
+    let at-mode-of = at-match .before in
+    let top = at-mode-of .before .before .before .before .before .before .before .before .before in
+    listed _ (top .pre .1) (top .pre .2) (top .pre .3) _ (fewer (at-mode-of .before .before .before))
+    (⊎-elim (λ w. in-children _ _ (sym (w .1 .given .1) ∙ at-mode-of .mode-of .ensures) (w .2))
+    (λ w. in-content _ _ (sym (w .1 .given .1) ∙ at-mode-of .mode-of .ensures) (w .2)) (at-match .match2 .came))
+    (at-read-marker .read-marker .ensures)
 
 pub read-named-spec : {M : Type 1} → statement M
 read-named-spec =
@@ -112,12 +100,9 @@ read-named-spec =
     mode-of-requires
     enum-told-2
     unopened-requires-2
-    enum-told-3
-    read-marker-requires
-    enum-told-4
-    read-marker-requires-2
     returns-2
+    enum-told-3
+    enum-told-4
+    read-marker-requires
     same-length
-    returns-3
-    same-length-2
-    returns-4)
+    returns-3)

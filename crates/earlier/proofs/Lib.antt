@@ -1,0 +1,3 @@
+-- Laws that the proofs of this crate and of its users apply, over plain lists and numbers.
+pub mod NamesHeld
+pub mod Chains
