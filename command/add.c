@@ -25,7 +25,7 @@ static const char help[] =
 static struct roll roll;
 
 /* Says why a sheet is not added. Two refusals are about the roll. */
-static enum status refuse_to_add(const struct sheet *sheet)
+static enum status refuse_to_add(const struct table *table, const struct sheet *sheet)
 {
     switch (sheet->answer[0]) {
     case CDX_NO_ROOM:
@@ -37,7 +37,7 @@ static enum status refuse_to_add(const struct sheet *sheet)
                       "the roll lacks its last line end");
         return REFUSED;
     default:
-        return refuse_sheet(stderr, sheet);
+        return refuse_sheet(stderr, table, sheet);
     }
 }
 
@@ -47,7 +47,7 @@ static enum status add(const struct request *request, const struct table *table,
     cdx_add(table->bytes, table->length, sheet->bytes, sheet->length, roll.bytes, CDX_MAX_ROLL, roll.length, sheet->cells, CDX_MAX_CELLS,
             sheet->answer);
     if (sheet->answer[0] != CDX_OK)
-        return refuse_to_add(sheet);
+        return refuse_to_add(table, sheet);
     roll.length = sheet->answer[2];
     return ALL_WELL;
 }

@@ -11,7 +11,8 @@ static const char help[] =
     "\n"
     "Each sheet has a line on standard output: how many entries it has; or line and column,\n"
     "the number of the refusal and what it means, and below it the line, with a caret under\n"
-    "the place. A column is a character: a tab is one, a wide character is one.\n"
+    "the place. Of a trait that stands twice it tells both places. A column is a character:\n"
+    "a tab is one, a wide character is one.\n"
     "\n"
     "TABLE is a mode table or its text. No FILE, or `-`, is standard input.\n"
     "Status 1 if a sheet is refused, 2 if a file could not be read.\n"
@@ -23,7 +24,7 @@ static enum status check(const struct request *request, const struct table *tabl
 {
     (void)request;
     if (!read_sheet(table, sheet))
-        return refuse_sheet(stdout, sheet);
+        return refuse_sheet(stdout, table, sheet);
     print_name(stdout, sheet->name);
     fputs(": ", stdout);
     print_entries(stdout, sheet->answer[2]);

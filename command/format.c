@@ -30,7 +30,7 @@ static enum status format(const struct request *request, const struct table *tab
 {
     static struct form form;
     if (!write_form(table, sheet, &form))
-        return refuse_sheet(stderr, sheet);
+        return refuse_sheet(stderr, table, sheet);
     if (!request->list && !request->in_place)
         fwrite(form.bytes, 1, form.length, stdout);
     else if (is_changed(sheet, &form)) {

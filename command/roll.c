@@ -4,6 +4,7 @@
 #include "glyphs.h"
 #include "places.h"
 #include "rolls.h"
+#include "twice.h"
 #include "words.h"
 
 enum { CAPTION = 40 };
@@ -75,16 +76,17 @@ static void print_accepted(const struct table *table, struct roll *roll, uint32_
 }
 
 /* The sheet ends where its record says, whatever comes behind it in the roll. */
-static void print_refused(const struct roll *roll, uint32_t number, const uint32_t *record)
+static void print_refused(const struct table *table, const struct roll *roll, uint32_t number, const uint32_t *record)
 {
-    size_t at = record[CDX_SHEET_START] + record[CDX_SHEET_PLACE];
-    struct place place = place_of(roll->bytes, record[CDX_SHEET_END], at);
-    print_name(stdout, roll->name);
-    printf(":%zu:%zu", place.line, place.column);
+    size_t start = record[CDX_SHEET_START], end = record[CDX_SHEET_END], at = start + record[CDX_SHEET_PLACE];
+    print_place(stdout, roll->name, roll->bytes, end, at);
     print_lines(roll, number, record);
     print_first_line(roll, record);
     printf(": refused %u: %s\n", record[CDX_SHEET_NUMBER], refusal_in_words(record[CDX_SHEET_NUMBER]));
-    print_line(stdout, roll->bytes, record[CDX_SHEET_END], at);
+    print_line(stdout, roll->bytes, end, at);
+    if (record[CDX_SHEET_NUMBER] == CDX_TRAIT_TWICE)
+        print_stood_first(stdout, roll->name, roll->bytes, end,
+                          start + first_place(table, roll->bytes + start, end - start, record[CDX_SHEET_PLACE]));
 }
 
 /* Prints all sheets, and gives how many are refused. */
@@ -96,7 +98,7 @@ static uint32_t print_sheets(const struct table *table, struct roll *roll)
         if (record[CDX_SHEET_NUMBER] == CDX_OK) {
             print_accepted(table, roll, number, record);
         } else {
-            print_refused(roll, number, record);
+            print_refused(table, roll, number, record);
             refused++;
         }
     }

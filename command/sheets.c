@@ -4,6 +4,7 @@
 
 #include "files.h"
 #include "glyphs.h"
+#include "twice.h"
 #include "words.h"
 
 static bool load_sheet(const char *file, struct sheet *sheet)
@@ -39,7 +40,7 @@ bool write_form(const struct table *table, struct sheet *sheet, struct form *for
     return sheet->answer[0] == CDX_OK;
 }
 
-enum status refuse_sheet(FILE *out, const struct sheet *sheet)
+enum status refuse_sheet(FILE *out, const struct table *table, const struct sheet *sheet)
 {
     uint32_t number = sheet->answer[0];
     const char *why = refusal_in_words(number);
@@ -49,5 +50,8 @@ enum status refuse_sheet(FILE *out, const struct sheet *sheet)
     } else {
         print_refusal(out, sheet->name, sheet->bytes, sheet->length, sheet->answer[1], number, why);
     }
+    if (number == CDX_TRAIT_TWICE)
+        print_stood_first(out, sheet->name, sheet->bytes, sheet->length,
+                          first_place(table, sheet->bytes, sheet->length, sheet->answer[1]));
     return REFUSED;
 }

@@ -36,7 +36,7 @@ bool read_sheet(const struct table *table, struct sheet *sheet);
 /* Writes its canonical form. Gives whether it has one. */
 bool write_form(const struct table *table, struct sheet *sheet, struct form *form);
 
-/* Says why and where the sheet is refused. */
-enum status refuse_sheet(FILE *out, const struct sheet *sheet);
+/* Says why and where the sheet is refused; of a trait that stands twice both places. */
+enum status refuse_sheet(FILE *out, const struct table *table, const struct sheet *sheet);
 
 #endif

@@ -192,7 +192,7 @@ static enum status show(const struct request *request, const struct table *table
 {
     (void)request;
     if (!read_sheet(table, sheet))
-        return refuse_sheet(stderr, sheet);
+        return refuse_sheet(stderr, table, sheet);
     print_tree(sheet);
     return ALL_WELL;
 }

@@ -1,9 +1,8 @@
 /* The numbers of an answer and of an entry in words.
- * They follow the sections "Entries" and "Refusal numbers" of document 01, and 001 §18. */
+ * They follow the sections "Entries" and "Refusal numbers" of document 01, document 02, Six, and 001 §18. */
 #include "words.h"
 
 #include "cdx.h"
-#include "glyphs.h"
 #include "places.h"
 
 const char *refusal_in_words(uint32_t number)
@@ -25,6 +24,7 @@ const char *refusal_in_words(uint32_t number)
         [CDX_BEFORE_BOUNDARY] = "something stands before the first sheet",
         [CDX_TOO_MANY_SHEETS] = "more than 256 sheets",
         [CDX_ROOT_ANNOTATED] = "no sheet of a roll has an annotation before its root",
+        [CDX_TRAIT_TWICE] = "the Concept has a trait of this name already",
     };
     return words[number];
 }
@@ -81,8 +81,14 @@ void print_sheet_count(FILE *out, uint32_t sheets)
 
 void print_refusal(FILE *out, const char *name, const uint8_t *bytes, size_t length, size_t at, uint32_t number, const char *why)
 {
-    struct place place = place_of(bytes, length, at);
-    print_name(out, name);
-    fprintf(out, ":%zu:%zu: refused %u: %s\n", place.line, place.column, number, why);
+    print_place(out, name, bytes, length, at);
+    fprintf(out, ": refused %u: %s\n", number, why);
+    print_line(out, bytes, length, at);
+}
+
+void print_stood_first(FILE *out, const char *name, const uint8_t *bytes, size_t length, size_t at)
+{
+    print_place(out, name, bytes, length, at);
+    fputs(": it stood here first\n", out);
     print_line(out, bytes, length, at);
 }

@@ -1,5 +1,5 @@
 /* The numbers of an answer and of an entry in words.
- * They follow the sections "Entries" and "Refusal numbers" of document 01, and 001 §18. */
+ * They follow the sections "Entries" and "Refusal numbers" of document 01, document 02, Six, and 001 §18. */
 #ifndef WORDS_H
 #define WORDS_H
 
@@ -24,5 +24,8 @@ void print_sheet_count(FILE *out, uint32_t sheets);
 
 /* Says that a file is refused: where, why, and the line with a caret under the place. */
 void print_refusal(FILE *out, const char *name, const uint8_t *bytes, size_t length, size_t at, uint32_t number, const char *why);
+
+/* Says where a trait that stands again stood first: the place, and the line with a caret under it. */
+void print_stood_first(FILE *out, const char *name, const uint8_t *bytes, size_t length, size_t at);
 
 #endif

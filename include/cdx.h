@@ -51,7 +51,8 @@ enum cdx_number {
     CDX_BEFORE_BOUNDARY = 14, /* something stands before a roll's first sheet, or a roll to be added to does not end with a line end */
     CDX_TOO_MANY_SHEETS = 15, /* more sheets in a roll than CDX_MAX_SHEETS, or than there are records lent for */
     CDX_ROOT_ANNOTATED = 16,  /* the sheet to be added has an annotation before its root */
-    CDX_VIEW = 17             /* this entry cannot be viewed */
+    CDX_VIEW = 17,            /* this entry cannot be viewed */
+    CDX_TRAIT_TWICE = 18      /* a Concept has two traits of one name; the place is that of the second name */
 };
 
 /* An entry is so many cells, and these are its cells by their place in it. */

@@ -189,8 +189,9 @@ static void try_refusals(void)
     static const struct {
         enum cdx_number number;
         const char *sheet;
-    } refused[] = {{CDX_BYTES, "\x7F"},      {CDX_NAME, "<lab/>"},      {CDX_UNLISTED, "<Other/>"},           {CDX_VALUE, "<Lab n=04/>"},
-                   {CDX_DUE, "<Lab/>\nx"},   {CDX_CUT, "<Lab>"},        {CDX_CLOSING_NAME, "<Lab>\n</Steps>"}};
+    } refused[] = {{CDX_BYTES, "\x7F"},          {CDX_NAME, "<lab/>"},     {CDX_UNLISTED, "<Other/>"},
+                   {CDX_VALUE, "<Lab n=04/>"},   {CDX_DUE, "<Lab/>\nx"},   {CDX_CLOSING_NAME, "<Lab>\n</Steps>"},
+                   {CDX_CUT, "<Lab>"},           {CDX_TRAIT_TWICE, "<Lab n=1 n=2/>"}};
     for (size_t at = 0; at < sizeof refused / sizeof *refused; at++) {
         add(refused[at].sheet, 1);
         sheet_is(refused[at].number, refused[at].sheet);
