@@ -13,9 +13,9 @@ use Rattle.paper.specs.Names.{among}
 use Rattle.paper.specs.Entries.{Entry}
 use Rattle.paper.proofs.Tests.{split}
 use Rattle.paper.proofs.Lists.{same-is}
+use Rattle.paper.proofs.Distinct.{among-here, among-on}
 use Rattle.entries.specs.Laid.{entryAt}
 use Rattle.lines.proofs.Closing.{part-length}
-use Rattle.modes.proofs.Walk.{among-here, among-on}
 use Rattle.earlier.specs.Earlier.{nameOf, Stands, isTrait, AllStand, namesIn, Knows}
 
 -- two tests of which the second fails

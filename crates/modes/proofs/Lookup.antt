@@ -16,9 +16,9 @@ use Rattle.paper.proofs.Tests.{split, true-false, or-right}
 use Rattle.paper.proofs.Lists.{both, same-is}
 use Rattle.paper.proofs.Finds.{Finds}
 use Rattle.paper.proofs.Tables.{table-read}
+use Rattle.paper.proofs.Distinct.{among-on, among-either}
 use Rattle.modes.specs.Table.{modesOf, Valid}
 use Rattle.modes.specs.Index.{latest, named, FindsNumber, Indexed}
-use Rattle.modes.proofs.Walk.{among-on, among-either}
 use Rattle.modes.proofs.Numbers.{latest-few, latest-later, latest-before, listed, unlisted, among-reverse}
 use Rattle.modes.proofs.Laid.{laid}
 

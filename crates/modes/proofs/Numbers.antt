@@ -11,8 +11,8 @@ use borrow.Author.Tests.{eq-eqb}
 use Rattle.paper.specs.Names.{among}
 use Rattle.paper.proofs.Tests.{split, true-false}
 use Rattle.paper.proofs.Lists.{same-is}
+use Rattle.paper.proofs.Distinct.{among-here, among-on, among-either}
 use Rattle.modes.specs.Index.{keyCount, keyOf, latest, hasKey, named}
-use Rattle.modes.proofs.Walk.{among-here, among-on, among-either}
 
 -- ---- keys
 

@@ -1,17 +1,13 @@
--- Names one after another, from a place of the table on: so many and one more, and a name among others.
+-- Names one after another, from a place of the table on: so many and one more.
 -- Over plain lists. Assumes nothing.
 use Prim.Native.Nat.{ℕ, zero, suc, _+_, _<_}
 use mathlib.Core.Path.{_≡_, refl, ap, _∙_}
-use mathlib.Core.Bool.{true, false, _||_}
 use mathlib.Core.List.{List, [], _∷_, _++_}
 use native.Mathlib.Nat.{zero-add}
 use native.Mathlib.Numerals.{add-one}
 use native.Mathlib.Omega.{arith}
 use lib.ListN.{length, getD, take, drop, length-drop}
 use lib.Seq.{drop-drop}
-use Rattle.paper.specs.Bytes.{same}
-use Rattle.paper.specs.Names.{among}
-use Rattle.paper.proofs.Tests.{split}
 use Rattle.text.proofs.Places.{here}
 use Rattle.modes.specs.Table.{namesOf, sizeOf, Whole}
 
@@ -59,20 +55,3 @@ unfolding namesOf sizeOf
 names-many zero s h = refl
 names-many (suc n) [] h = absurd (omega arith)
 names-many (suc n) (b ∷ s) h = ap suc (names-many n (drop b s) (omega (arith, length-drop b s)))
-
--- ---- a name among others
-
-pub among-here : (v w : List ℕ) (ns : List (List ℕ)) → same v w ≡ true → among (v ∷ ns) w ≡ true
-unfolding among
-among-here v w ns e = rw (e, among)
-
-pub among-on : (v w : List ℕ) (ns : List (List ℕ)) → same v w ≡ false → among (v ∷ ns) w ≡ among ns w
-unfolding among
-among-on v w ns e = rw (e, among)
-
-pub among-either : (ms ns : List (List ℕ)) (w : List ℕ) → among (ms ++ ns) w ≡ (among ms w || among ns w)
-unfolding among
-among-either [] ns w = refl
-among-either (m ∷ ms) ns w =
-    split (same m w) (λ e. rw (among-here m w (ms ++ ns) e, among-here m w ms e))
-    (λ e. rw (among-on m w (ms ++ ns) e, among-on m w ms e) (among-either ms ns w))

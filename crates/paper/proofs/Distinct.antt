@@ -1,7 +1,7 @@
--- Names that are all distinct: one more of them, and one that stands behind others. Assumes nothing.
+-- A name among others, and names that are all distinct: one more of them, and one that stands behind others. Assumes nothing.
 -- Document 01, "The mode table", and document 02, Six.
 use mathlib.Core.Path.{_≡_, refl, sym, ap, _∙_}
-use mathlib.Core.Bool.{true, false, not}
+use mathlib.Core.Bool.{true, false, not, _||_}
 use mathlib.Core.List.{List, [], _∷_, _++_}
 use Prim.Native.Nat.{ℕ}
 use borrow.Author.Tests.{not-true}
@@ -9,6 +9,25 @@ use Rattle.paper.specs.Bytes.{same}
 use Rattle.paper.specs.Names.{among, distinct}
 use Rattle.paper.proofs.Tests.{split, true-false}
 use Rattle.paper.proofs.Lists.{both, and, is-not, same-is, same-of}
+
+-- ---- a name among others
+
+pub among-here : (v w : List ℕ) (ns : List (List ℕ)) → same v w ≡ true → among (v ∷ ns) w ≡ true
+unfolding among
+among-here v w ns e = rw (e, among)
+
+pub among-on : (v w : List ℕ) (ns : List (List ℕ)) → same v w ≡ false → among (v ∷ ns) w ≡ among ns w
+unfolding among
+among-on v w ns e = rw (e, among)
+
+pub among-either : (ms ns : List (List ℕ)) (w : List ℕ) → among (ms ++ ns) w ≡ (among ms w || among ns w)
+unfolding among
+among-either [] ns w = refl
+among-either (m ∷ ms) ns w =
+    split (same m w) (λ e. rw (among-here m w (ms ++ ns) e, among-here m w ms e))
+    (λ e. rw (among-on m w (ms ++ ns) e, among-on m w ms e) (among-either ms ns w))
+
+-- ---- names that are all distinct
 
 -- two names are the same either way round
 same-turned : (v w : List ℕ) → same v w ≡ false → same w v ≡ false

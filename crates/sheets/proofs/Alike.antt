@@ -13,7 +13,7 @@ use Rattle.paper.specs.Tree.{Trait}
 use Rattle.paper.specs.Entries.{traitSize}
 use Rattle.paper.specs.ReadingValues.{valueOf}
 use Rattle.paper.specs.Reading.{Bounds, name, due, enters, Earlier, withTrait, fresh, trait, traitDue, traitTurn, traitsBehind}
-use Rattle.modes.proofs.Walk.{among-either}
+use Rattle.paper.proofs.Distinct.{among-either}
 
 -- two lists that have the same names
 abbrev pub Alike : List (List ℕ) → List (List ℕ) → Type 0

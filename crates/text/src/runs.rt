@@ -44,7 +44,6 @@ pub fn end(s: &[u8], at: usize, class: Class) -> usize
 {
     match class {
         Class::Tab => tab_end(s, at),
-        Class::White => white_end(s, at),
         Class::Text => text_end(s, at),
         _ => end_from(s, at, class),
     }
@@ -80,19 +79,12 @@ pub fn tab_end(s: &[u8], at: usize) -> usize
     i
 }
 
-// Where the white space that stands at `at` ends. Mostly that is a byte or two, so there are no blocks of it.
+// Where the white space that stands at `at` ends.
 pub fn white_end(s: &[u8], at: usize) -> usize
     requires { ⌜ at ≤ length (now s) ⌝ }
     ensures { λ r. ⌜ (r ≡ at + lengthIn (inClass Class.White) (drop at (now (s .entry)))) × (at ≤ r) × (r ≤ length (now (s .entry))) ⌝ }
 {
-    let mut i = at;
-    while i < s.len() {
-        if !classes::is_white(s[i]) {
-            return i;
-        }
-        i += 1;
-    }
-    i
+    end_from(s, at, Class::White)
 }
 
 // Where the text that stands at `at` ends: at a line end, or with the input.

@@ -1,4 +1,4 @@
--- Tabs, white space and text have a walk of their own. Assumes nothing.
+-- Tabs and text have a walk of their own. Assumes nothing.
 use borrow.Author.Needs.{needs}
 use Rattle.text.proofs.Stretch.{class-end}
 use Rattle.text.proofs.runs.end.Statement.{statement}
@@ -13,12 +13,6 @@ tab-end-requires c κs = search needs
 enum-told-2 : tie.Need-enum-told-2
 enum-told-2 c = search needs
 
-white-end-requires : tie.Need-white-end-requires
-white-end-requires c κs = search needs
-
-enum-told-3 : tie.Need-enum-told-3
-enum-told-3 c = search needs
-
 text-end-requires : tie.Need-text-end-requires
 text-end-requires c κs = search needs
 
@@ -29,13 +23,10 @@ returns : tie.Need-returns
 returns c = class-end _ _ _ _ _ (c .before .enum-told .given .1) (c .tab-end .ensures)
 
 returns-2 : tie.Need-returns-2
-returns-2 c = class-end _ _ _ _ _ (c .before .enum-told2 .given .1) (c .white-end .ensures)
+returns-2 c = class-end _ _ _ _ _ (c .before .enum-told2 .given .1) (c .text-end .ensures)
 
 returns-3 : tie.Need-returns-3
-returns-3 c = class-end _ _ _ _ _ (c .before .enum-told3 .given .1) (c .text-end .ensures)
-
-returns-4 : tie.Need-returns-4
-returns-4 c = search needs
+returns-3 c = search needs
 
 pub end-spec : {M : Type 1} → statement M
 end-spec =
@@ -44,11 +35,8 @@ end-spec =
     enum-told
     tab-end-requires
     enum-told-2
-    white-end-requires
-    enum-told-3
     text-end-requires
     end-from-requires
     returns
     returns-2
-    returns-3
-    returns-4)
+    returns-3)
