@@ -19,6 +19,8 @@ struct request {
     bool as_text;      /* -d */
     bool in_place;     /* -w */
     bool list;         /* -l */
+    bool is_new;       /* -n */
+    bool as_roll;      /* -f */
     char **files;      /* at least one; standard input where none was named */
     size_t count;
 };

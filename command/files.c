@@ -32,6 +32,12 @@ bool cannot(const char *action, const char *name)
     return false;
 }
 
+bool is_there(const char *file)
+{
+    struct stat found;
+    return stat(file, &found) == 0;
+}
+
 bool is_regular(const char *file)
 {
     struct stat found;

@@ -16,6 +16,9 @@ const char *called(const char *file);
 /* Says on standard error what could not be done with a file, and why: errno has the reason. Gives false. */
 bool cannot(const char *action, const char *name);
 
+/* Whether there is a file of this name. Where none is found errno has the reason. */
+bool is_there(const char *file);
+
 /* Whether a file that is there is a regular one, which can be replaced. Where it is not, it says so. */
 bool is_regular(const char *file);
 

@@ -14,14 +14,12 @@
 #include <sys/stat.h>
 #include <unistd.h>
 
-/* Opens the roll, and makes it where it is not there. */
+/* Opens the roll. It is never made here: what is made only to be locked would have to be taken away again, and another may by then
+ * have added to it. */
 static bool open_roll(struct lock *lock)
 {
-    lock->is_new = access(lock->file, F_OK) != 0;
-    if (!lock->is_new && !is_regular(lock->file))
-        return false;
-    lock->opened = open(lock->file, O_RDWR | O_CREAT | O_CLOEXEC, 0666);
-    return lock->opened >= 0 || cannot(lock->is_new ? "make" : "open for writing", lock->file);
+    lock->opened = open(lock->file, O_RDWR | O_CLOEXEC);
+    return lock->opened >= 0 || cannot("open for writing", lock->file);
 }
 
 static bool wait_for(const struct lock *lock)
@@ -61,9 +59,7 @@ bool lock_roll(const char *file, struct lock *lock)
     return false;
 }
 
-void unlock_roll(const struct lock *lock, bool is_added)
+void unlock_roll(const struct lock *lock)
 {
-    if (lock->is_new && !is_added)
-        unlink(lock->file);
     close(lock->opened);
 }

@@ -9,14 +9,12 @@
 struct lock {
     const char *file;
     int opened;
-    bool is_new; /* it was not there before, and is an empty file */
 };
 
-/* Locks a roll, and makes it where it is not there. While another has the lock it says so and waits. Where it fails it says so and
- * gives false. */
+/* Locks a roll that is there. While another has the lock it says so and waits. Where it fails it says so and gives false. */
 bool lock_roll(const char *file, struct lock *lock);
 
-/* Ends the lock. A new roll to which nothing was added is taken away again. */
-void unlock_roll(const struct lock *lock, bool is_added);
+/* Ends the lock. */
+void unlock_roll(const struct lock *lock);
 
 #endif

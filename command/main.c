@@ -24,7 +24,7 @@ static const char overview[] =
     "                                -w FILE..: in place; -l: names what changes\n"
     "  cdx roll -t TABLE [ROLL]      what the sheets of a roll are, and whether in order\n"
     "  cdx add -t TABLE ROLL [FILE..]\n"
-    "                                adds sheets to a roll, all of them or none\n"
+    "                                adds sheets, all or none; -n: to a new roll\n"
     "\n"
     "TABLE is a mode table or its text, lines like `children Lab` and `content Steps`.\n"
     "No FILE, or `-`, is standard input. Messages go to standard error.\n"
@@ -84,6 +84,10 @@ static int read_options(const struct command *command, int count, char **words, 
             request->in_place = true;
         else if (letter == 'l')
             request->list = true;
+        else if (letter == 'n')
+            request->is_new = true;
+        else if (letter == 'f')
+            request->as_roll = true;
         else
             return letter;
     return 0;
