@@ -5,28 +5,50 @@
 #include "cdx.h"
 #include "places.h"
 
+/* The compiler asks for a case for each number of cdx.h. */
 const char *refusal_in_words(uint32_t number)
 {
-    static const char *const words[] = {
-        [CDX_TABLE] = "the mode table is not in order",
-        [CDX_SHEET_TOO_LONG] = "the sheet has more than 16,384 bytes",
-        [CDX_BYTES] = "no sheet may have these bytes",
-        [CDX_NAME] = "this name breaks the name rule, or has more than 32 letters",
-        [CDX_UNLISTED] = "this name is not in the mode table",
-        [CDX_VALUE] = "no kind of value fits here",
-        [CDX_DUE] = "something else was due here",
-        [CDX_CLOSING_NAME] = "the open Concept has another name",
-        [CDX_CUT] = "the sheet ends before its root is closed",
-        [CDX_TOO_DEEP] = "more than 32 Concepts, or 8 brackets, in one another",
-        [CDX_NO_ENTRY_LEFT] = "more than 1,024 entries",
-        [CDX_NO_ROOM] = "the canonical form has more than 16,384 bytes",
-        [CDX_ROLL_TOO_LONG] = "the roll has more than 65,536 bytes",
-        [CDX_BEFORE_BOUNDARY] = "something stands before the first sheet",
-        [CDX_TOO_MANY_SHEETS] = "more than 256 sheets",
-        [CDX_ROOT_ANNOTATED] = "no sheet of a roll has an annotation before its root",
-        [CDX_TRAIT_TWICE] = "the Concept has a trait of this name already",
-    };
-    return words[number];
+    switch ((enum cdx_number)number) {
+    case CDX_OK:
+        return "it is in order";
+    case CDX_TABLE:
+        return "the mode table is not in order";
+    case CDX_SHEET_TOO_LONG:
+        return "the sheet has more than 16,384 bytes";
+    case CDX_BYTES:
+        return "no sheet may have these bytes";
+    case CDX_NAME:
+        return "this name breaks the name rule, or has more than 32 letters";
+    case CDX_UNLISTED:
+        return "this name is not in the mode table";
+    case CDX_VALUE:
+        return "no kind of value fits here";
+    case CDX_DUE:
+        return "something else was due here";
+    case CDX_CLOSING_NAME:
+        return "the open Concept has another name";
+    case CDX_CUT:
+        return "the sheet ends before its root is closed";
+    case CDX_TOO_DEEP:
+        return "more than 32 Concepts, or 8 brackets, in one another";
+    case CDX_NO_ENTRY_LEFT:
+        return "more than 1,024 entries";
+    case CDX_NO_ROOM:
+        return "the canonical form has more than 16,384 bytes";
+    case CDX_ROLL_TOO_LONG:
+        return "the roll has more than 65,536 bytes";
+    case CDX_BEFORE_BOUNDARY:
+        return "something stands before the first sheet";
+    case CDX_TOO_MANY_SHEETS:
+        return "more than 256 sheets";
+    case CDX_ROOT_ANNOTATED:
+        return "no sheet of a roll has an annotation before its root";
+    case CDX_VIEW:
+        return "this entry cannot be viewed";
+    case CDX_TRAIT_TWICE:
+        return "the Concept has a trait of this name already";
+    }
+    return "for a reason that this command does not know";
 }
 
 const char *kind_in_words(uint32_t kind)

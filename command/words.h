@@ -7,7 +7,7 @@
 #include <stdint.h>
 #include <stdio.h>
 
-/* What a refusal says. */
+/* What an answer's number says, be it one of cdx.h or not. */
 const char *refusal_in_words(uint32_t number);
 
 /* What an entry is. */
