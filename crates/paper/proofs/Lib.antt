@@ -40,6 +40,7 @@ pub mod RollStarred
 pub mod Beginning
 pub mod Rolls
 pub mod Boundaries
+pub mod BeforeSheets
 pub mod Laid
 pub mod Meant
 pub mod Again

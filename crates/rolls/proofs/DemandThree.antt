@@ -17,6 +17,7 @@ use Rattle.paper.specs.Roll.{Written, begun, grown, Hurt}
 use Rattle.paper.proofs.Told.{told-injective, told-apart}
 use Rattle.paper.proofs.Rolls.{records-many, listing, recordsAround}
 use Rattle.paper.proofs.Boundaries.{Still, Singles}
+use Rattle.paper.proofs.BeforeSheets.{OnlyBlank}
 use Rattle.paper.proofs.DemandThree.{each-alone, hurt-stays-home, cut-stays-home, cut-is-refused}
 use Rattle.sheets.specs.Promises.{ReadsSheet}
 use Rattle.rolls.specs.Promises.{ReadsRoll, AddsSheet}
@@ -44,13 +45,14 @@ pub as-its-bytes-alone : (table p : List ℕ) (lent at : ℕ) (r : Answer) (cell
     → recordOf table lent at p ≡ record { start = at; end = at + length p; answer = told r }
 as-its-bytes-alone table p lent at r cells e = ap (λ (x : Reading). record { start = at; end = at + length p; answer = x .answer }) (sym e)
 
--- A roll that `read` accepts is what stands before its first boundary, which is blank, and its sheets, each of which begins at a boundary and holds no other; there is
--- a record for each, in order.
+-- A roll that `read` accepts is blank lines, in which no sheet begins, and its sheets, each of which begins at a boundary and holds no other; there is a record for
+-- each, in order.
 pub record ReadAlone (table roll : List ℕ) (records lent : ℕ) (r : Answer) (after cells : List ℕ) : Type 0 where
   pub lead : List ℕ
   pub sheets : List (List ℕ)
   pub all : lead ++ together sheets ≡ roll
-  pub blank : Still true lead
+  pub blank : OnlyBlank lead
+  pub still : Still true lead
   pub begin : Singles sheets
   pub many : length sheets ≤ rollRoom records
   pub lists : ListsAll roll (recordsOf table lent (length lead) sheets) records lent r after cells
@@ -64,6 +66,7 @@ read-each-alone table roll records lent place many after cells e =
       sheets = a .sheets;
       all = a .all;
       blank = a .blank;
+      still = a .still;
       begin = a .begin;
       many = a .many;
       lists = lists (recordsOf table lent (length (a .lead)) (a .sheets)) e (a .are);
