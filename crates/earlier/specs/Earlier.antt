@@ -1,95 +1,81 @@
--- The names of a marker's traits so far, as the entries that stand for them have them, and an index that finds one.
+-- The names of a marker's traits so far, by where they start in the sheet, and an index that finds one.
 -- Document 02, Six: no two traits of one Concept have the same name.
-use Prim.Native.Nat.{ℕ, zero, suc, _+_, _-_, _*_, _/_, _%_, _≤_, _<_}
+use Prim.Native.Nat.{ℕ, suc, _+_, _-_, _*_, _/_, _≤_, _<_}
 use mathlib.Core.Path.{_≡_}
-use mathlib.Core.Bool.{Bool, true, false, _&&_}
+use mathlib.Core.Bool.{true, false}
 use mathlib.Core.List.{List, [], _∷_}
-use lib.ListN.{length, getD, set}
-use lib.Dec.{eqb, ltb}
+use lib.ListN.{length, drop, getD}
+use lib.Dec.{leb, ltb}
 use Rattle.paper.specs.Found.{pick}
-use Rattle.paper.specs.Limits.{entryLimit}
-use Rattle.paper.specs.Entries.{Entry}
-use Rattle.entries.specs.Laid.{entryAt}
-use Rattle.lines.specs.Parts.{part}
+use Rattle.paper.specs.Bytes.{same, all, isNameByte}
+use Rattle.paper.specs.Names.{run, among}
+use Rattle.names.specs.Runs.{keyLimit, keyOf}
+use Rattle.earlier.specs.declared.Sought.{Sought}
+use Rattle.earlier.specs.declared.Sought.the-variants.{Again, New}
 
--- so many traits of a marker are compared one by one
-abbrev pub fewTraits : ℕ
-fewTraits = 4
+-- the name that stands at a place
+abbrev pub nameAt : List ℕ → ℕ → List ℕ
+nameAt s place = run (drop place s)
 
--- ---- names by their entries
+-- ---- the way of a search through the cells of an index
 
--- the name of an entry; it is in the sheet and has a letter at least
-abbrev pub nameOf : List ℕ → Entry → List ℕ
-nameOf s e = part s (e .nameStart) (e .nameEnd)
+-- the cell where a search for a name begins, of so many
+abbrev pub home : ℕ → List ℕ → ℕ
+home size w = keyOf w * size / keyLimit
 
-abbrev pub Stands : List ℕ → Entry → Type 0
-Stands s e = (e .nameStart < e .nameEnd) × (e .nameEnd ≤ length s)
+-- the cell at a step, where the first cell follows the last
+abbrev pub around : ℕ → ℕ → ℕ
+around size i = pick (ltb i size) i (i - size)
 
--- whether the entry of a number is a trait's
-abbrev pub isTrait : List ℕ → ℕ → Bool
-isTrait cells n = eqb (entryAt cells n .kind) 2
+-- the start that the cell at a step has
+abbrev pub startAt : List ℕ → ℕ → ℕ
+startAt x i = getD x (around (length x) i) 0
 
--- the names of all traits in the entries from number `first` up to `next` stand so
-abbrev pub AllStand : List ℕ → List ℕ → ℕ → ℕ → Type 0
-AllStand s cells first next = (n : ℕ) → first ≤ n → n < next → isTrait cells n ≡ true → Stands s (entryAt cells n)
+-- a step on the way of a name: every cell before it is taken by the marker whose traits stand from `first` on
+pub record OnWay (first : ℕ) (x w : List ℕ) (i : ℕ) : Type 0 where
+  pub from : home (length x) w ≤ i
+  pub once : i < home (length x) w + length x
+  pub taken : (j : ℕ) → home (length x) w ≤ j → j < i → first ≤ startAt x j
 
--- the names of the traits in so many entries from number `first` on, the latest first
-unfoldable pub namesIn : List ℕ → List ℕ → ℕ → ℕ → List (List ℕ)
-namesIn s cells first zero = []
-namesIn s cells first (suc k) = pick (isTrait cells (first + k)) (nameOf s (entryAt cells (first + k)) ∷ namesIn s cells first k) (namesIn s cells first k)
+-- a trait with this name starts where a taken cell on its way says
+pub record Held (s : List ℕ) (first : ℕ) (x w : List ℕ) : Type 0 where
+  pub step : ℕ
+  pub way : OnWay first x w step
+  pub here : first ≤ startAt x step
+  pub named : nameAt s (startAt x step) ≡ w
 
--- ---- an index: a cell for each key, then one for each number
+-- a cell is on the way of a name, and no trait with this name starts where a cell before it says
+pub record Reached (s : List ℕ) (first : ℕ) (x w : List ℕ) (cell : ℕ) : Type 0 where
+  pub step : ℕ
+  pub way : OnWay first x w step
+  pub is : cell ≡ around (length x) step
+  pub others : (j : ℕ) → home (length x) w ≤ j → j < step → same (nameAt s (startAt x j)) w ≡ false
 
--- so many keys there are, and so many cells
-abbrev pub keyCount : ℕ
-keyCount = 512
+-- a name may be sought: it is of letters and digits, this is its key, at every start there is room for it in the sheet, and a cell is free
+pub record Ready (s : List ℕ) (first : ℕ) (x : List ℕ) (key : ℕ) (w : List ℕ) : Type 0 where
+  pub keyed : key ≡ keyOf w
+  pub some : 0 < length w
+  pub letters : all isNameByte w ≡ true
+  pub inside : (c : ℕ) → getD x c 0 + length w < length s
+  pub short : length x ≤ keyLimit
+  pub cell : ℕ
+  pub within : cell < length x
+  pub free : getD x cell 0 < first
 
-abbrev pub cellCount : ℕ
-cellCount = keyCount + entryLimit + 1
+-- what a search answers
+abbrev pub Seeks : List ℕ → ℕ → List ℕ → List ℕ → Sought → Type 0
+Seeks s first x w Again = Held s first x w
+Seeks s first x w (New cell) = Reached s first x w cell × (getD x cell 0 < first)
 
--- the key of a name: its length, and its first, middle and last three letters
-unfoldable pub keyOf : List ℕ → ℕ
-keyOf w =
-    pick (ltb (length w) 3) (getD w 0 0 % keyCount)
-    ((getD w (length w - 1) 0 + 10 * getD w (length w - 2) 0 + 100 * (getD w (length w - 3) 0 + getD w (length w / 2) 0) + getD w 0 0 + length w) % keyCount)
+-- ---- what is known of the names so far
 
--- the numbers of the traits of a key in so many entries from number `first` on, the latest first
-unfoldable pub withKey : List ℕ → List ℕ → ℕ → ℕ → ℕ → List ℕ
-withKey s cells key first zero = []
-withKey s cells key first (suc k) =
-    pick (isTrait cells (first + k) && eqb (keyOf (nameOf s (entryAt cells (first + k)))) key) ((first + k) ∷ withKey s cells key first k)
-    (withKey s cells key first k)
+-- how many cells have starts of the marker whose traits stand from `first` on
+unfoldable pub takenIn : ℕ → List ℕ → ℕ
+takenIn first [] = 0
+takenIn first (p ∷ x) = pick (leb first p) (suc (takenIn first x)) (takenIn first x)
 
--- a cell of the index has number n; following the cells from there on, these numbers are met, each below the one before it, and then 0
-abbrev pub Chained : List ℕ → ℕ → ℕ → List ℕ → Type 0
-Chained x below n [] = n ≡ 0
-Chained x below n (m ∷ ms) = (n ≡ m) × (0 < m) × (m < below) × Chained x m (getD x (keyCount + m) 0) ms
-
--- the index lists the traits in the entries from number `first` up to `next`
-pub record Lists (s cells : List ℕ) (first next : ℕ) (x : List ℕ) : Type 0 where
-  pub long : length x ≡ cellCount
-  pub chains : (k : ℕ) → k < keyCount → Chained x next (getD x k 0) (withKey s cells k first (next - first))
-
--- it lists nothing yet
-pub record Empty (x : List ℕ) : Type 0 where
-  pub long : length x ≡ cellCount
-  pub none : (k : ℕ) → k < keyCount → getD x k 0 ≡ 0
-
--- the cells with one trait more, of a key; its entry has number n
-abbrev pub added : List ℕ → ℕ → ℕ → List ℕ
-added x n key = set (set x (keyCount + n) (getD x key 0)) key n
-
--- ---- what is known of the traits so far, and of the next one
-
--- they stand in the entries from number `first` up to `next`, behind that of their Concept; an index that has cells lists them
-pub record Knows (s cells : List ℕ) (first next : ℕ) (x : List ℕ) : Type 0 where
-  pub stand : AllStand s cells first next
-  pub ahead : first ≤ next
-  pub some : 0 < first
-  pub few : next ≤ entryLimit
-  pub lists : 0 < length x → Lists s cells first next x
-
--- index x becomes y: one that has cells then lists a name that stands nowhere earlier, for entry number n
-pub record Listed (x : List ℕ) (n : ℕ) (w : List ℕ) (earlier : Bool) (y : List ℕ) : Type 0 where
-  pub none : length x ≡ 0 → y ≡ x
-  pub new : 0 < length x → earlier ≡ false → y ≡ added x n (keyOf w)
+-- these names are listed, and no others
+pub record Lists (s : List ℕ) (first : ℕ) (x : List ℕ) (names : List (List ℕ)) : Type 0 where
+  pub few : takenIn first x ≤ length names
+  pub only : (c : ℕ) → c < length x → first ≤ getD x c 0 → among names (nameAt s (getD x c 0)) ≡ true
+  pub each : (w : List ℕ) → among names w ≡ true → Held s first x w

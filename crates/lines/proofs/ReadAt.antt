@@ -1,14 +1,17 @@
 -- A byte that is due, fixed bytes and a name, read at a place; and the part of a list that a name is. Over plain lists. Assumes nothing.
 use Prim.Native.Nat.{ℕ, _+_, _-_, _≤_, _<_}
 use mathlib.Core.Path.{_≡_, refl, sym, ap, _∙_}
-use mathlib.Core.Bool.{Bool}
+use mathlib.Core.Bool.{Bool, true, false}
 use mathlib.Core.List.{List, [], _∷_, _++_}
 use native.Mathlib.Omega.{arith}
 use lib.ListN.{length, getD, drop, length-drop, length-append, drop-of-length-le}
 use lib.Seq.{take-append-seam}
+use lib.Dec.{leb}
 use Rattle.paper.specs.declared.Refusal.{Refusal}
-use Rattle.paper.specs.Found.{Found, found, andThen}
-use Rattle.paper.specs.Reading.{due, name}
+use Rattle.paper.specs.Found.{Found, found, fault, andThen}
+use Rattle.paper.specs.Names.{run, pastRun}
+use Rattle.paper.specs.Reading.{due, nameOf, name}
+use Rattle.paper.proofs.Tests.{split}
 use Rattle.paper.proofs.Finds.{Reads, whole, reads-as, reads-then}
 use Rattle.paper.proofs.Lines.{due-reads, ReadName, name-reads}
 use Rattle.text.proofs.Places.{here}
@@ -87,27 +90,49 @@ module _ (fixed s : List ℕ) (at i place : ℕ) (so-far : DueFrom fixed s at i 
         let e : dueAll (drop i fixed) (drop place s) ≡ dueAll (drop (i + 1) fixed) (drop end s) = one-more ∙ rw (d .finds) in
         record { inside = d .inside; same = ap (λ (x : Found (List ℕ)). passed s x) (sym e) ∙ so-far .same }
 
+-- a name that is found is the run in front, and something stands behind it
+name-run : (rule : List ℕ → Bool) (s w left : List ℕ) → name rule s ≡ found w left → (w ≡ run s) × (0 < length left)
+unfolding nameOf
+name-run rule s w left = go (pastRun s)
+  where
+    go : (r : List ℕ) → nameOf rule s r ≡ found w left → (w ≡ run s) × (0 < length left)
+    go [] e = let z : _≡_ {A = ℕ} 0 1 = cc in absurd (omega arith)
+    go (b ∷ l) e =
+        split (leb 1 (length (run s)))
+        (λ f. split (rule (run s))
+        (λ g.
+        let h : found (run s) (b ∷ l) ≡ found w left = rw (f, nameOf, g) at e in
+        let behind : left ≡ b ∷ l = cc in
+        (cc, omega (arith, ap length behind)))
+        (λ g. let h : fault 4 s ≡ found w left = rw (f, nameOf, g) at e in let z : _≡_ {A = ℕ} 0 1 = cc in absurd (omega arith)))
+        (λ f. let h : fault 7 s ≡ found w left = rw (f, nameOf) at e in let z : _≡_ {A = ℕ} 0 1 = cc in absurd (omega arith))
+
 -- a name that is read from a place to an end
 pub record NameAt (rule : List ℕ → Bool) (s : List ℕ) (at end : ℕ) : Type 0 where
   pub it : List ℕ
+  pub is-run : it ≡ run (drop at s)
   pub finds : name rule (drop at s) ≡ found it (drop end s)
   pub covers : drop at s ≡ it ++ drop end s
   pub long : length it ≡ end - at
   pub ahead : at ≤ end
   pub inside : end ≤ length s
+  pub goes-on : end < length s
 
 pub name-at : (rule : List ℕ → Bool) (s : List ℕ) (at : ℕ) (r : Part) (end made mine : ℕ) → at ≤ length s → seen r ≡ passed s (name rule (drop at s))
     → r ≡ Read end made mine → NameAt rule s at end
 name-at rule s at r end made mine h e q =
     let f =
     found-at (λ w. 0) (λ w. 0) s r (λ w left. ReadName rule (drop at s) w left) at (name rule (drop at s)) end made mine e (name-reads rule (drop at s)) h q in
+    let n = name-run rule (drop at s) (f .it) (drop end s) (f .finds) in
     record {
       it = f .it;
+      is-run = n .0;
       finds = f .finds;
       covers = f .holds .covers;
       long = omega (arith, ap length (f .holds .covers), length-append (f .it) (drop end s), length-drop at s, length-drop end s, f .ahead, f .inside);
       ahead = f .ahead;
       inside = f .inside;
+      goes-on = omega (arith, n .1, length-drop end s);
     }
 
 -- bytes that stand at a place are the part from there to their end

@@ -1,5 +1,6 @@
 // What reading a part of a sheet answers, and the parts that stand everywhere: a byte that is due, a name, a line end.
 // Document 01, "The grammar", Names and Lines; refusals 4, 7 and 9.
+use names::Run;
 use names::run_at;
 use paper::Refusal;
 use text::classes::is_lower;
@@ -12,6 +13,7 @@ ghost use lib.ListN.{length, drop};
 ghost use Prim.Native.Nat.{_≤_};
 ghost use Rattle.paper.specs.declared.Refusal.{Refusal};
 ghost use Rattle.paper.specs.Reading.{due, name, lineEnd, lineRest};
+ghost use Rattle.names.specs.Runs.{Measures};
 ghost use mathlib.Core.List.{[]};
 ghost use Rattle.lines.specs.Parts.{seen, passed, dueAll, ruleOf, ruleBy};
 
@@ -89,7 +91,14 @@ pub fn name_end(s: &[u8], at: usize, whose: Whose) -> Part
     requires { ⌜ at ≤ length (now s) ⌝ }
     ensures { λ r. ⌜ seen r ≡ passed (now (s .entry)) (name (ruleOf whose) (drop at (now (s .entry)))) ⌝ }
 {
-    let run = run_at(s, at);
+    judge_name(s, at, run_at(s, at), whose)
+}
+
+// The same where the run at `at` is measured already.
+pub fn judge_name(s: &[u8], at: usize, run: Run, whose: Whose) -> Part
+    requires { ⌜ (at ≤ length (now s)) × Measures (now s) at run ⌝ }
+    ensures { λ r. ⌜ seen r ≡ passed (now (s .entry)) (name (ruleOf whose) (drop at (now (s .entry)))) ⌝ }
+{
     let end = run.end;
     if end == s.len() {
         return cut(s);

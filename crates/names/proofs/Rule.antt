@@ -1,9 +1,10 @@
 -- The name rule: a turn of the loop that measures a run and counts its capitals, its ends, and the whole rule from how a name starts.
 -- Over plain lists. Assumes nothing.
-use Prim.Native.Nat.{ℕ, suc, _+_, _-_, _≤_, _<_}
+use Prim.Native.Nat.{ℕ, suc, _+_, _-_, _*_, _%_, _≤_, _<_}
 use mathlib.Core.Path.{_≡_, refl, sym, ap, _∙_}
 use mathlib.Core.List.{List, [], _∷_}
 use mathlib.Core.Bool.{Bool, true, false, _&&_, and-true, and-false}
+use native.Mathlib.Nat.{mod-lt}
 use native.Mathlib.Omega.{arith}
 use lib.ListN.{length, getD, drop, length-drop, drop-of-length-le}
 use lib.Seq.{length-take-le, take-all}
@@ -15,7 +16,7 @@ use Rattle.paper.proofs.Tests.{split, above, in-range}
 use Rattle.text.proofs.Places.{here}
 use Rattle.text.proofs.Stretch.{Stretch, front-at, goes-on, stops, cut-off}
 use Rattle.names.specs.declared.Run.{Run}
-use Rattle.names.specs.Runs.{Measures}
+use Rattle.names.specs.Runs.{Measures, keyLimit, keyFrom, keyOf}
 
 -- ---- a run, byte by byte
 
@@ -60,48 +61,71 @@ module _ (s : List ℕ) (i : ℕ) (h : i < length s) where
 
 -- ---- the loop: the run from i on, with the capitals directly before it, decides as the run from a place on
 
-pub record Judged (s : List ℕ) (at capitals : ℕ) (few : Bool) (i : ℕ) : Type 0 where
+pub record Judged (s : List ℕ) (at capitals : ℕ) (few : Bool) (key i : ℕ) : Type 0 where
   pub ahead : at ≤ i
   pub inside : i ≤ length s
   pub ends : i + lengthIn isNameByte (drop i s) ≡ at + lengthIn isNameByte (drop at s)
   pub row : capitals ≤ 2
   pub decides : (few && fewCapitals capitals (run (drop i s))) ≡ fewCapitals 0 (run (drop at s))
+  pub small : key < keyLimit
+  pub keyed : keyFrom key (run (drop i s)) ≡ keyOf (run (drop at s))
 
-pub judged-begin : (s : List ℕ) (at : ℕ) → at ≤ length s → Judged s at 0 true at
-judged-begin s at h = record { ahead = omega arith; inside = h; ends = refl; row = omega arith; decides = refl }
+pub judged-begin : (s : List ℕ) (at : ℕ) → at ≤ length s → Judged s at 0 true 0 at
+judged-begin s at h = record { ahead = omega arith; inside = h; ends = refl; row = omega arith; decides = refl; small = omega arith; keyed = refl }
 
-module _ {s : List ℕ} {at capitals : ℕ} {few : Bool} {i : ℕ} (so-far : Judged s at capitals few i) where
+module _ {s : List ℕ} {at capitals : ℕ} {few : Bool} {key i : ℕ} (so-far : Judged s at capitals few key i) where
+  -- the key with one letter more
+  abbrev next : ℕ
+  next = (key + getD s i 0) * 40503 % keyLimit
+
+  next-small : next < keyLimit
+  next-small = mod-lt _ (omega arith)
+
   module _ (h : i < length s) where
+    next-keyed : isNameByte (getD s i 0) ≡ true → keyFrom next (run (drop (i + 1) s)) ≡ keyOf (run (drop at s))
+    unfolding keyFrom
+    next-keyed e = (rw (run-on s i h e)) ∙ so-far .keyed
+
     module _ (u : isUpper (getD s i 0) ≡ true) where
       further : (i + 1) + lengthIn isNameByte (drop (i + 1) s) ≡ at + lengthIn isNameByte (drop at s)
       further = sym (goes-on isNameByte s i h (upper-name _ u)) ∙ so-far .ends
 
-      pub judged-capital : capitals < 2 → Judged s at (capitals + 1) few (i + 1)
+      pub judged-capital : capitals < 2 → Judged s at (capitals + 1) few next (i + 1)
       judged-capital l = record {
         ahead = omega (arith, so-far .ahead);
         inside = omega arith;
         ends = further;
         row = omega arith;
         decides = ap (λ (k : Bool). few && k) (sym (one-capital s i h capitals u l)) ∙ so-far .decides;
+        small = next-small;
+        keyed = next-keyed (upper-name _ u);
       }
 
-      pub judged-third : 2 ≤ capitals → Judged s at capitals false (i + 1)
+      pub judged-third : 2 ≤ capitals → Judged s at capitals false next (i + 1)
       judged-third l = record {
         ahead = omega (arith, so-far .ahead);
         inside = omega arith;
         ends = further;
         row = so-far .row;
         decides = sym (and-false few) ∙ ap (λ (k : Bool). few && k) (sym (third-capital s i h capitals u l)) ∙ so-far .decides;
+        small = next-small;
+        keyed = next-keyed (upper-name _ u);
       }
 
-    pub judged-other : isUpper (getD s i 0) ≡ false → isNameByte (getD s i 0) ≡ true → Judged s at 0 few (i + 1)
+    pub judged-other : isUpper (getD s i 0) ≡ false → isNameByte (getD s i 0) ≡ true → Judged s at 0 few next (i + 1)
     judged-other u e = record {
       ahead = omega (arith, so-far .ahead);
       inside = omega arith;
       ends = sym (goes-on isNameByte s i h e) ∙ so-far .ends;
       row = omega arith;
       decides = ap (λ (k : Bool). few && k) (sym (no-capital s i h capitals u e)) ∙ so-far .decides;
+      small = next-small;
+      keyed = next-keyed e;
     }
+
+  -- what is answered where the run ends
+  abbrev Answered : Run → Type 0
+  Answered r = (r .end ≡ i) × (r .keeps ≡ (few && leb (i - at) nameLimit)) × (r .key ≡ key)
 
   -- where no name byte is left in front, the run ends
   module _ (end : i + lengthIn isNameByte (drop i s) ≡ i) (none : run (drop i s) ≡ []) where
@@ -118,16 +142,21 @@ module _ {s : List ℕ} {at capitals : ℕ} {few : Bool} {i : ℕ} (so-far : Jud
     decided : few ≡ fewCapitals 0 (run (drop at s))
     decided = sym (and-true few) ∙ ap (λ (k : Bool). few && k) (sym over) ∙ so-far .decides
 
-    measured : (r : Run) → (r .end ≡ i) × (r .keeps ≡ (few && leb (i - at) nameLimit)) → Measures s at r
+    no-more : key ≡ keyFrom key (run (drop i s))
+    unfolding keyFrom
+    no-more = rw none
+
+    measured : (r : Run) → Answered r → Measures s at r
     measured r e = record {
       ends = rw (e .0) stretch;
       judged = e .1 ∙ ap (λ (k : Bool). k && leb (i - at) nameLimit) decided ∙ ap (λ (k : ℕ). fewCapitals 0 (run (drop at s)) && leb k nameLimit) (sym long);
+      keyed = e .2 ∙ no-more ∙ so-far .keyed;
     }
 
-  pub measured-here : i < length s → isNameByte (getD s i 0) ≡ false → (r : Run) → (r .end ≡ i) × (r .keeps ≡ (few && leb (i - at) nameLimit)) → Measures s at r
+  pub measured-here : i < length s → isNameByte (getD s i 0) ≡ false → (r : Run) → Answered r → Measures s at r
   measured-here h e = measured (stops isNameByte s i h e) (run-over s i h e)
 
-  pub measured-cut : length s ≤ i → (r : Run) → (r .end ≡ i) × (r .keeps ≡ (few && leb (i - at) nameLimit)) → Measures s at r
+  pub measured-cut : length s ≤ i → (r : Run) → Answered r → Measures s at r
   unfolding lengthIn
   measured-cut h = measured (cut-off isNameByte s i h) (ap run (drop-of-length-le s h))
 

@@ -15,10 +15,19 @@ pub const LIMIT: usize = 32;
 // So many upper case letters may stand in a row.
 const CAPITALS: usize = 2;
 
-// A run of letters and digits: where it ends, and whether it keeps the rule of names but for how it starts.
+// Keys are below this number.
+pub const KEYS: usize = 65536;
+
+// By this number a key is spread with each letter. It is KEYS by the golden ratio, and odd, so that names which differ in one letter only have
+// keys that lie far apart.
+const SPREAD: usize = 40503;
+
+// A run of letters and digits: where it ends, whether it keeps the rule of names but for how it starts, and a key of all its letters, by
+// which it is found among others.
 pub struct Run {
     pub end: usize,
     pub keeps: bool,
+    pub key: usize,
 }
 
 // Whether the name keeps to the rule of a Concept's name.
@@ -32,7 +41,7 @@ pub fn is_concept_name(name: &[u8]) -> bool
     classes::is_upper(name[0]) && run.keeps
 }
 
-// The run of letters and digits that stands at `at`, measured and judged in one pass.
+// The run of letters and digits that stands at `at`, measured, judged and given its key in one pass.
 // Lower case comes first: most bytes of a name are lower case letters.
 pub fn run_at(s: &[u8], at: usize) -> Run
     requires { ⌜ at ≤ length (now s) ⌝ }
@@ -40,6 +49,7 @@ pub fn run_at(s: &[u8], at: usize) -> Run
 {
     let mut capitals = 0;
     let mut few = true;
+    let mut key = 0;
     let mut i = at;
     while i < s.len() {
         let b = s[i];
@@ -54,20 +64,22 @@ pub fn run_at(s: &[u8], at: usize) -> Run
         } else if classes::is_digit(b) {
             capitals = 0;
         } else {
-            return judged(at, i, few);
+            return judged(at, i, few, key);
         }
+        key = (key + b as usize) * SPREAD % KEYS;
         i += 1;
     }
-    judged(at, i, few)
+    judged(at, i, few, key)
 }
 
-// The run from `at` to `end`, in which few capitals stand in a row or not, by its length.
-fn judged(at: usize, end: usize, few: bool) -> Run
+// The run from `at` to `end` with this key, in which few capitals stand in a row or not, by its length.
+fn judged(at: usize, end: usize, few: bool, key: usize) -> Run
     requires { ⌜ at ≤ end ⌝ }
-    ensures { λ r. ⌜ (r .end ≡ end) × (r .keeps ≡ (few && leb (end - at) nameLimit)) ⌝ }
+    ensures { λ r. ⌜ (r .end ≡ end) × (r .keeps ≡ (few && leb (end - at) nameLimit)) × (r .key ≡ key) ⌝ }
 {
     Run {
         end,
         keeps: few && end - at <= LIMIT,
+        key,
     }
 }

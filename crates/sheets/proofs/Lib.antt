@@ -1,9 +1,9 @@
 -- Laws that the proofs of this crate use, over plain lists and numbers.
 pub mod Slots
 pub mod Lengths
-pub mod Alike
-pub mod TraitNames
+pub mod NameIndex
 pub mod TraitLaws
+pub mod TraitNames
 pub mod TraitRuns
 pub mod Marked
 pub mod OpeningLaws

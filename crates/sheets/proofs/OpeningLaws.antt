@@ -39,10 +39,11 @@ use Rattle.lines.specs.declared.marks.Ending.the-variants.{Block, Closed}
 use Rattle.lines.proofs.Crossing.{FoundAt, found-at, refused-then, makes-refused, makes-passed, makes-read}
 use Rattle.lines.proofs.Closing.{part-length}
 use Rattle.lines.proofs.ReadAt.{DueAt, part-is}
-use Rattle.sheets.specs.Traits.{traitsOf}
+use Rattle.sheets.specs.Traits.{traitsOf, NamesBefore, NamesOnward}
 use Rattle.sheets.specs.Opening.{heldOf, blockForm, formIn, partOf, madeBy, traitsIn, enteredBy, Opens, ReadsOpening, ReadsNamed, ReadsMarker}
 use Rattle.sheets.specs.declared.opening.Opening.{Opening}
 use Rattle.sheets.specs.declared.opening.Opening.the-variants.{Opened, Refused}
+use Rattle.sheets.proofs.NameIndex.{names-on}
 
 -- ---- an answer: refused, or read
 
@@ -106,12 +107,12 @@ end-passed s a x e = told a ∙ ap unclosed e ∙ found-as x
 
 -- the ending that is told is the one that is found
 end-found : (s : List ℕ) (mark : ℕ) → mark ≤ length s → (a : Ending) → ended a ≡ endedOf s (ending (drop mark s)) → (e : Ends) (end : ℕ) → a ≡ endAs e end
-    → (ending (drop mark s) ≡ found e (drop end s)) × (end ≤ length s)
+    → (ending (drop mark s) ≡ found e (drop end s)) × (end ≤ length s) × (mark ≤ end)
 end-found s mark h a says e end q =
     let f =
     found-at (λ e. 0) (λ e. 0) s (endPart a) _ mark (ending (drop mark s)) end 0 0 (end-passed s a (ending (drop mark s)) says) (ending-reads (drop mark s)) h
     (ap endPart q ∙ read e) in
-    (f .finds ∙ ap (λ (i : Ends). found i (drop end s)) (same e (f .it) (drop end s) (sym (ap ended q) ∙ says ∙ ap (endedOf s) (f .finds))), f .inside)
+    (f .finds ∙ ap (λ (i : Ends). found i (drop end s)) (same e (f .it) (drop end s) (sym (ap ended q) ∙ says ∙ ap (endedOf s) (f .finds))), f .inside, f .ahead)
   where
     read : (e : Ends) → endPart (endAs e end) ≡ Read end 0 0
     read block = refl
@@ -231,6 +232,14 @@ module _ {s : List ℕ} {start to : ℕ} {cells : List ℕ} {slot : Slot} {after
       opens-read _ _ _ _ _ _ _ r after (record { marker = known .it; ends = e }) kind to last made own inside q (at .1)
       (known .finds ∙ ap (markedBy (known .it)) (at .0))
       (sym (known .many)) (sym (known .owned)) (known .laid) (u, known .wide, refl)
+
+  -- an index of names where the traits end lies before the marker's end
+  pub marker-names : (e : Ends) {last : ℕ} → a ≡ endAs e last → {end : ℕ} {x : List ℕ} → NamesBefore s (end + 1) x → end ≤ mark
+      → {t : Part} → t ≡ Read last made own → NamesOnward s t x
+  marker-names e {last} g lies h q stop more mine p =
+      let at = end-found s mark (known .inside) a says e last g in
+      let same : last ≡ stop = cc in
+      names-on lies (omega (arith, at .2))
 
 -- ---- a name that is judged by nesting, table and room
 

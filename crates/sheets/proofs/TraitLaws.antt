@@ -1,5 +1,5 @@
--- One trait: where the entries of a value's items start, a law for each way out of `enter_trait` and `read_trait` (src/traits.rt), and what is known
--- of the names behind one. Over plain lists. Assumes nothing.
+-- One trait: where the entries of a value's items start, and a law for each way out of `enter_trait` and `read_trait` (src/traits.rt).
+-- Over plain lists. Assumes nothing.
 use Prim.Native.Nat.{ℕ, zero, suc, _+_, _-_, _≤_, _<_}
 use mathlib.Core.Path.{_≡_, refl, sym, ap, subst, _∙_}
 use mathlib.Core.Bool.{Bool, true, false}
@@ -19,16 +19,16 @@ use Rattle.paper.specs.Tree.{Trait}
 use Rattle.paper.specs.ReadingValues.{valueOf}
 use Rattle.paper.specs.Entries.{Entry, labelWidth, valueWidth, itemsOf, itemSize, itemEntry, itemEntries, moreEntries, traitSize}
 use Rattle.paper.specs.Reading.{enters, name, due, Earlier, fresh, trait, bounds}
-use Rattle.paper.specs.Bytes.{byte, isUpper, isLower, isDigit, isLetter, isNameByte}
-use Rattle.paper.specs.Names.{nameRule, isName, isTraitName, among}
+use Rattle.paper.specs.Bytes.{byte, all, isNameByte}
+use Rattle.paper.specs.Names.{isTraitName, among}
 use Rattle.paper.proofs.Tests.{upTo}
 use Rattle.paper.proofs.Sizes.{item-size}
 use Rattle.paper.proofs.Labels.{label-append}
 use Rattle.paper.proofs.ReadValues.{ReadValue, value-length, value-reads}
 use Rattle.paper.proofs.Finds.{Reads}
-use Rattle.paper.proofs.Lists.{both}
-use Rattle.paper.proofs.Lines.{rule-name, ReadName, name-reads, name-complete}
-use Rattle.paper.proofs.Markers.{fresh-complete, ReadTrait, trait-reads, enters-complete}
+use Rattle.paper.proofs.Lists.{front-all}
+use Rattle.paper.proofs.Lines.{ReadName, name-reads}
+use Rattle.paper.proofs.Markers.{fresh-complete, enters-complete}
 use Rattle.text.proofs.Places.{place-back}
 use Rattle.entries.specs.Laid.{lay, slotUnder, Fits}
 use Rattle.entries.specs.declared.Slot.{Slot}
@@ -44,11 +44,10 @@ use Rattle.lines.specs.Parts.{Seen, seen, passed, In, part}
 use Rattle.lines.specs.declared.part.Part.{Part}
 use Rattle.lines.specs.declared.part.Part.the-variants.{Read, Refused}
 use Rattle.lines.proofs.Closing.{part-length}
-use Rattle.lines.proofs.Crossing.{found-at, makes-refused, makes-passed, makes-read}
+use Rattle.lines.proofs.Crossing.{makes-refused, makes-passed, makes-read}
 use Rattle.lines.proofs.ReadAt.{DueAt, NameAt, part-is}
-use Rattle.earlier.specs.Earlier.{Listed}
-use Rattle.sheets.specs.Traits.{firstOf, earlierIn, Behind, valueIn, MakesTrait, MakesValued, MakesNamed, GoesOn}
-use Rattle.sheets.proofs.TraitNames.{knows-known}
+use Rattle.earlier.specs.Earlier.{nameAt}
+use Rattle.sheets.specs.Traits.{behindNames, valueIn, MakesTrait, MakesValued}
 
 -- ---- where the entries of a value's items start
 
@@ -257,37 +256,24 @@ module _ {s : List ℕ} {from to : ℕ} (place : In s (to + 1)) (between : from 
 
 -- ---- a trait whose name stands at a place: the name, the "=" behind it, and what is entered
 
--- no name has a "="
-no-name-byte : isNameByte (byte "=") ≡ false
-unfolding isNameByte isLetter isUpper isLower isDigit
-no-name-byte = refl
-
--- a name that is read has a letter, and is the part of the sheet from its place to its end
+-- a name that is read is the run that stands there, has letters and digits, one at least, and is the part of the sheet from its place to its end
 module _ {s : List ℕ} {at to : ℕ} (named : NameAt isTraitName s at to) where
-  name-some : at < to
-  name-some =
-      let read = subst (Reads (drop at s) (λ w left. ReadName isTraitName (drop at s) w left)) (named .finds) (name-reads isTraitName (drop at s)) .1 in
-      omega (arith, read .some, named .long, named .ahead)
-
   name-part : part s at to ≡ named .it
   name-part = part-is s (named .it) (drop to s) at to (named .covers) (omega (arith, named .long, named .ahead))
 
+  pub part-run : part s at to ≡ nameAt s at
+  part-run = name-part ∙ named .is-run
+
+  pub part-long : length (part s at to) ≡ to - at
+  part-long = part-length s at to (named .ahead) (named .inside)
+
   pub part-some : 0 < length (part s at to)
-  part-some = omega (arith, part-length s at to (named .ahead) (named .inside), name-some)
+  part-some =
+      let read = subst (Reads (drop at s) (λ w left. ReadName isTraitName (drop at s) w left)) (named .finds) (name-reads isTraitName (drop at s)) .1 in
+      omega (arith, read .some, ap length name-part)
 
-  -- it is the only one that stands there before a "="
-  one-name : (w rest : List ℕ) → drop at s ≡ w ++ (byte "=" ∷ rest) → isTraitName w ≡ true → named .it ≡ w
-  unfolding isName
-  one-name w rest covers kept =
-      let rule = rule-name isLower w (both (nameRule isLower w) _ kept .0) in
-      let found-it = name-complete isTraitName w (byte "=") rest (rule .0) (rule .1) kept no-name-byte in
-      let same : found (named .it) (drop to s) ≡ found w (byte "=" ∷ rest) = sym (named .finds) ∙ ap (name isTraitName) covers ∙ found-it in
-      cc
-
--- any name of a trait has a letter
-name-letters : (w : List ℕ) → isTraitName w ≡ true → 0 < length w
-unfolding isName
-name-letters w kept = rule-name isLower w (both (nameRule isLower w) _ kept .0) .1
+  pub part-letters : all isNameByte (part s at to) ≡ true
+  part-letters = ap (all isNameByte) part-run ∙ front-all isNameByte (drop at s)
 
 -- a name that stands earlier is a fault where it starts
 fresh-not : (names : List (List ℕ)) (l w left : List ℕ) → among names w ≡ true → fresh names l w left ≡ fault 18 l
@@ -298,9 +284,9 @@ module _ {s : List ℕ} {at : ℕ} (place : In s at) {cells : List ℕ} {slot : 
   pub behind-equals : {to end : ℕ} → DueAt (byte "=") s to end → In s (to + 1)
   behind-equals equals = record { within = place .within; inside = omega (arith, equals .next, equals .inside) }
 
-  module _ (white : List ℕ) where
+  module _ (names : List (List ℕ)) (white : List ℕ) where
     abbrev before : Earlier
-    before = earlierIn s cells slot
+    before = behindNames names slot
 
     -- what the trait makes of its name, of whether that stands earlier, and of the "=" behind it
     abbrev of-equals : List ℕ → Found ℕ → Found Trait
@@ -310,7 +296,7 @@ module _ {s : List ℕ} {at : ℕ} (place : In s at) {cells : List ℕ} {slot : 
     of-fresh x = andThen x (λ w left. of-equals w (due (byte "=") left))
 
     abbrev of-name : Found (List ℕ) → Found Trait
-    of-name x = of-fresh (andThen x (fresh (before .names) (drop at s)))
+    of-name x = of-fresh (andThen x (fresh names (drop at s)))
 
     by-name : trait bounds before white (drop at s) ≡ of-name (name isTraitName (drop at s))
     unfolding trait
@@ -324,20 +310,20 @@ module _ {s : List ℕ} {at : ℕ} (place : In s at) {cells : List ℕ} {slot : 
     no-name r e {why} {place} q = makes-passed _ _ _ _ _ _ _ r cells (λ w. 0) (λ w. 0) of-name (λ k left. refl)
         (name isTraitName (drop at s)) why place e q by-name
 
-    module _ {to : ℕ} (named : NameAt isTraitName s at to) {o : Bool} (asked : o ≡ among (before .names) (part s at to)) where
-      earlier : among (before .names) (named .it) ≡ o
-      earlier = ap (among (before .names)) (sym (name-part named)) ∙ sym asked
+    module _ {to : ℕ} (named : NameAt isTraitName s at to) where
+      earlier : {o : Bool} → among names (part s at to) ≡ o → among names (named .it) ≡ o
+      earlier asked = ap (among names) (sym (name-part named)) ∙ asked
 
-      by-fresh : trait bounds before white (drop at s) ≡ of-fresh (fresh (before .names) (drop at s) (named .it) (drop to s))
+      by-fresh : trait bounds before white (drop at s) ≡ of-fresh (fresh names (drop at s) (named .it) (drop to s))
       by-fresh = by-name ∙ ap of-name (named .finds)
 
-      pub name-twice : o ≡ true → (r : Part) → r ≡ Refused TraitTwice at → Traited r cells
+      pub name-twice : among names (part s at to) ≡ true → (r : Part) → r ≡ Refused TraitTwice at → Traited r cells
       name-twice t r q = makes-refused _ _ _ _ _ _ _ r cells TraitTwice at q (place .inside)
-          (by-fresh ∙ ap of-fresh (fresh-not (before .names) (drop at s) (named .it) (drop to s) (earlier ∙ t)))
+          (by-fresh ∙ ap of-fresh (fresh-not names (drop at s) (named .it) (drop to s) (earlier t)))
 
-      module _ (f : o ≡ false) where
+      module _ (f : among names (part s at to) ≡ false) where
         by-equals : trait bounds before white (drop at s) ≡ of-equals (named .it) (due (byte "=") (drop to s))
-        by-equals = by-fresh ∙ ap of-fresh (fresh-complete (before .names) (drop at s) (named .it) (drop to s) (earlier ∙ f))
+        by-equals = by-fresh ∙ ap of-fresh (fresh-complete names (drop at s) (named .it) (drop to s) (earlier f))
 
         pub no-equals : (r : Part) → seen r ≡ passed s (due (byte "=") (drop to s)) → {why : Refusal} {place : ℕ} → r ≡ Refused why place → Traited r cells
         no-equals r e {why} {place} q = makes-passed _ _ _ _ _ _ _ r cells (λ b. 0) (λ b. 0) (of-equals (named .it)) (λ k left. refl)
@@ -349,26 +335,3 @@ module _ {s : List ℕ} {at : ℕ} (place : In s at) {cells : List ℕ} {slot : 
             by-equals ∙ ap (of-equals (named .it)) (equals .finds) ∙ ap (λ (n : ℕ). valueIn (leftOf slot) (drop at s) white (named .it) (drop n s))
             (equals .next) in
             rw by-value (k white (named .it) (named .long))
-
-  -- a trait that is refused is the last
-  pub refused-ends : {r : Part} {why : Refusal} {place : ℕ} → r ≡ Refused why place → {after x : List ℕ} → GoesOn s slot r after x
-  refused-ends q end made own g = let z : _≡_ {A = ℕ} 0 1 = cc in absurd (omega arith)
-
-  -- behind one that is read its name is known with the earlier ones
-  pub trait-goes-on : {x y : List ℕ} {to : ℕ} → Behind s cells slot x → NameAt isTraitName s at to
-      → {o : Bool} → o ≡ false → Listed x (slot .next) (part s at to) o y
-      → {r : Part} {after : List ℕ} → MakesNamed s at cells slot r after → GoesOn s slot r after y
-  trait-goes-on {x} {y} {to} knows named f listed {r} {after} m end made own q =
-      let before = earlierIn s cells slot in
-      let at-end =
-      found-at traitSize (λ t. 1) s r (λ t left. ReadTrait bounds before [] (drop at s) t left) at (trait bounds before [] (drop at s)) end made own (m [] .says)
-      (trait-reads bounds before [] (drop at s)) (place .inside) q in
-      let t = at-end .it in
-      let rest = byte "=" ∷ valueOnto (t .value) (drop end s) in
-      let same : part s at to ≡ t .name =
-      name-part named ∙ one-name named (t .name) (valueOnto (t .value) (drop end s)) (at-end .holds .covers) (at-end .holds .named) in
-      let few : slot .next + traitSize t ≤ slot .room = omega (arith, at-end .holds .fits, fits .inside) in
-      rw (← at-end .many)
-      (knows-known s cells after (slot .parent) (firstOf slot) (slot .next) at t rest (at-end .holds .covers) (name-letters (t .name) (at-end .holds .named))
-      (place .inside) (knows .ahead) (omega (arith, few, fits .held)) (m [] .laid t (drop end s) (at-end .finds)) x y knows (rw (same, f) at listed)
-      (omega (arith, few, fits .few)))

@@ -22,9 +22,10 @@ use text::nesting::Nesting;
 use text::parts::starts_with;
 use text::runs;
 ghost use mathlib.Core.Path.{_≡_};
-ghost use Prim.Native.Nat.{_≤_};
+ghost use Prim.Native.Nat.{_+_, _≤_};
 ghost use lib.ListN.{length};
 ghost use Rattle.lines.specs.Parts.{seen, Tabbed};
+ghost use Rattle.sheets.specs.Traits.{NamesBefore, NamesOnward};
 ghost use Rattle.sheets.specs.Concepts.{Ready, Ends, endedBy, cellsEnded, EndsIn, lineEnded};
 ghost use Rattle.sheets.specs.Concepts.{ReadsConcept, ReadsInside, ReadsBlock, ReadsChildren, ReadsPiece, ReadsAnnotated};
 
@@ -38,12 +39,14 @@ fn read_concept(
     cells: &mut [u32],
     slot: Slot,
     index: &Index,
+    names: &mut [u16],
 ) -> Part
-    requires { ⌜ Ready (now table) (now index) (now s) at (now cells) slot ⌝ }
+    requires { ⌜ Ready (now table) (now index) (now s) at (now cells) slot × NamesBefore (now s) (at + 1) (now names) ⌝ }
     ensures { λ r.
-        ⌜ ReadsConcept (now (table .entry)) (now (s .entry)) at tabs (nesting .left) (now (cells .entry)) slot r (now (cells .exit)) ⌝ }
+        ⌜ ReadsConcept (now (table .entry)) (now (s .entry)) at tabs (nesting .left) (now (cells .entry)) slot r (now (cells .exit))
+        × NamesOnward (now (s .entry)) r (now (names .exit)) ⌝ }
 {
-    match read_opening(table, s, at, nesting, cells, slot, index) {
+    match read_opening(table, s, at, nesting, cells, slot, index, names) {
         Opening::Refused { refusal, place } => refused(refusal, place),
         Opening::Opened {
             form,
@@ -66,6 +69,7 @@ fn read_concept(
                 cells,
                 next,
                 index,
+                names,
             );
             end_concept(body, form, at, to, made, own, cells, slot)
         }
@@ -129,15 +133,17 @@ fn read_inside(
     cells: &mut [u32],
     slot: Slot,
     index: &Index,
+    names: &mut [u16],
 ) -> Part
-    requires { ⌜ Ready (now table) (now index) (now s) at (now cells) slot × (from ≤ to) × (to ≤ length (now s)) ⌝ }
+    requires { ⌜ Ready (now table) (now index) (now s) at (now cells) slot × (from ≤ to) × (to ≤ length (now s)) × NamesBefore (now s) (at + 1) (now names) ⌝ }
     ensures { λ r.
         ⌜ ReadsInside (now (table .entry)) (now (s .entry)) at form tabs from to (nesting .left) (now (cells .entry)) slot r
-        (now (cells .exit)) ⌝ }
+        (now (cells .exit))
+        × NamesOnward (now (s .entry)) r (now (names .exit)) ⌝ }
 {
     match form {
         forms::SELF_CLOSED => past(at),
-        forms::CHILDREN => read_block(table, s, at, from, to, nesting, cells, slot, index),
+        forms::CHILDREN => read_block(table, s, at, from, to, nesting, cells, slot, index, names),
         _ => read_content(s, at, tabs, from, to, cells, slot),
     }
 }
@@ -153,16 +159,18 @@ fn read_block(
     cells: &mut [u32],
     slot: Slot,
     index: &Index,
+    names: &mut [u16],
 ) -> Part
-    requires { ⌜ Ready (now table) (now index) (now s) at (now cells) slot × (from ≤ to) × (to ≤ length (now s)) ⌝ }
+    requires { ⌜ Ready (now table) (now index) (now s) at (now cells) slot × (from ≤ to) × (to ≤ length (now s)) × NamesBefore (now s) (at + 1) (now names) ⌝ }
     ensures { λ r.
-        ⌜ ReadsBlock (now (table .entry)) (now (s .entry)) at from to (nesting .left) (now (cells .entry)) slot r (now (cells .exit)) ⌝ }
+        ⌜ ReadsBlock (now (table .entry)) (now (s .entry)) at from to (nesting .left) (now (cells .entry)) slot r (now (cells .exit))
+        × NamesOnward (now (s .entry)) r (now (names .exit)) ⌝ }
 {
     let rest = line_rest(s, at);
     let Part::Read { end: start, .. } = rest else {
         return rest;
     };
-    let body = read_children(table, s, start, nesting, cells, slot, index);
+    let body = read_children(table, s, start, nesting, cells, slot, index, names);
     let Part::Read {
         end: mark,
         made,
@@ -187,10 +195,12 @@ fn read_children(
     cells: &mut [u32],
     slot: Slot,
     index: &Index,
+    names: &mut [u16],
 ) -> Part
-    requires { ⌜ Ready (now table) (now index) (now s) at (now cells) slot ⌝ }
+    requires { ⌜ Ready (now table) (now index) (now s) at (now cells) slot × NamesBefore (now s) (at + 1) (now names) ⌝ }
     ensures { λ r.
-        ⌜ ReadsChildren (now (table .entry)) (now (s .entry)) at (nesting .left) (now (cells .entry)) slot r (now (cells .exit)) ⌝ }
+        ⌜ ReadsChildren (now (table .entry)) (now (s .entry)) at (nesting .left) (now (cells .entry)) slot r (now (cells .exit))
+        × NamesOnward (now (s .entry)) r (now (names .exit)) ⌝ }
 {
     let mut i = at;
     let mut made = 0;
@@ -204,7 +214,17 @@ fn read_children(
                 own,
             };
         }
-        let piece = read_piece(table, s, i, mark, nesting, cells, slot.after(made), index);
+        let piece = read_piece(
+            table,
+            s,
+            i,
+            mark,
+            nesting,
+            cells,
+            slot.after(made),
+            index,
+            names,
+        );
         let Part::Read {
             end,
             made: more,
@@ -230,13 +250,25 @@ fn read_piece(
     cells: &mut [u32],
     slot: Slot,
     index: &Index,
+    names: &mut [u16],
 ) -> Part
-    requires { ⌜ Ready (now table) (now index) (now s) at (now cells) slot × Tabbed (now s) at mark ⌝ }
+    requires { ⌜ Ready (now table) (now index) (now s) at (now cells) slot × Tabbed (now s) at mark × NamesBefore (now s) (at + 1) (now names) ⌝ }
     ensures { λ r.
-        ⌜ ReadsPiece (now (table .entry)) (now (s .entry)) at (nesting .left) (now (cells .entry)) slot r (now (cells .exit)) ⌝ }
+        ⌜ ReadsPiece (now (table .entry)) (now (s .entry)) at (nesting .left) (now (cells .entry)) slot r (now (cells .exit))
+        × NamesOnward (now (s .entry)) r (now (names .exit)) ⌝ }
 {
     if starts_with(s, mark, b"<") {
-        let concept = read_concept(table, s, mark, mark - at, nesting, cells, slot, index);
+        let concept = read_concept(
+            table,
+            s,
+            mark,
+            mark - at,
+            nesting,
+            cells,
+            slot,
+            index,
+            names,
+        );
         return end_line(s, concept);
     }
     if starts_with(s, mark, b"\n") {
@@ -249,7 +281,7 @@ fn read_piece(
     let Part::Read { .. } = tabs else {
         return tabs;
     };
-    let concept = read_annotated(table, s, at, nesting, cells, slot, index);
+    let concept = read_annotated(table, s, at, nesting, cells, slot, index, names);
     end_line(s, concept)
 }
 
@@ -273,7 +305,7 @@ fn end_line(s: &[u8], part: Part) -> Part
 }
 
 // Reads the annotations that stand at `at` and their Concept, which is due behind the tabs of the next line.
-pub fn read_annotated(
+fn read_annotated(
     table: &[u8],
     s: &[u8],
     at: usize,
@@ -281,10 +313,12 @@ pub fn read_annotated(
     cells: &mut [u32],
     slot: Slot,
     index: &Index,
+    names: &mut [u16],
 ) -> Part
-    requires { ⌜ Ready (now table) (now index) (now s) at (now cells) slot ⌝ }
+    requires { ⌜ Ready (now table) (now index) (now s) at (now cells) slot × NamesBefore (now s) (at + 1) (now names) ⌝ }
     ensures { λ r.
-        ⌜ ReadsAnnotated (now (table .entry)) (now (s .entry)) at (nesting .left) (now (cells .entry)) slot r (now (cells .exit)) ⌝ }
+        ⌜ ReadsAnnotated (now (table .entry)) (now (s .entry)) at (nesting .left) (now (cells .entry)) slot r (now (cells .exit))
+        × NamesOnward (now (s .entry)) r (now (names .exit)) ⌝ }
 {
     let notes = annotations::read_all(s, at, cells, slot);
     let Part::Read {
@@ -305,6 +339,7 @@ pub fn read_annotated(
         cells,
         slot.after(made),
         index,
+        names,
     );
     let Part::Read {
         end,
@@ -319,4 +354,26 @@ pub fn read_annotated(
         made: made + inside,
         own: made + 1,
     }
+}
+
+// The same with an index of trait names for the whole sheet, which is a short one where the sheet is short.
+pub fn read_root(
+    table: &[u8],
+    s: &[u8],
+    at: usize,
+    nesting: Nesting,
+    cells: &mut [u32],
+    slot: Slot,
+    index: &Index,
+) -> Part
+    requires { ⌜ Ready (now table) (now index) (now s) at (now cells) slot ⌝ }
+    ensures { λ r.
+        ⌜ ReadsAnnotated (now (table .entry)) (now (s .entry)) at (nesting .left) (now (cells .entry)) slot r (now (cells .exit)) ⌝ }
+{
+    if s.len() <= earlier::SHORT {
+        let mut names = [0; earlier::SHORT_CELLS];
+        return read_annotated(table, s, at, nesting, cells, slot, index, &mut names);
+    }
+    let mut names = [0; earlier::CELLS];
+    read_annotated(table, s, at, nesting, cells, slot, index, &mut names)
 }

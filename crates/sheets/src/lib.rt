@@ -4,7 +4,7 @@ mod concepts;
 mod opening;
 mod traits;
 
-use concepts::read_annotated;
+use concepts::read_root;
 use entries::CELLS;
 use entries::Slot;
 use entries::TOP;
@@ -93,7 +93,7 @@ fn read_tree(table: &[u8], s: &[u8], cells: &mut [u32], index: &Index) -> Part
         room: room(cells.len()),
         parent: TOP,
     };
-    let root = read_annotated(
+    let root = read_root(
         table,
         s,
         first,

@@ -17,13 +17,14 @@ use text::nesting::Deeper;
 use text::nesting::Nesting;
 use text::runs;
 ghost use mathlib.Core.Path.{_≡_};
-ghost use Prim.Native.Nat.{suc, _≤_, _<_};
+ghost use Prim.Native.Nat.{suc, _+_, _≤_, _<_};
 ghost use lib.ListN.{length, drop};
 ghost use Rattle.paper.specs.Reading.{head, bounds};
 ghost use Rattle.modes.specs.Index.{Indexed};
 ghost use Rattle.entries.specs.Laid.{Fits};
 ghost use Rattle.lines.specs.Parts.{seen, passed, In};
-ghost use Rattle.sheets.specs.Opening.{ReadsOpening, ReadsNamed, ReadsMarker};
+ghost use Rattle.sheets.specs.Traits.{NamesBefore, NamesOnward};
+ghost use Rattle.sheets.specs.Opening.{partOf, ReadsOpening, ReadsNamed, ReadsMarker};
 
 // What an opening marker says: the Concept's form, where its name and the marker itself end, how many entries its traits made,
 // how many of them are traits, and how many Concepts may still be opened inside. Or it is refused.
@@ -51,14 +52,26 @@ pub fn read_opening(
     cells: &mut [u32],
     slot: Slot,
     index: &Index,
+    names: &mut [u16],
 ) -> Opening
-    requires { ⌜ Indexed (now table) (now index) × In (now s) at × Fits (now cells) slot ⌝ }
+    requires { ⌜ Indexed (now table) (now index) × In (now s) at × Fits (now cells) slot × NamesBefore (now s) (at + 1) (now names) ⌝ }
     ensures { λ r.
-        ⌜ ReadsOpening (now (table .entry)) (now (s .entry)) at (nesting .left) (now (cells .entry)) slot r (now (cells .exit)) ⌝ }
+        ⌜ ReadsOpening (now (table .entry)) (now (s .entry)) at (nesting .left) (now (cells .entry)) slot r (now (cells .exit))
+        × NamesOnward (now (s .entry)) (partOf r) (now (names .exit)) ⌝ }
 {
     match read_head(s, at) {
         Part::Refused { refusal, place } => Opening::Refused { refusal, place },
-        Part::Read { end: to, .. } => read_named(table, s, at, to, nesting, cells, slot, index),
+        Part::Read { end: to, .. } => read_named(
+            table,
+            s,
+            at,
+            to,
+            nesting,
+            cells,
+            slot,
+            index,
+            names,
+        ),
     }
 }
 
@@ -84,10 +97,12 @@ fn read_named(
     cells: &mut [u32],
     slot: Slot,
     index: &Index,
+    names: &mut [u16],
 ) -> Opening
-    requires { ⌜ Indexed (now table) (now index) × In (now s) to × (at < to) × Fits (now cells) slot ⌝ }
+    requires { ⌜ Indexed (now table) (now index) × In (now s) to × (at < to) × Fits (now cells) slot × NamesBefore (now s) (at + 1) (now names) ⌝ }
     ensures { λ r.
-        ⌜ ReadsNamed (now (table .entry)) (now (s .entry)) at to (nesting .left) (now (cells .entry)) slot r (now (cells .exit)) ⌝ }
+        ⌜ ReadsNamed (now (table .entry)) (now (s .entry)) at to (nesting .left) (now (cells .entry)) slot r (now (cells .exit))
+        × NamesOnward (now (s .entry)) (partOf r) (now (names .exit)) ⌝ }
 {
     let start = at + 1;
     let Deeper::Inside(inside) = nesting.step() else {
@@ -98,7 +113,7 @@ fn read_named(
         Mode::Children => forms::CHILDREN,
         Mode::Content => forms::CONTENT,
     };
-    read_marker(s, start, to, block, inside, cells, slot)
+    read_marker(s, start, to, block, inside, cells, slot, names)
 }
 
 // Goes on behind the name that stands from `start` to `to`, which is of a Concept that may stand here;
@@ -111,15 +126,17 @@ fn read_marker(
     inside: Nesting,
     cells: &mut [u32],
     slot: Slot,
+    names: &mut [u16],
 ) -> Opening
-    requires { ⌜ In (now s) to × (start ≤ to) × Fits (now cells) slot ⌝ }
+    requires { ⌜ In (now s) to × (start ≤ to) × Fits (now cells) slot × NamesBefore (now s) start (now names) ⌝ }
     ensures { λ r.
-        ⌜ ReadsMarker (now (s .entry)) start to block (suc (inside .left)) (now (cells .entry)) slot r (now (cells .exit)) ⌝ }
+        ⌜ ReadsMarker (now (s .entry)) start to block (suc (inside .left)) (now (cells .entry)) slot r (now (cells .exit))
+        × NamesOnward (now (s .entry)) (partOf r) (now (names .exit)) ⌝ }
 {
     if slot.is_full() {
         return unopened(Refusal::NoEntryLeft, start);
     }
-    match read_traits(s, to, cells, slot.under()) {
+    match read_traits(s, to, cells, slot.under(), names) {
         Part::Refused { refusal, place } => unopened(refusal, place),
         Part::Read { end, made, own } => match read_ending(s, runs::white_end(s, end)) {
             Ending::Refused { refusal, place } => unopened(refusal, place),

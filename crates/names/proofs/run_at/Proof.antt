@@ -11,10 +11,10 @@ use Rattle.names.proofs.run_at.Statement.{statement}
 use Rattle.names.proofs.run_at.Tie as tie
 
 abbrev Inv-loop : tie.InvT-loop
-Inv-loop s at capitals₀ few₀ i₀ capitals few i = Judged s at capitals few i
+Inv-loop s at capitals₀ few₀ key₀ i₀ capitals few key i = Judged s at capitals few key i
 
 abbrev μ-loop : tie.MeasureT-loop
-μ-loop s at capitals₀ few₀ i₀ capitals few i = length s - i
+μ-loop s at capitals₀ few₀ key₀ i₀ capitals few key i = length s - i
 
 loop-holds : tie.Need-loop-holds Inv-loop μ-loop
 loop-holds c = judged-begin _ _ (omega arith)
@@ -44,6 +44,20 @@ returns c =
     let upper = sym (c .before .before .before .before .is-upper .ensures) ∙ c .before .before .before .if2 .left in
     let no-byte = digit-name _ lower upper ∙ sym (c .before .before .is-digit .ensures) ∙ c .before .if4 .left in
     measured-here (turn .before .loop .inv) (turn .loop-test .taken) no-byte _ (c .judged .ensures)
+
+-- the letter is a byte, and the key is small
+cast-key : tie.Need-cast-key Inv-loop μ-loop
+cast-key c = omega (arith, c .before .before .shared-slice-known2 .given (c .before .before .before .before .loop .i))
+
+add-key : tie.Need-add-key Inv-loop μ-loop
+add-key c =
+    let at-loop = c .before .before .before .before in
+    omega (arith, c .before .before .shared-slice-known2 .given (at-loop .loop .i), at-loop .loop .inv .small)
+
+mul-key : tie.Need-mul-key Inv-loop μ-loop
+mul-key c =
+    let at-loop = c .before .before .before .before in
+    omega (arith, c .before .before .shared-slice-known2 .given (at-loop .loop .i), at-loop .loop .inv .small)
 
 add-i : tie.Need-add-i Inv-loop μ-loop
 add-i c = omega arith
@@ -88,6 +102,9 @@ run-at-spec =
     is-digit-requires
     judged-requires
     returns
+    cast-key
+    add-key
+    mul-key
     add-i
     loop-less
     loop-again

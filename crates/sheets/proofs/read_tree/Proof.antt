@@ -19,11 +19,11 @@ leads c =
 reads : (c : tie.After-known-told2) → let start =
     c .before .before .before .before .before .before .before .before .before .before .before .before .before .before .before .before .before .before .before .args in
     RootAt (modesOf (start .table .now)) (start .s .now) (start .cells .now) (c .before .root .given .0 .0) (c .before .root .given .0 .1 .0)
-    (c .before .root .given .0 .1 .1 .0) (c .before .before .before .before .before .read-annotated .last .1 .1 .1 .1 .0)
+    (c .before .root .given .0 .1 .1 .0) (c .before .before .before .before .before .read-root .last .1 .1 .1 .1 .0)
 reads c =
-    let at-read-annotated = c .before .before .before .before .before in
-    root-read _ _ _ _ (leads (at-read-annotated .before .before .before .before)) _ _ (at-read-annotated .before .before .new .ensures)
-    (at-read-annotated .before .before .before .room .ensures) _ _ (at-read-annotated .read-annotated .ensures) _ _ _ (c .before .root .given .1)
+    let at-read-root = c .before .before .before .before .before in
+    root-read _ _ _ _ (leads (at-read-root .before .before .before .before)) _ _ (at-read-root .before .before .new .ensures)
+    (at-read-root .before .before .before .room .ensures) _ _ (at-read-root .read-root .ensures) _ _ _ (c .before .root .given .1)
 
 blank-lines-requires : tie.Need-blank-lines-requires
 blank-lines-requires c κs = search needs
@@ -59,8 +59,8 @@ room-requires c κs = search needs
 new-requires : tie.Need-new-requires
 new-requires c κs = search needs
 
-read-annotated-requires : tie.Need-read-annotated-requires
-read-annotated-requires c κs =
+read-root-requires : tie.Need-read-root-requires
+read-root-requires c κs =
     let top = c .before .before .before .before .before .before .before .before .before .before .before .before .before in
     root-stands _ _ _ _ _ _ (top .pre .0) (top .pre .1) (leads (c .before .before .before) .inside) (c .before .before .room .ensures)
 
@@ -75,9 +75,9 @@ same-length c = search needs
 
 returns-3 : tie.Need-returns-3
 returns-3 c =
-    let at-read-annotated = c .before .before .before .before in
-    root-refused _ _ _ _ (leads (at-read-annotated .before .before .before .before)) _ _ (at-read-annotated .before .before .new .ensures)
-    (at-read-annotated .before .before .before .room .ensures) _ _ (at-read-annotated .read-annotated .ensures) _ _ (c .enum-told4 .given .1)
+    let at-read-root = c .before .before .before .before in
+    root-refused _ _ _ _ (leads (at-read-root .before .before .before .before)) _ _ (at-read-root .before .before .new .ensures)
+    (at-read-root .before .before .before .room .ensures) _ _ (at-read-root .read-root .ensures) _ _ (c .enum-told4 .given .1)
 
 read-rest-requires : tie.Need-read-rest-requires
 read-rest-requires c κs = reads c .inside
@@ -114,7 +114,7 @@ read-tree-spec =
     returns-2
     room-requires
     new-requires
-    read-annotated-requires
+    read-root-requires
     enum-known-root
     enum-told-4
     same-length

@@ -1,24 +1,28 @@
 -- A law for each way out: the room, the traits, the ending.
-use mathlib.Core.Path.{refl}
-use borrow.Author.Needs.{needs}
+use mathlib.Core.Path.{refl, ap}
 use Rattle.paper.specs.Tree.{block, self}
 use Rattle.entries.proofs.Slots.{fits-under}
-use Rattle.sheets.proofs.OpeningLaws.{traits-inside, no-room, traits-refused, TraitsAt, marker-traits, ending-refused, marker-read}
+use Rattle.sheets.specs.Opening.{partOf}
+use Rattle.sheets.proofs.NameIndex.{names-on}
+use Rattle.sheets.proofs.TraitRuns.{refused-names}
+use Rattle.sheets.proofs.OpeningLaws.{traits-inside, no-room, traits-refused, TraitsAt, marker-traits, ending-refused, marker-read, marker-names}
+use borrow.Author.Needs.{needs}
 use Rattle.sheets.proofs.opening.read_marker.Statement.{statement}
 use Rattle.sheets.proofs.opening.read_marker.Tie as tie
 
 -- the marker up to its ending
 traits : (c : tie.After-read-ending) → let start =
-    c .before .before .before .before .before .before .before .before .before .before .before .before .before .before .args in
+    c .before .before .before .before .before .before .before .before .before .before .before .before .before .before .before .before .before .before .args in
     TraitsAt (start .s .now) (start .start) (start .to) (start .cells .now) (start .slot)
-    (c .before .before .before .before .before .before .before .read-traits .last .1 .1 .0) (c .before .white-end .result) (c .before .before .before .end .given .0 .1 .0)
-    (c .before .before .before .end .given .0 .1 .1 .0)
+    (c .before .before .before .before .before .before .before .before .before .read-traits .last .1 .1 .0) (c .before .white-end .result)
+    (c .before .before .before .end .given .0 .1 .0) (c .before .before .before .end .given .0 .1 .1 .0)
 traits c =
-    let at-read-traits = c .before .before .before .before .before .before .before in
-    let at-if = at-read-traits .before .before .before in
-    let top = at-if .before .before .before .before in
+    let at-read-traits = c .before .before .before .before .before .before .before .before .before in
+    let at-if = at-read-traits .before .before .before .before in
+    let top = at-if .before .before .before .before .before in
     marker-traits (top .pre .0) (top .pre .2) (top .pre .1) (top .args .block) (at-if .before .is-full .ensures) (at-if .if1 .left)
-    (at-read-traits .before .under .ensures) (at-read-traits .read-traits .ensures) (c .before .before .before .end .given .1) (c .before .white-end .ensures)
+    (at-read-traits .before .before .under .ensures) (at-read-traits .read-traits .ensures .0) (c .before .before .before .end .given .1)
+    (c .before .white-end .ensures)
 
 is-full-requires : tie.Need-is-full-requires
 is-full-requires c κs = search needs
@@ -28,19 +32,23 @@ unopened-requires c κs = search needs
 
 returns : tie.Need-returns
 returns c =
-    no-room (c .before .before .before .before .before .pre .0) (c .before .before .before .before .before .pre .2) (c .before .before .before .before .before .pre .1) _
-    (c .before .before .is-full .ensures) (c .before .if1 .taken) (c .unopened .ensures)
+    let top = c .before .before .before .before .before .before in (
+      no-room (top .pre .0) (top .pre .2) (top .pre .1) _ (c .before .before .is-full .ensures) (c .before .if1 .taken) (c .unopened .ensures),
+      refused-names (ap partOf (c .unopened .ensures)),
+    )
 
 under-requires : tie.Need-under-requires
 under-requires c κs = search needs
 
 read-traits-requires : tie.Need-read-traits-requires
-read-traits-requires c κs = (
-  c .before .before .before .before .before .before .pre .0,
-  fits-under (c .before .before .before .before .before .before .pre .2) (c .before .before .before .is-full .ensures) (c .before .before .if1 .left)
-      (c .under .ensures),
-  rw (c .under .ensures),
-)
+read-traits-requires c κs =
+    let at-is-full = c .before .before .before .before in
+    let top = at-is-full .before .before .before .before in (
+      top .pre .0,
+      fits-under (top .pre .2) (at-is-full .is-full .ensures) (c .before .before .before .if1 .left) (c .before .under .ensures),
+      names-on
+          (top .pre .3) (top .pre .1),
+    )
 
 enum-known-refusal : tie.Need-enum-known-refusal
 enum-known-refusal c = search needs
@@ -53,9 +61,9 @@ enum-known-end c = search needs
 
 white-end-requires : tie.Need-white-end-requires
 white-end-requires c κs =
-    let at-read-traits = c .before .before .before .before .before in
-    let top = at-read-traits .before .before .before .before .before .before .before in
-    traits-inside (top .pre .0) (top .pre .2) _ (at-read-traits .read-traits .ensures) (c .before .end .given .1)
+    let at-read-traits = c .before .before .before .before .before .before .before in
+    let top = at-read-traits .before .before .before .before .before .before .before .before .before in
+    traits-inside (top .pre .0) (top .pre .2) _ (at-read-traits .read-traits .ensures .0) (c .before .end .given .1)
 
 read-ending-requires : tie.Need-read-ending-requires
 read-ending-requires c κs = c .white-end .ensures .2
@@ -75,33 +83,68 @@ enum-known-end-3 c = search needs
 same-length : tie.Need-same-length
 same-length c = search needs
 
-returns-2 : tie.Need-returns-2
-returns-2 c =
-    let at-read-traits = c .before .before .before .before .before .before in
-    let at-if = at-read-traits .before .before .before in
-    let top = at-if .before .before .before .before in
-    traits-refused (top .pre .0) (top .pre .2) (top .pre .1) _ (at-if .before .is-full .ensures) (at-if .if1 .left) (at-read-traits .before .under .ensures)
-    (at-read-traits .read-traits .ensures) (c .before .before .refusal .given .1) (c .unopened2 .ensures)
-
 same-length-2 : tie.Need-same-length-2
 same-length-2 c = search needs
 
-returns-3 : tie.Need-returns-3
-returns-3 c =
-    ending-refused (traits (c .before .before .before .before)) _ _ (c .before .before .before .before .read-ending .ensures) (c .before .before .refusal2 .given .1)
-    (c .unopened3 .ensures)
+returns-2 : tie.Need-returns-2
+returns-2 c =
+    let at-read-traits = c .before .before .before .before .before .before .before .before in
+    let at-under = at-read-traits .before .before in
+    let at-if1 = at-under .before .before in
+    let at-is-full = at-if1 .before in
+    let top = at-is-full .before .before .before .before in (
+      traits-refused (top .pre .0) (top .pre .2) (top .pre .1) _ (at-is-full .is-full .ensures) (at-if1 .if1 .left) (at-under .under .ensures)
+          (at-read-traits .read-traits .ensures .0)
+          (c .before .before .refusal .given .1) (c .unopened2 .ensures),
+      refused-names (ap partOf (c .unopened2 .ensures)),
+    )
 
 same-length-3 : tie.Need-same-length-3
 same-length-3 c = search needs
 
-returns-4 : tie.Need-returns-4
-returns-4 c = marker-read (traits (c .before .before .before)) _ _ (c .before .before .before .read-ending .ensures) self (c .before .end2 .given .1) refl refl
-
 same-length-4 : tie.Need-same-length-4
 same-length-4 c = search needs
 
+returns-3 : tie.Need-returns-3
+returns-3 c =
+    let at-read-ending = c .before .before .before .before in (
+      ending-refused (traits at-read-ending) _ _ (at-read-ending .read-ending .ensures) (c .before .before .refusal2 .given .1) (c .unopened3 .ensures),
+      refused-names (ap partOf (c .unopened3 .ensures)),
+    )
+
+same-length-5 : tie.Need-same-length-5
+same-length-5 c = search needs
+
+same-length-6 : tie.Need-same-length-6
+same-length-6 c = search needs
+
+returns-4 : tie.Need-returns-4
+returns-4 c =
+    let at-white-end = c .before .before .before .before in
+    let at-end = at-white-end .before .before in
+    let at-read-traits = at-end .before .before .before .before .before .before in
+    let top = at-read-traits .before .before .before .before .before .before .before .before .before in (
+      marker-read (traits (c .before .before .before)) _ _ (c .before .before .before .read-ending .ensures) self (c .before .end2 .given .1) refl refl,
+      marker-names (traits (c .before .before .before)) (top .args .block) _ (c .before .before .before .read-ending .ensures) self (c .before .end2 .given .1)
+          (at-read-traits .read-traits .ensures .1 _ _ _ (at-end .end .given .1)) (at-white-end .white-end .ensures .1) refl,
+    )
+
+same-length-7 : tie.Need-same-length-7
+same-length-7 c = search needs
+
+same-length-8 : tie.Need-same-length-8
+same-length-8 c = search needs
+
 returns-5 : tie.Need-returns-5
-returns-5 c = marker-read (traits (c .before .before .before)) _ _ (c .before .before .before .read-ending .ensures) block (c .before .end3 .given .1) refl refl
+returns-5 c =
+    let at-white-end = c .before .before .before .before in
+    let at-end = at-white-end .before .before in
+    let at-read-traits = at-end .before .before .before .before .before .before in
+    let top = at-read-traits .before .before .before .before .before .before .before .before .before in (
+      marker-read (traits (c .before .before .before)) _ _ (c .before .before .before .read-ending .ensures) block (c .before .end3 .given .1) refl refl,
+      marker-names (traits (c .before .before .before)) (top .args .block) _ (c .before .before .before .read-ending .ensures) block (c .before .end3 .given .1)
+          (at-read-traits .read-traits .ensures .1 _ _ _ (at-end .end .given .1)) (at-white-end .white-end .ensures .1) refl,
+    )
 
 pub read-marker-spec : {M : Type 1} → statement M
 read-marker-spec =
@@ -122,10 +165,14 @@ read-marker-spec =
     enum-known-end-2
     enum-known-end-3
     same-length
-    returns-2
     same-length-2
-    returns-3
+    returns-2
     same-length-3
-    returns-4
     same-length-4
+    returns-3
+    same-length-5
+    same-length-6
+    returns-4
+    same-length-7
+    same-length-8
     returns-5)

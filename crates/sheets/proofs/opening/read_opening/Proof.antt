@@ -1,12 +1,15 @@
 -- A law for each way out: "<" and the name, or what follows them.
 use mathlib.Core.Path.{refl}
-use borrow.Author.Needs.{needs}
+use Rattle.sheets.proofs.TraitRuns.{refused-names}
 use Rattle.sheets.proofs.OpeningLaws.{name-ends, head-refused, head-read}
+use borrow.Author.Needs.{needs}
 use Rattle.sheets.proofs.opening.read_opening.Statement.{statement}
 use Rattle.sheets.proofs.opening.read_opening.Tie as tie
 
 read-head-requires : tie.Need-read-head-requires
-read-head-requires c κs = c .before .before .before .pre .1 .inside
+read-head-requires c κs =
+    let top = c .before .before .before .before in
+    top .pre .1 .inside
 
 enum-known-refusal : tie.Need-enum-known-refusal
 enum-known-refusal c = search needs
@@ -16,24 +19,31 @@ enum-known-to c = search needs
 
 read-named-requires : tie.Need-read-named-requires
 read-named-requires c κs =
-    let top = c .before .before .before .before .before .before .before .before in
-    let name =
-    name-ends (top .pre .1) _ (c .before .before .before .before .read-head .ensures) (c .before .before .to .given .1) in
-    (top .pre .0, name .0, name .1, top .pre .2)
+    let at-read-head = c .before .before .before .before .before in
+    let top = at-read-head .before .before .before .before .before in
+    let name = name-ends (top .pre .1) _ (at-read-head .read-head .ensures) (c .before .before .before .to .given .1) in
+    (top .pre .0, name .0, name .1, top .pre .2, top .pre .3)
 
 returns : tie.Need-returns
 returns c =
-    head-refused (c .before .before .before .before .before .before .before .pre .1) _ (c .before .before .before .read-head .ensures) _
-    (c .before .before .before .before .before .before .before .pre .2) _ (c .before .refusal .given .1) refl
+    let top = c .before .before .before .before .before .before .before .before in
+    (head-refused (top .pre .1) _ (c .before .before .before .read-head .ensures) _ (top .pre .2) _ (c .before .refusal .given .1) refl, refused-names refl)
 
 same-length : tie.Need-same-length
 same-length c = search needs
 
+same-length-2 : tie.Need-same-length-2
+same-length-2 c = search needs
+
 returns-2 : tie.Need-returns-2
 returns-2 c =
-    let at-to = c .before .before .before .before .before in
-    let top = at-to .before .before .before .before .before .before in
-    head-read (top .pre .1) _ (at-to .before .before .read-head .ensures) _ (top .pre .2) _ (at-to .to .given .1) (c .before .before .read-named .ensures)
+    let at-read-named = c .before .before .before .before in
+    let at-to = at-read-named .before .before .before .before in
+    let at-read-head = at-to .before .before in
+    let top = at-read-head .before .before .before .before .before in (
+      head-read (top .pre .1) _ (at-read-head .read-head .ensures) _ (top .pre .2) _ (at-to .to .given .1) (at-read-named .read-named .ensures .0),
+      at-read-named .read-named .ensures .1,
+    )
 
 pub read-opening-spec : {M : Type 1} → statement M
 read-opening-spec =
@@ -45,4 +55,5 @@ read-opening-spec =
     read-named-requires
     returns
     same-length
+    same-length-2
     returns-2)
