@@ -29,6 +29,9 @@ extern "C" {
 /* The bytes of the longest mode table: a count for each section, and a length for each name. */
 #define CDX_MAX_TABLE (2 * (1 + CDX_MAX_SECTION * (1 + CDX_MAX_NAME)))
 
+/* Bytes of stack, of which no call takes more. That is measured, not proved; docs/C.md has it for each function. */
+#define CDX_MAX_STACK 57344
+
 /* An answer is so many numbers: what they are is said with each function. */
 #define CDX_ANSWER 3
 
