@@ -1,11 +1,14 @@
 //! Makes request lines from a seed: tables, sheets, rolls and times that are valid, nearly valid, damaged, cut or at a limit.
 //! Follows document 01's grammar, and 001 §18's to §22's, to print trees in random layouts; each printed rule may be broken once.
 
+mod dense;
+
 use crate::reader::{is_trait_name, read_sheet, CONCEPTS_DEEP, ENTRIES, ENTRY_CELLS, NAME_BYTES, SHEET_BYTES};
 use crate::rolls::{read_roll, RECORD_CELLS, ROLL_BYTES, SHEETS};
 use crate::to_hex;
 use crate::values::{Bracket, BRACKETS_DEEP, LIST, MAP, SET, TUPLE};
 use crate::writer::write_form;
+use dense::dense_sheet;
 
 /// Cells for every entry a sheet may have.
 const PLENTY: usize = ENTRIES * ENTRY_CELLS;
@@ -13,13 +16,21 @@ const PLENTY: usize = ENTRIES * ENTRY_CELLS;
 /// The kinds of requests, by their first words.
 pub const KINDS: [&str; 7] = ["table", "sheet", "form", "view", "roll", "add", "time"];
 
-/// `count` request lines of the kinds named, none with a sheet or a time longer than `longest` or a roll longer than four times that.
-pub fn requests(seed: u64, count: usize, longest: usize, kinds: &[&str]) -> Vec<String> {
+/// Those that are made of sheets dense in traits.
+pub const DENSE_KINDS: [&str; 5] = ["sheet", "form", "view", "roll", "add"];
+
+/// `count` request lines of the kinds named, none with a sheet or a time longer than `longest` or a roll longer than four times that; of
+/// sheets dense in traits alone, if that is asked.
+pub fn requests(seed: u64, count: usize, longest: usize, dense: bool, kinds: &[&str]) -> Vec<String> {
     let mut chance = Chance(seed);
     let mut lines = Vec::new();
     while lines.len() < count {
         let mut made = Vec::new();
-        add_requests(&mut made, &mut chance, longest);
+        if dense {
+            add_dense(&mut made, &mut chance, longest);
+        } else {
+            add_requests(&mut made, &mut chance, longest);
+        }
         lines.extend(made.into_iter().filter(|line| kinds.iter().any(|kind| line.starts_with(kind))));
     }
     lines.truncate(count);
@@ -48,8 +59,11 @@ fn add_requests(lines: &mut Vec<String>, chance: &mut Chance, longest: usize) {
             let sheet = one_address(chance);
             add_sheet(lines, chance, &Names::papers().table(), &sheet, longest);
         }
-        130..=189 => add_roll(lines, chance, &names, longest),
-        190..=249 => add_adding(lines, chance, &names, longest),
+        130..=189 => {
+            let roll = any_roll(chance, &names, longest);
+            add_roll(lines, chance, &names, &roll, longest);
+        }
+        190..=249 => add_any(lines, chance, &names, longest),
         250..=329 => add_time(lines, chance, longest),
         330..=409 => {
             let sheet = one_fault(chance);
@@ -59,7 +73,11 @@ fn add_requests(lines: &mut Vec<String>, chance: &mut Chance, longest: usize) {
             let sheet = one_bracketed(chance);
             add_sheet(lines, chance, &Names::papers().table(), &sheet, longest);
         }
-        490..=569 => add_marker(lines, chance, &names, longest),
+        490..=549 => {
+            let sheet = one_marker(chance, &names, longest);
+            add_marker(lines, chance, &names.table(), &sheet, longest);
+        }
+        550..=569 => add_dense(lines, chance, longest),
         _ => {
             let sheet = any_sheet(chance, &names);
             add_sheet(lines, chance, &names.table(), &sheet, longest);
@@ -166,14 +184,13 @@ fn add_cuts(lines: &mut Vec<String>, chance: &mut Chance, names: &Names, longest
 // ---- Rolls
 
 /// A roll, mostly with room for all its records and all entries of its sheets.
-fn add_roll(lines: &mut Vec<String>, chance: &mut Chance, names: &Names, longest: usize) {
-    let roll = any_roll(chance, names, longest);
+fn add_roll(lines: &mut Vec<String>, chance: &mut Chance, names: &Names, roll: &[u8], longest: usize) {
     if roll.len() > 4 * longest {
         return;
     }
     let table = if chance.one_in(12) { damaged_table(chance, names) } else { names.table() };
     let most = SHEETS * RECORD_CELLS;
-    let enough = read_roll(&table, &roll, most, 0).0.count * RECORD_CELLS;
+    let enough = read_roll(&table, roll, most, 0).0.count * RECORD_CELLS;
     let records = match chance.below(12) {
         0 => chance.below(12),
         1..=3 => enough,
@@ -183,7 +200,7 @@ fn add_roll(lines: &mut Vec<String>, chance: &mut Chance, names: &Names, longest
         _ => most,
     };
     let lent = if chance.one_in(4) { chance.below(40) } else { PLENTY + chance.below(2) * chance.below(40) };
-    lines.push(format!("roll {} {} {records} {lent}", to_hex(&table), to_hex(&roll)));
+    lines.push(format!("roll {} {} {records} {lent}", to_hex(&table), to_hex(roll)));
 }
 
 /// Some sheets one behind the other, or a roll at a limit; as it is, damaged or cut. What stands before the first is mostly blank.
@@ -242,8 +259,8 @@ fn roll_at_limit(chance: &mut Chance, names: &Names) -> Vec<u8> {
     roll
 }
 
-/// A sheet to be added to a roll.
-fn add_adding(lines: &mut Vec<String>, chance: &mut Chance, names: &Names, longest: usize) {
+/// Any sheet to be added to any roll.
+fn add_any(lines: &mut Vec<String>, chance: &mut Chance, names: &Names, longest: usize) {
     let papers = Names::papers();
     let (names, sheet) = match chance.below(12) {
         0 => (names, of_length(SHEET_BYTES - 2 + chance.below(4)).into_bytes()),
@@ -252,15 +269,20 @@ fn add_adding(lines: &mut Vec<String>, chance: &mut Chance, names: &Names, longe
         _ => (names, any_sheet(chance, names)),
     };
     let roll = any_roll(chance, names, longest);
+    add_adding(lines, chance, names, &sheet, &roll, longest);
+}
+
+/// A sheet to be added to a roll.
+fn add_adding(lines: &mut Vec<String>, chance: &mut Chance, names: &Names, sheet: &[u8], roll: &[u8], longest: usize) {
     if sheet.len() > longest || roll.len() > 4 * longest {
         return;
     }
     let table = if chance.one_in(16) { damaged_table(chance, names) } else { names.table() };
-    let lent = random_lent(chance, &table, &sheet);
-    let n = random_end(chance, &roll);
-    let added = write_form(&table, &sheet, PLENTY, SHEET_BYTES).0.count + 1;
+    let lent = random_lent(chance, &table, sheet);
+    let n = random_end(chance, roll);
+    let added = write_form(&table, sheet, PLENTY, SHEET_BYTES).0.count + 1;
     let room = random_room_behind(chance, roll.len(), n.saturating_add(added));
-    lines.push(format!("add {} {} {lent} {} {n} {room}", to_hex(&table), to_hex(&sheet), to_hex(&roll)));
+    lines.push(format!("add {} {} {lent} {} {n} {room}", to_hex(&table), to_hex(sheet), to_hex(roll)));
 }
 
 /// How many bytes of a roll are in use: mostly all of it, or up to a line's end; else none, some, more than there are, or too many.
@@ -1065,14 +1087,30 @@ const BRACKET_PIECES: [&str; 40] = [
 
 // ---- Several traits in one marker
 
-/// The requests about a marker with several traits; at times with just as many cells as are used, one fewer, or too few for an entry more.
-fn add_marker(lines: &mut Vec<String>, chance: &mut Chance, names: &Names, longest: usize) {
-    let (table, sheet) = (names.table(), one_marker(chance, names, longest));
-    add_sheet(lines, chance, &table, &sheet, longest);
+/// The requests about a sheet of dense markers; at times it is one of a roll, too, or is added to one.
+fn add_dense(lines: &mut Vec<String>, chance: &mut Chance, longest: usize) {
+    let names = Names::random(chance);
+    let sheet = dense_sheet(chance, &names, longest);
+    add_marker(lines, chance, &names.table(), &sheet, longest);
+    if chance.one_in(6) {
+        let mut roll = Vec::new();
+        for _ in 0..1 + chance.below(4) {
+            roll.extend(dense_sheet(chance, &names, longest));
+            roll.push(b'\n');
+        }
+        roll.truncate(4 * longest);
+        add_roll(lines, chance, &names, &roll, longest);
+        add_adding(lines, chance, &names, &sheet, &roll, longest);
+    }
+}
+
+/// The requests about a sheet with several traits; at times with just as many cells as are used, one fewer, or too few for an entry more.
+fn add_marker(lines: &mut Vec<String>, chance: &mut Chance, table: &[u8], sheet: &[u8], longest: usize) {
+    add_sheet(lines, chance, table, sheet, longest);
     if sheet.len() <= longest && chance.one_in(3) {
-        let used = entries_used(&table, &sheet) * ENTRY_CELLS;
+        let used = entries_used(table, sheet) * ENTRY_CELLS;
         let lent = *chance.pick(&[&used, &used.saturating_sub(1), &(used + ENTRY_CELLS - 1)]);
-        lines.push(format!("sheet {} {} {lent}", to_hex(&table), to_hex(&sheet)));
+        lines.push(format!("sheet {} {} {lent}", to_hex(table), to_hex(sheet)));
     }
 }
 
@@ -1778,7 +1816,7 @@ mod tests {
     /// Whatever is generated and accepted, its form fitting, keeps it.
     #[test]
     fn accepted_sheets_keep_their_form() {
-        for line in requests(1, 4_000, 300, &["sheet"]) {
+        for line in requests(1, 4_000, 300, false, &["sheet"]) {
             let words: Vec<&str> = line.split(' ').collect();
             let (table, sheet) = (crate::from_hex(words[1]).unwrap(), crate::from_hex(words[2]).unwrap());
             if write_form(&table, &sheet, PLENTY, SHEET_BYTES).0.number == 0 {

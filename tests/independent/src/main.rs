@@ -12,7 +12,7 @@ mod writer;
 #[cfg(test)]
 mod examples;
 
-use generate::KINDS;
+use generate::{DENSE_KINDS, KINDS};
 use reader::{read_sheet, table_answer, view, view_answer, Answer, SHEET_BYTES};
 use rolls::{add_sheet, read_roll};
 use std::io::{BufRead, Write};
@@ -24,9 +24,9 @@ fn main() {
     let words: Vec<&str> = words.iter().map(String::as_str).collect();
     let done = match words.as_slice() {
         [] => answer_requests(),
-        ["generate", seed, count] => print_requests(seed, count, "16385", &KINDS),
-        ["generate", seed, count, longest] => print_requests(seed, count, longest, &KINDS),
-        ["generate", seed, count, longest, kinds @ ..] => print_requests(seed, count, longest, kinds),
+        ["generate", seed, count] => print_requests(seed, count, "16385", false, &[]),
+        ["generate", seed, count, longest, "dense", kinds @ ..] => print_requests(seed, count, longest, true, kinds),
+        ["generate", seed, count, longest, kinds @ ..] => print_requests(seed, count, longest, false, kinds),
         ["definitions", specs] => print_module(specs),
         _ => usage(),
     };
@@ -36,18 +36,22 @@ fn main() {
 }
 
 fn usage() -> bool {
-    eprintln!("independent                                         answers request lines");
-    eprintln!("independent generate SEED COUNT [LONGEST [KIND..]]  prints COUNT request lines, with sheets up to LONGEST bytes");
-    eprintln!("independent definitions SPECS                       prints request lines and their answers as statements about SPECS");
+    eprintln!("independent                                                 answers request lines");
+    eprintln!("independent generate SEED COUNT [LONGEST [dense] [KIND..]]  prints COUNT request lines, with sheets up to LONGEST bytes");
+    eprintln!(
+        "independent definitions SPECS                               prints request lines and their answers as statements about SPECS"
+    );
     false
 }
 
-/// Prints `count` request lines; false where an argument is no number or no kind of request.
-fn print_requests(seed: &str, count: &str, longest: &str, kinds: &[&str]) -> bool {
+/// Prints `count` request lines, of all kinds where none is named; false where an argument is no number or no kind of request.
+fn print_requests(seed: &str, count: &str, longest: &str, dense: bool, kinds: &[&str]) -> bool {
     let mut out = std::io::stdout().lock();
+    let all = if dense { &DENSE_KINDS[..] } else { &KINDS[..] };
+    let named = if kinds.is_empty() { all } else { kinds };
     match (seed.parse(), count.parse(), longest.parse()) {
-        (Ok(seed), Ok(count), Ok(longest)) if kinds.iter().all(|kind| KINDS.contains(kind)) => {
-            generate::requests(seed, count, longest, kinds).iter().all(|line| writeln!(out, "{line}").is_ok())
+        (Ok(seed), Ok(count), Ok(longest)) if named.iter().all(|kind| all.contains(kind)) => {
+            generate::requests(seed, count, longest, dense, named).iter().all(|line| writeln!(out, "{line}").is_ok())
         }
         _ => usage(),
     }
