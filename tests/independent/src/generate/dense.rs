@@ -199,10 +199,14 @@ fn running_key(name: &[u8], multiplier: usize) -> usize {
     name.iter().fold(0, |key, &letter| next_key(key, multiplier, letter))
 }
 
-/// Names of any length that have one running key modulo 2,048, and so modulo every smaller power of two; or even modulo 65,536.
+/// The library's own M. Its key is this one times M, so that names of one key modulo 65,536 have one key there too.
+const OF_THE_LIBRARY: usize = 40_503;
+
+/// Names of any length that have one running key modulo 65,536, or modulo 2,048 and so modulo every smaller power of two.
 fn of_one_key(chance: &mut Chance, count: usize) -> Vec<String> {
-    let multiplier = MULTIPLIERS[chance.below(MULTIPLIERS.len())];
-    let keys = if chance.one_in(4) { 65_536 } else { 2_048 };
+    let own = chance.one_in(2);
+    let multiplier = if own { OF_THE_LIBRARY } else { MULTIPLIERS[chance.below(MULTIPLIERS.len())] };
+    let keys = if own || chance.one_in(4) { 65_536 } else { 2_048 };
     let key = chance.below(keys);
     let length = chance.below(9);
     let end = random_name(chance, 1 + length).split_off(1);
