@@ -27,7 +27,7 @@ shared-slice-read-if1-2 c = search needs
 returns : tie.Need-returns
 returns c =
     let top = c .before .before .before .before .before in
-    first-apart _ _ _ (top .pre .0) (top .pre .1) (λ e. c .if1 .taken e)
+    first-apart _ _ _ (top .pre .0) (top .pre .1) (c .if1 .taken)
 
 add-end : tie.Need-add-end
 add-end c = search needs
