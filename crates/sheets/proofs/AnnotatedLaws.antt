@@ -2,7 +2,7 @@
 -- Over plain lists. Assumes nothing.
 use Prim.Native.Nat.{ℕ, _+_, _-_, _≤_}
 use mathlib.Core.Path.{_≡_, refl, sym, ap, _∙_}
-use mathlib.Core.List.{List, []}
+use mathlib.Core.List.{List, [], _∷_}
 use native.Mathlib.Omega.{arith}
 use lib.ListN.{length, drop, length-drop}
 use Rattle.paper.specs.declared.Refusal.{Refusal}
@@ -73,6 +73,19 @@ module _ {table index s : List ℕ} {at : ℕ} {cells : List ℕ} {slot : Slot} 
         inside = f .inside;
         laid = n .laid (f .it) (drop line s) (f .finds);
       }
+
+-- where there are none, the line is the one where they were due, and so are its tabs
+module _ {table index s : List ℕ} {at : ℕ} {cells : List ℕ} {slot : Slot} {mid : List ℕ} {line made : ℕ} (n : NotesAt table index s at cells slot mid line made) where
+  same-line : made ≡ 0 → line ≡ at
+  unfolding annotationsOnto
+  same-line z = go (n .it) (n .many ∙ z) (n .covers)
+    where
+      go : (l : List Annotation) → length l ≡ 0 → drop at s ≡ annotationsOnto l (drop line s) → line ≡ at
+      go [] e c = omega (arith, ap length c, length-drop at s, length-drop line s, n .ahead, n .inside)
+      go (a ∷ l) e c = absurd (omega arith)
+
+  pub tabs-there : {mark : ℕ} → Stretch isTab s at mark → made ≡ 0 → Stretch isTab s line mark
+  tabs-there run z = rw (same-line z) run
 
 -- the Concept behind them, whose tabs end at a mark
 module _ {table index s : List ℕ} {at : ℕ} {cells : List ℕ} {slot : Slot} {mid : List ℕ} {line made : ℕ} (n : NotesAt table index s at cells slot mid line made)

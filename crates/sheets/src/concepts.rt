@@ -24,7 +24,8 @@ use text::runs;
 ghost use mathlib.Core.Path.{_≡_};
 ghost use Prim.Native.Nat.{_+_, _≤_};
 ghost use lib.ListN.{length};
-ghost use Rattle.lines.specs.Parts.{seen, Tabbed};
+ghost use Rattle.entries.specs.Laid.{Fits};
+ghost use Rattle.lines.specs.Parts.{seen, In, Tabbed, MakesNotes};
 ghost use Rattle.sheets.specs.Traits.{NamesBefore, NamesOnward};
 ghost use Rattle.sheets.specs.Concepts.{Ready, Ends, endedBy, cellsEnded, EndsIn, lineEnded};
 ghost use Rattle.sheets.specs.Concepts.{ReadsConcept, ReadsInside, ReadsBlock, ReadsChildren, ReadsPiece, ReadsAnnotated};
@@ -257,31 +258,19 @@ fn read_piece(
         ⌜ ReadsPiece (now (table .entry)) (now (s .entry)) at (nesting .left) (now (cells .entry)) slot r (now (cells .exit))
         × NamesOnward (now (s .entry)) r (now (names .exit)) ⌝ }
 {
-    if starts_with(s, mark, b"<") {
-        let concept = read_concept(
-            table,
-            s,
-            mark,
-            mark - at,
-            nesting,
-            cells,
-            slot,
-            index,
-            names,
-        );
-        return end_line(s, concept);
+    if !starts_with(s, mark, b"<") {
+        if starts_with(s, mark, b"\n") {
+            return past(mark + 1);
+        }
+        if is_blank_line(s, at) {
+            return line_rest(s, at);
+        }
+        let tabs = tabs_only(s, at);
+        let Part::Read { .. } = tabs else {
+            return tabs;
+        };
     }
-    if starts_with(s, mark, b"\n") {
-        return past(mark + 1);
-    }
-    if is_blank_line(s, at) {
-        return line_rest(s, at);
-    }
-    let tabs = tabs_only(s, at);
-    let Part::Read { .. } = tabs else {
-        return tabs;
-    };
-    let concept = read_annotated(table, s, at, nesting, cells, slot, index, names);
+    let concept = read_annotated(table, s, at, mark, nesting, cells, slot, index, names);
     end_line(s, concept)
 }
 
@@ -304,23 +293,24 @@ fn end_line(s: &[u8], part: Part) -> Part
     }
 }
 
-// Reads the annotations that stand at `at` and their Concept, which is due behind the tabs of the next line.
+// Reads the annotations that stand at `at` and their Concept, which is due behind the tabs of the next line. The tabs at `at` end at `mark`.
 fn read_annotated(
     table: &[u8],
     s: &[u8],
     at: usize,
+    mark: usize,
     nesting: Nesting,
     cells: &mut [u32],
     slot: Slot,
     index: &Index,
     names: &mut [u16],
 ) -> Part
-    requires { ⌜ Ready (now table) (now index) (now s) at (now cells) slot × NamesBefore (now s) (at + 1) (now names) ⌝ }
+    requires { ⌜ Ready (now table) (now index) (now s) at (now cells) slot × Tabbed (now s) at mark × NamesBefore (now s) (at + 1) (now names) ⌝ }
     ensures { λ r.
         ⌜ ReadsAnnotated (now (table .entry)) (now (s .entry)) at (nesting .left) (now (cells .entry)) slot r (now (cells .exit))
         × NamesOnward (now (s .entry)) r (now (names .exit)) ⌝ }
 {
-    let notes = annotations::read_all(s, at, cells, slot);
+    let notes = read_notes(s, at, mark, cells, slot);
     let Part::Read {
         end: line,
         made,
@@ -329,12 +319,16 @@ fn read_annotated(
     else {
         return notes;
     };
-    let mark = runs::tab_end(s, line);
+    let tag = if made == 0 {
+        mark
+    } else {
+        runs::tab_end(s, line)
+    };
     let concept = read_concept(
         table,
         s,
-        mark,
-        mark - line,
+        tag,
+        tag - line,
         nesting,
         cells,
         slot.after(made),
@@ -356,7 +350,18 @@ fn read_annotated(
     }
 }
 
-// The same with an index of trait names for the whole sheet, which is a short one where the sheet is short.
+// Reads the annotations that stand at `at`, where the tabs there end at `mark`. Most Concepts have none.
+fn read_notes(s: &[u8], at: usize, mark: usize, cells: &mut [u32], slot: Slot) -> Part
+    requires { ⌜ In (now s) at × Fits (now cells) slot × Tabbed (now s) at mark ⌝ }
+    ensures { λ r. ⌜ MakesNotes (now (s .entry)) at (now (cells .entry)) slot r (now (cells .exit)) ⌝ }
+{
+    if starts_with(s, mark, b"[") {
+        return annotations::read_all(s, at, cells, slot);
+    }
+    past(at)
+}
+
+// The same where a sheet's root is due, with an index of trait names for the whole sheet, which is a short one where the sheet is short.
 pub fn read_root(
     table: &[u8],
     s: &[u8],
@@ -370,10 +375,11 @@ pub fn read_root(
     ensures { λ r.
         ⌜ ReadsAnnotated (now (table .entry)) (now (s .entry)) at (nesting .left) (now (cells .entry)) slot r (now (cells .exit)) ⌝ }
 {
+    let mark = runs::tab_end(s, at);
     if s.len() <= earlier::SHORT {
         let mut names = [0; earlier::SHORT_CELLS];
-        return read_annotated(table, s, at, nesting, cells, slot, index, &mut names);
+        return read_annotated(table, s, at, mark, nesting, cells, slot, index, &mut names);
     }
     let mut names = [0; earlier::CELLS];
-    read_annotated(table, s, at, nesting, cells, slot, index, &mut names)
+    read_annotated(table, s, at, mark, nesting, cells, slot, index, &mut names)
 }

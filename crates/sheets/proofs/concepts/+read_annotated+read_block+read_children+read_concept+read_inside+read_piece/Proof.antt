@@ -1,25 +1,27 @@
 -- A law for each way out. The measure is the bytes that remain of the input; a call that takes none of them goes to a function of lower rank.
 use Prim.Native.Nat.{ℕ, _+_, _-_, _*_, _≤_, _<_}
 use mathlib.Core.Path.{_≡_, refl, sym, ap, _∙_}
+use mathlib.Core.Logic.{⊎-elim}
 use native.Mathlib.Omega.{arith}
 use lib.ListN.{length, drop}
 use borrow.Author.Needs.{needs}
 use Rattle.paper.specs.Bytes.{byte, lf}
-use Rattle.paper.specs.Reading.{annotatedOf, pieceOf, bounds}
+use Rattle.paper.specs.Reading.{isTab, annotatedOf, pieceOf, bounds}
+use borrow.Author.Tests.{not-false}
+use Rattle.text.proofs.Stretch.{Stretch}
 use Rattle.modes.specs.Table.{modesOf}
 use Rattle.entries.specs.declared.Slot.{Slot}
 use Rattle.entries.proofs.Slots.{fits-after}
 use Rattle.lines.proofs.Ends.{RestAt, rest-at}
 use Rattle.sheets.specs.Traits.{NamesBefore}
 use Rattle.sheets.specs.Opening.{partOf}
-use Rattle.sheets.specs.Concepts.{ReadsAnnotated}
 use Rattle.sheets.proofs.ConceptLaws.{inside-closed, inside-block, inside-content, marker-refused, MarkerAt, marker-ahead, lent-stands, may-end, concept-ended}
 use Rattle.sheets.proofs.Slots.{stands-on}
 use Rattle.sheets.proofs.NameIndex.{names-on, names-end, names-same, names-rest, names-closing, names-content, names-line, names-ended}
 use Rattle.sheets.proofs.TraitRuns.{refused-names}
 use Rattle.sheets.proofs.PieceLaws.{annotatedLine, blank-made, tabs-refused, tabs-passed, ends-in, line-made, Pieces, pieces-begin, pieces-over, pieces-refused, piece-ahead}
 use Rattle.sheets.proofs.PieceLaws.{pieces-on}
-use Rattle.sheets.proofs.LineStarts.{Behind, lf-blank, lf-rest, mark-piece, unannotated}
+use Rattle.sheets.proofs.LineStarts.{Behind, lf-blank, lf-rest, mark-piece}
 use Rattle.sheets.proofs.AnnotatedLaws as annotated
 use Rattle.sheets.proofs.BlockLaws as block
 use borrow.Fn.Kinds.{In}
@@ -44,7 +46,7 @@ use Rattle.sheets.proofs.concepts.read_piece.Kinds as read-piece-kinds
 use Rattle.sheets.proofs.concepts.+read_annotated+read_block+read_children+read_concept+read_inside+read_piece.Lts-read_piece as read-piece-lts
 use Rattle.entries.proofs.Slot.after.Reads as after-reads
 use Rattle.entries.proofs.Slot.under.Reads as under-reads
-use Rattle.lines.proofs.annotations.read_all.Reads as read-all-reads
+use Rattle.sheets.proofs.concepts.read_notes.Reads as read-notes-reads
 use Rattle.lines.proofs.blank.is_blank_line.Reads as is-blank-line-reads
 use Rattle.lines.proofs.blank.tabs_only.Reads as tabs-only-reads
 use Rattle.lines.proofs.content.read_content.Reads as read-content-reads
@@ -146,7 +148,7 @@ read-piece-below t =
 
 abbrev read-annotated-calls : ℕ → read-annotated-lts.Claims
 read-annotated-calls t =
-    (read-all-reads.Asked, read-all-reads.Learnt, tab-end-reads.Asked, tab-end-reads.Learnt, after-reads.Asked, after-reads.Learnt, read-concept-below t, read-concept.Post)
+    (read-notes-reads.Asked, read-notes-reads.Learnt, tab-end-reads.Asked, tab-end-reads.Learnt, after-reads.Asked, after-reads.Learnt, read-concept-below t, read-concept.Post)
 
 abbrev read-block-calls : ℕ → read-block-lts.Claims
 read-block-calls t = (
@@ -193,10 +195,6 @@ abbrev read-piece-calls : ℕ → read-piece-lts.Claims
 read-piece-calls t = (
   starts-with-reads.Asked,
   starts-with-reads.Learnt,
-  read-concept-below t,
-  read-concept.Post,
-  end-line-reads.Asked,
-  end-line-reads.Learnt,
   past-reads.Asked,
   past-reads.Learnt,
   is-blank-line-reads.Asked,
@@ -207,6 +205,8 @@ read-piece-calls t = (
   tabs-only-reads.Learnt,
   read-annotated-below t,
   read-annotated.Post,
+  end-line-reads.Asked,
+  end-line-reads.Learnt,
 )
 
 -- ---- read_annotated: the annotations, the tabs, the Concept
@@ -215,13 +215,25 @@ read-piece-calls t = (
 annotated-notes : (t : ℕ) (c : read-annotated-lts.After-notes (read-annotated-calls t) (read-annotated-at t) read-annotated.Post)
     → let start = c .before .before .before .before .before .before .before .before .before .before .args in
     annotated.NotesAt (start .table .now) (start .index .now) (start .s .now) (start .at) (start .cells .now) (start .slot)
-    (c .before .before .before .before .read-all .last .1 .1 .0) (c .notes .given .0 .0) (c .notes .given .0 .1 .0)
+    (c .before .before .before .before .read-notes .last .1 .1 .1 .0) (c .notes .given .0 .0) (c .notes .given .0 .1 .0)
 annotated-notes t c =
-    annotated.notes-at (c .before .before .before .before .before .before .before .before .before .before .pre .1 .0) (c .before .before .before .before .read-all .ensures)
-    (c .notes .given .1)
+    annotated.notes-at (c .before .before .before .before .before .before .before .before .before .before .pre .1 .0) (c .before .before .before .before .read-notes .ensures) (c .notes .given .1)
 
-read-annotated-read-all-requires : (t : ℕ) → read-annotated-lts.Need-read-all-requires (read-annotated-calls t) (read-annotated-at t) read-annotated.Post
-read-annotated-read-all-requires t c κs = (c .before .before .before .before .before .pre .1 .0 .in-sheet, c .before .before .before .before .before .pre .1 .0 .fits)
+-- the tabs of the Concept's line end where it is due
+annotated-tabs : (t : ℕ) (c : read-annotated-lts.After-row-known (read-annotated-calls t) (read-annotated-at t) read-annotated.Post)
+    → let at-notes = c .before .before .before in
+    Stretch isTab (at-notes .before .before .before .before .before .before .before .before .before .before .args .s .now) (at-notes .notes .given .0 .0) (c .before .if1 .tag)
+annotated-tabs t c =
+    let at-if = c .before in
+    let at-notes = at-if .before .before in
+    let notes = annotated-notes t at-notes in
+    ⊎-elim
+    (λ w. rw (w .1) (annotated.tabs-there notes (at-notes .before .before .before .before .before .before .before .before .before .before .pre .1 .1) (w .0 .taken)))
+    (λ w. rw (w .2) (w .1 .ensures))
+    (at-if .if1 .came)
+
+read-annotated-read-notes-requires : (t : ℕ) → read-annotated-lts.Need-read-notes-requires (read-annotated-calls t) (read-annotated-at t) read-annotated.Post
+read-annotated-read-notes-requires t c κs = let ready = c .before .before .before .before .before .pre .1 in (ready .0 .in-sheet, ready .0 .fits, ready .1)
 
 read-annotated-enum-known-notes : (t : ℕ) → read-annotated-lts.Need-enum-known-notes (read-annotated-calls t) (read-annotated-at t) read-annotated.Post
 read-annotated-enum-known-notes t c = search needs
@@ -234,30 +246,30 @@ read-annotated-same-length t c = search needs
 
 read-annotated-returns : (t : ℕ) → read-annotated-lts.Need-returns (read-annotated-calls t) (read-annotated-at t) read-annotated.Post
 read-annotated-returns t c = (
-  annotated.notes-refused (c .before .before .before .before .before .before .before .before .before .before .pre .1 .0) (c .before .before .before .before .read-all .ensures) _
-      (c .enum-told .given .1),
+  annotated.notes-refused (c .before .before .before .before .before .before .before .before .before .before .pre .1 .0) (c .before .before .before .before .read-notes .ensures) _ (c .enum-told .given .1),
   refused-names (c .enum-told .given .1),
 )
 
 read-annotated-tab-end-requires : (t : ℕ) → read-annotated-lts.Need-tab-end-requires (read-annotated-calls t) (read-annotated-at t) read-annotated.Post
-read-annotated-tab-end-requires t c κs = annotated-notes t (c .before) .inside
+read-annotated-tab-end-requires t c κs = annotated-notes t (c .before .before) .inside
 
 read-annotated-sub-read-concept : (t : ℕ) → read-annotated-lts.Need-sub-read-concept (read-annotated-calls t) (read-annotated-at t) read-annotated.Post
-read-annotated-sub-read-concept t c = search needs
+read-annotated-sub-read-concept t c = annotated-tabs t c .1
 
 read-annotated-after-requires : (t : ℕ) → read-annotated-lts.Need-after-requires (read-annotated-calls t) (read-annotated-at t) read-annotated.Post
-read-annotated-after-requires t c κs = let notes = annotated-notes t (c .before .before .before) in omega (arith, notes .few, notes .stands .fits .few)
+read-annotated-after-requires t c κs = let notes = annotated-notes t (c .before .before .before .before) in omega (arith, notes .few, notes .stands .fits .few)
 
 read-annotated-read-concept-requires : (t : ℕ) → read-annotated-lts.Need-read-concept-requires (read-annotated-calls t) (read-annotated-at t) read-annotated.Post
 read-annotated-read-concept-requires t c κs =
-    let at-tab-end = c .before .before .before in
-    let at-notes = at-tab-end .before .before in
+    let at-tag = c .before .before .before in
+    let at-notes = at-tag .before .before .before in
     let top = at-notes .before .before .before .before .before .before .before .before .before .before in
+    let tabs = annotated-tabs t at-tag in
     let notes = annotated-notes t at-notes in (
-      omega (arith, top .pre .0, notes .ahead, at-tab-end .tab-end .ensures),
+      omega (arith, top .pre .0, notes .ahead, tabs),
       (
-        annotated.concept-stands notes (at-tab-end .tab-end .ensures) (c .before .after .ensures) (at-notes .before .before .before .before .read-all .kept .1 .1 .0),
-        names-on (top .pre .1 .1) (omega (arith, notes .ahead, at-tab-end .tab-end .ensures .1)),
+        annotated.concept-stands notes tabs (c .before .after .ensures) (at-notes .before .before .before .before .read-notes .kept .1 .1 .1 .0),
+        names-on (top .pre .1 .2) (omega (arith, notes .ahead, tabs .1)),
       ),
     )
 
@@ -276,27 +288,28 @@ read-annotated-same-length-3 t c = search needs
 read-annotated-returns-2 : (t : ℕ) → read-annotated-lts.Need-returns-2 (read-annotated-calls t) (read-annotated-at t) read-annotated.Post
 read-annotated-returns-2 t c =
     let at-read-concept = c .before .before .before .before .before .before in
-    let at-tab-end = at-read-concept .before .before .before .before in (
-      annotated.concept-refused (annotated-notes t (at-tab-end .before .before)) (at-tab-end .tab-end .ensures) (at-read-concept .before .before .after .ensures) _
+    let at-tag = at-read-concept .before .before .before .before in (
+      annotated.concept-refused (annotated-notes t (at-tag .before .before .before)) (annotated-tabs t at-tag) (at-read-concept .before .before .after .ensures) _
           (at-read-concept .read-concept .ensures .0) (c .enum-told2 .given .1),
       refused-names (c .enum-told2 .given .1),
     )
 
-read-annotated-add-t18 : (t : ℕ) → read-annotated-lts.Need-add-t18 (read-annotated-calls t) (read-annotated-at t) read-annotated.Post
-read-annotated-add-t18 t c =
+read-annotated-add-t21 : (t : ℕ) → read-annotated-lts.Need-add-t21 (read-annotated-calls t) (read-annotated-at t) read-annotated.Post
+read-annotated-add-t21 t c =
     let at-read-concept = c .before .before .before .before .before .before .before in
-    let notes = annotated-notes t (at-read-concept .before .before .before .before .before .before) in
+    let at-tag = at-read-concept .before .before .before .before in
+    let notes = annotated-notes t (at-tag .before .before .before) in
     omega (
       arith,
-      annotated.all-few notes (at-read-concept .before .before .before .before .tab-end .ensures) (at-read-concept .before .before .after .ensures) _
-          (at-read-concept .read-concept .ensures .0) (c .before .concept .given .1),
+      annotated.all-few notes (annotated-tabs t at-tag) (at-read-concept .before .before .after .ensures) _ (at-read-concept .read-concept .ensures .0)
+          (c .before .concept .given .1),
       notes .stands .fits .few,
     )
 
-read-annotated-add-t24 : (t : ℕ) → read-annotated-lts.Need-add-t24 (read-annotated-calls t) (read-annotated-at t) read-annotated.Post
-read-annotated-add-t24 t c =
-    let notes =
-    annotated-notes t (c .before .before .before .before .before .before .before .before .before .before .before .before .before) in omega (arith, notes .few, notes .stands .fits .few)
+read-annotated-add-t27 : (t : ℕ) → read-annotated-lts.Need-add-t27 (read-annotated-calls t) (read-annotated-at t) read-annotated.Post
+read-annotated-add-t27 t c =
+    let notes = annotated-notes t (c .before .before .before .before .before .before .before .before .before .before .before .before .before .before) in
+    omega (arith, notes .few, notes .stands .fits .few)
 
 read-annotated-same-length-4 : (t : ℕ) → read-annotated-lts.Need-same-length-4 (read-annotated-calls t) (read-annotated-at t) read-annotated.Post
 read-annotated-same-length-4 t c = search needs
@@ -307,8 +320,8 @@ read-annotated-same-length-5 t c = search needs
 read-annotated-returns-3 : (t : ℕ) → read-annotated-lts.Need-returns-3 (read-annotated-calls t) (read-annotated-at t) read-annotated.Post
 read-annotated-returns-3 t c =
     let at-read-concept = c .before .before .before .before .before .before .before in
-    let at-tab-end = at-read-concept .before .before .before .before in (
-      annotated.annotated-read (annotated-notes t (at-tab-end .before .before)) (at-tab-end .tab-end .ensures) (at-read-concept .before .before .after .ensures) _
+    let at-tag = at-read-concept .before .before .before .before in (
+      annotated.annotated-read (annotated-notes t (at-tag .before .before .before)) (annotated-tabs t at-tag) (at-read-concept .before .before .after .ensures) _
           (at-read-concept .read-concept .ensures .0) (c .before .concept .given .1),
       names-same (at-read-concept .read-concept .ensures .1) (c .before .concept .given .1) refl,
     )
@@ -700,67 +713,30 @@ read-inside-returns-3 t c =
 
 -- ---- read_piece: by what stands behind the tabs; a blank line, or a Concept and the rest of its line
 
--- "<" stands behind the tabs: the Concept that is read there has no annotations
-piece-marked : (t : ℕ) (c : read-piece-lts.After-read-concept (read-piece-calls t) (read-piece-at t) read-piece.Post)
+-- "<" stands behind the tabs, or else the line is not blank, and has only tabs before an annotation or a Concept
+piece-by : (t : ℕ) (c : read-piece-lts.After-read-annotated (read-piece-calls t) (read-piece-at t) read-piece.Post)
     → let start = c .before .before .before .before .before .before .before .before .before .before .args in
-    Behind (byte "<") (start .s .now) (start .at) (start .mark)
-    × ReadsAnnotated (start .table .now) (start .s .now) (start .at) (start .nesting .left) (start .cells .now) (start .slot) (c .read-concept .result)
-    (c .read-concept .last .1 .1 .1 .1 .1 .0)
-piece-marked t c =
-    let top = c .before .before .before .before .before .before .before .before .before .before in
-    let line : Behind (byte "<") (top .args .s .now) (top .args .at) (top .args .mark) =
-    record { run = top .pre .1 .1; starts = sym (c .before .before .before .before .starts-with .ensures) ∙ c .before .before .before .if1 .taken } in
-    (line, unannotated line (top .pre .1 .0) _ (c .read-concept .ensures .0))
-
--- or else the line is not blank, and has only tabs before an annotation or a Concept
-piece-tabs : (t : ℕ) (c : read-piece-lts.After-read-annotated (read-piece-calls t) (read-piece-at t) read-piece.Post)
-    → let start = c .before .before .before .before .before .before .before .before .before .before .before .before .before .before .before .before .before .before .args in
     let room = start .slot .room - start .slot .next in
     let line = drop (start .at) (start .s .now) in
     pieceOf (modesOf (start .table .now)) bounds (start .nesting .left) room line
     ≡ annotatedLine (annotatedOf (modesOf (start .table .now)) bounds (start .nesting .left) room line)
-piece-tabs t c =
-    let at-tabs-only = c .before .before .before .before .before in
-    tabs-passed (at-tabs-only .before .before .before .before .before .before .before .before .before .before .before .before .before .pre .1 .0) _
-    (at-tabs-only .before .before .is-blank-line .ensures) (at-tabs-only .before .if3 .left) _ (at-tabs-only .tabs-only .ensures)
-    (c .before .before .before .enum-told .given .1)
+piece-by t c =
+    let at-if = c .before .before .before in
+    let at-starts-with = at-if .before in
+    let top = at-starts-with .before .before .before .before .before .before in
+    ⊎-elim
+    (λ w. tabs-passed (top .pre .1 .0) _ (w .4 .ensures) (w .5 .left) _ (w .6 .ensures) (w .8 .given .1))
+    (λ w.
+    let line : Behind (byte "<") (top .args .s .now) (top .args .at) (top .args .mark) =
+    record { run = top .pre .1 .1; starts = sym (at-starts-with .starts-with .ensures) ∙ not-false _ (w .left) } in
+    mark-piece line _ _ _)
+    (at-if .if1 .came)
 
 read-piece-slice-aggregate-starts-with : (t : ℕ) → read-piece-lts.Need-slice-aggregate-starts-with (read-piece-calls t) (read-piece-at t) read-piece.Post
 read-piece-slice-aggregate-starts-with t c = search needs
 
 read-piece-starts-with-requires : (t : ℕ) → read-piece-lts.Need-starts-with-requires (read-piece-calls t) (read-piece-at t) read-piece.Post
 read-piece-starts-with-requires t c κs = search needs
-
-read-piece-sub-read-concept : (t : ℕ) → read-piece-lts.Need-sub-read-concept (read-piece-calls t) (read-piece-at t) read-piece.Post
-read-piece-sub-read-concept t c = search needs
-
-read-piece-read-concept-requires : (t : ℕ) → read-piece-lts.Need-read-concept-requires (read-piece-calls t) (read-piece-at t) read-piece.Post
-read-piece-read-concept-requires t c κs =
-    let top = c .before .before .before .before .before .before .before .before .before in (
-      omega (arith, top .pre .0, top .pre .1 .1),
-      (stands-on (top .pre .1 .0) (top .pre .1 .1 .2) (top .pre .1 .0 .fits), names-on (top .pre .1 .2) (omega (arith, top .pre .1 .1 .1))),
-    )
-
-read-piece-end-line-requires : (t : ℕ) → read-piece-lts.Need-end-line-requires (read-piece-calls t) (read-piece-at t) read-piece.Post
-read-piece-end-line-requires t c κs =
-    let marked = piece-marked t (c .before .before .before .before) in
-    ends-in (c .before .before .before .before .before .before .before .before .before .before .before .before .before .before .pre .1 .0) _ (mark-piece (marked .0) _ _ _) (marked .1)
-
-read-piece-same-length : (t : ℕ) → read-piece-lts.Need-same-length (read-piece-calls t) (read-piece-at t) read-piece.Post
-read-piece-same-length t c = c .before .before .before .before .before .read-concept .kept .1 .1 .1 .1 .1 .0
-
-read-piece-same-length-2 : (t : ℕ) → read-piece-lts.Need-same-length-2 (read-piece-calls t) (read-piece-at t) read-piece.Post
-read-piece-same-length-2 t c = c .before .before .before .before .before .read-concept .kept .1 .1 .1 .1 .1 .1 .1 .1 .0
-
-read-piece-returns : (t : ℕ) → read-piece-lts.Need-returns (read-piece-calls t) (read-piece-at t) read-piece.Post
-read-piece-returns t c =
-    let at-read-concept = c .before .before .before .before .before in
-    let top = at-read-concept .before .before .before .before .before .before .before .before .before .before in
-    let marked = piece-marked t at-read-concept in
-    let by = mark-piece (marked .0) _ _ _ in (
-      line-made (top .pre .1 .0) _ by (marked .1) _ (c .end-line .ensures),
-      names-line (ends-in (top .pre .1 .0) _ by (marked .1)) (at-read-concept .read-concept .ensures .1) (c .end-line .ensures),
-    )
 
 read-piece-slice-aggregate-starts-with-2 : (t : ℕ) → read-piece-lts.Need-slice-aggregate-starts-with-2 (read-piece-calls t) (read-piece-at t) read-piece.Post
 read-piece-slice-aggregate-starts-with-2 t c = search needs
@@ -774,8 +750,8 @@ read-piece-add-past t c = search needs
 read-piece-past-requires : (t : ℕ) → read-piece-lts.Need-past-requires (read-piece-calls t) (read-piece-at t) read-piece.Post
 read-piece-past-requires t c κs = search needs
 
-read-piece-returns-2 : (t : ℕ) → read-piece-lts.Need-returns-2 (read-piece-calls t) (read-piece-at t) read-piece.Post
-read-piece-returns-2 t c =
+read-piece-returns : (t : ℕ) → read-piece-lts.Need-returns (read-piece-calls t) (read-piece-at t) read-piece.Post
+read-piece-returns t c =
     let top = c .before .before .before .before .before .before .before .before .before .before .before in
     let line : Behind lf (top .args .s .now) (top .args .at) (top .args .mark) =
     record { run = top .pre .1 .1; starts = sym (c .before .before .starts-with2 .ensures) ∙ c .before .if2 .taken } in (
@@ -789,8 +765,8 @@ read-piece-is-blank-line-requires t c κs = search needs
 read-piece-line-rest-requires : (t : ℕ) → read-piece-lts.Need-line-rest-requires (read-piece-calls t) (read-piece-at t) read-piece.Post
 read-piece-line-rest-requires t c κs = search needs
 
-read-piece-returns-3 : (t : ℕ) → read-piece-lts.Need-returns-3 (read-piece-calls t) (read-piece-at t) read-piece.Post
-read-piece-returns-3 t c =
+read-piece-returns-2 : (t : ℕ) → read-piece-lts.Need-returns-2 (read-piece-calls t) (read-piece-at t) read-piece.Post
+read-piece-returns-2 t c =
     let top = c .before .before .before .before .before .before .before .before .before .before .before .before .before in (
       blank-made (top .pre .1 .0) _ (c .before .before .is-blank-line .ensures) (c .before .if3 .taken) _ (c .line-rest .ensures),
       names-rest (c .line-rest .ensures) (top .pre .1 .0 .in-sheet .inside) (top .pre .1 .2),
@@ -805,38 +781,34 @@ read-piece-enum-told t c = search needs
 read-piece-enum-told-2 : (t : ℕ) → read-piece-lts.Need-enum-told-2 (read-piece-calls t) (read-piece-at t) read-piece.Post
 read-piece-enum-told-2 t c = search needs
 
-read-piece-returns-4 : (t : ℕ) → read-piece-lts.Need-returns-4 (read-piece-calls t) (read-piece-at t) read-piece.Post
-read-piece-returns-4 t c = (
-  tabs-refused (c .before .before .before .before .before .before .before .before .before .before .before .before .before .before .before .pre .1 .0) _
-      (c .before .before .before .before .is-blank-line .ensures) (c .before .before .before .if3 .left) _ (c .before .before .tabs-only .ensures)
-      (c .enum-told2 .given .1),
+read-piece-returns-3 : (t : ℕ) → read-piece-lts.Need-returns-3 (read-piece-calls t) (read-piece-at t) read-piece.Post
+read-piece-returns-3 t c = (
+  tabs-refused (c .before .before .before .before .before .before .before .before .before .before .before .before .before .before .before .pre .1 .0) _ (c .before .before .before .before .is-blank-line .ensures) (c .before .before .before .if3 .left) _
+      (c .before .before .tabs-only .ensures) (c .enum-told2 .given .1),
   refused-names (c .enum-told2 .given .1),
 )
 
 read-piece-read-annotated-requires : (t : ℕ) → read-piece-lts.Need-read-annotated-requires (read-piece-calls t) (read-piece-at t) read-piece.Post
-read-piece-read-annotated-requires t c κs =
-    let top = c .before .before .before .before .before .before .before .before .before .before .before .before .before .before .before .before .before in
-    (omega (arith, top .pre .0), (top .pre .1 .0, top .pre .1 .2))
+read-piece-read-annotated-requires t c κs = let top = c .before .before .before .before .before .before .before .before .before in (omega (arith, top .pre .0), (top .pre .1 .0, top .pre .1 .1, top .pre .1 .2))
 
-read-piece-end-line-requires-2 : (t : ℕ) → read-piece-lts.Need-end-line-requires-2 (read-piece-calls t) (read-piece-at t) read-piece.Post
-read-piece-end-line-requires-2 t c κs =
+read-piece-end-line-requires : (t : ℕ) → read-piece-lts.Need-end-line-requires (read-piece-calls t) (read-piece-at t) read-piece.Post
+read-piece-end-line-requires t c κs =
     let read = c .before .before .before .before in
-    let top = read .before .before .before .before .before .before .before .before .before .before .before .before .before .before .before .before .before .before in
-    ends-in (top .pre .1 .0) _ (piece-tabs t read) (read .read-annotated .ensures .0)
+    let top = read .before .before .before .before .before .before .before .before .before .before in
+    ends-in (top .pre .1 .0) _ (piece-by t read) (read .read-annotated .ensures .0)
 
-read-piece-same-length-3 : (t : ℕ) → read-piece-lts.Need-same-length-3 (read-piece-calls t) (read-piece-at t) read-piece.Post
-read-piece-same-length-3 t c = c .before .before .before .before .before .read-annotated .kept .1 .1 .1 .1 .0
+read-piece-same-length : (t : ℕ) → read-piece-lts.Need-same-length (read-piece-calls t) (read-piece-at t) read-piece.Post
+read-piece-same-length t c = c .before .before .before .before .before .read-annotated .kept .1 .1 .1 .1 .1 .0
 
-read-piece-same-length-4 : (t : ℕ) → read-piece-lts.Need-same-length-4 (read-piece-calls t) (read-piece-at t) read-piece.Post
-read-piece-same-length-4 t c = c .before .before .before .before .before .read-annotated .kept .1 .1 .1 .1 .1 .1 .1 .0
+read-piece-same-length-2 : (t : ℕ) → read-piece-lts.Need-same-length-2 (read-piece-calls t) (read-piece-at t) read-piece.Post
+read-piece-same-length-2 t c = c .before .before .before .before .before .read-annotated .kept .1 .1 .1 .1 .1 .1 .1 .1 .0
 
-read-piece-returns-5 : (t : ℕ) → read-piece-lts.Need-returns-5 (read-piece-calls t) (read-piece-at t) read-piece.Post
-read-piece-returns-5 t c =
+read-piece-returns-4 : (t : ℕ) → read-piece-lts.Need-returns-4 (read-piece-calls t) (read-piece-at t) read-piece.Post
+read-piece-returns-4 t c =
     let read = c .before .before .before .before .before in
-    let top = read .before .before .before .before .before .before .before .before .before .before .before .before .before .before .before .before .before .before in (
-      line-made (top .pre .1 .0) _ (piece-tabs t read) (read .read-annotated .ensures .0) _ (c .end-line2 .ensures),
-      names-line (ends-in (top .pre .1 .0) _ (piece-tabs t read) (read .read-annotated .ensures .0)) (read .read-annotated .ensures .1)
-          (c .end-line2 .ensures),
+    let top = read .before .before .before .before .before .before .before .before .before .before in (
+      line-made (top .pre .1 .0) _ (piece-by t read) (read .read-annotated .ensures .0) _ (c .end-line .ensures),
+      names-line (ends-in (top .pre .1 .0) _ (piece-by t read) (read .read-annotated .ensures .0)) (read .read-annotated .ensures .1) (c .end-line .ensures),
     )
 
 pub +read-annotated+read-block+read-children+read-concept+read-inside+read-piece-spec :
@@ -852,7 +824,7 @@ pub +read-annotated+read-block+read-children+read-concept+read-inside+read-piece
     (λ t. read-annotated-lts.spec (read-annotated-calls t)
     (read-annotated-at t)
     read-annotated.Post
-    (read-annotated-read-all-requires t)
+    (read-annotated-read-notes-requires t)
     (read-annotated-enum-known-notes t)
     (read-annotated-enum-told t)
     (read-annotated-same-length t)
@@ -866,8 +838,8 @@ pub +read-annotated+read-block+read-children+read-concept+read-inside+read-piece
     (read-annotated-same-length-2 t)
     (read-annotated-same-length-3 t)
     (read-annotated-returns-2 t)
-    (read-annotated-add-t18 t)
-    (read-annotated-add-t24 t)
+    (read-annotated-add-t21 t)
+    (read-annotated-add-t27 t)
     (read-annotated-same-length-4 t)
     (read-annotated-same-length-5 t)
     (read-annotated-returns-3 t))
@@ -951,26 +923,20 @@ pub +read-annotated+read-block+read-children+read-concept+read-inside+read-piece
     read-piece.Post
     (read-piece-slice-aggregate-starts-with t)
     (read-piece-starts-with-requires t)
-    (read-piece-sub-read-concept t)
-    (read-piece-read-concept-requires t)
-    (read-piece-end-line-requires t)
-    (read-piece-same-length t)
-    (read-piece-same-length-2 t)
-    (read-piece-returns t)
     (read-piece-slice-aggregate-starts-with-2 t)
     (read-piece-starts-with-requires-2 t)
     (read-piece-add-past t)
     (read-piece-past-requires t)
-    (read-piece-returns-2 t)
+    (read-piece-returns t)
     (read-piece-is-blank-line-requires t)
     (read-piece-line-rest-requires t)
-    (read-piece-returns-3 t)
+    (read-piece-returns-2 t)
     (read-piece-tabs-only-requires t)
     (read-piece-enum-told t)
     (read-piece-enum-told-2 t)
-    (read-piece-returns-4 t)
+    (read-piece-returns-3 t)
     (read-piece-read-annotated-requires t)
-    (read-piece-end-line-requires-2 t)
-    (read-piece-same-length-3 t)
-    (read-piece-same-length-4 t)
-    (read-piece-returns-5 t)
+    (read-piece-end-line-requires t)
+    (read-piece-same-length t)
+    (read-piece-same-length-2 t)
+    (read-piece-returns-4 t)
