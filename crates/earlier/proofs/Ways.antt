@@ -94,7 +94,8 @@ module _ (s : List ℕ) (first : ℕ) (x w : List ℕ) (some : 0 < length x) whe
   search-falls cell next r n e = omega (arith, steps-left cell r, steps-left next n, e, n .way .once)
 
   -- one step further, past a taken cell with another name, where a cell is free: to the next cell, or from the last one to the first
-  module _ (cell : ℕ) (r : Reached s first x w cell) (taken : first ≤ getD x cell 0) (other : same (nameAt s (getD x cell 0)) w ≡ false) (c : ℕ) (within : c < length x) (free : getD x c 0 < first) where
+  module _ (cell : ℕ) (r : Reached s first x w cell) (taken : first ≤ getD x cell 0) (other : same (nameAt s (getD x cell 0)) w ≡ false) (c : ℕ)
+      (within : c < length x) (free : getD x c 0 < first) where
     taken-on : (j : ℕ) → h ≤ j → j < r .step + 1 → first ≤ startAt x j
     taken-on j l g =
         upTo (j + 1) (r .step) (λ k. r .way .taken j l (omega arith)) (λ k. let e : j ≡ r .step = omega arith in rw (e, says-here cell r) taken)

@@ -217,7 +217,8 @@ annotated-notes : (t : ℕ) (c : read-annotated-lts.After-notes (read-annotated-
     annotated.NotesAt (start .table .now) (start .index .now) (start .s .now) (start .at) (start .cells .now) (start .slot)
     (c .before .before .before .before .read-notes .last .1 .1 .1 .0) (c .notes .given .0 .0) (c .notes .given .0 .1 .0)
 annotated-notes t c =
-    annotated.notes-at (c .before .before .before .before .before .before .before .before .before .before .pre .1 .0) (c .before .before .before .before .read-notes .ensures) (c .notes .given .1)
+    annotated.notes-at (c .before .before .before .before .before .before .before .before .before .before .pre .1 .0)
+    (c .before .before .before .before .read-notes .ensures) (c .notes .given .1)
 
 -- the tabs of the Concept's line end where it is due
 annotated-tabs : (t : ℕ) (c : read-annotated-lts.After-row-known (read-annotated-calls t) (read-annotated-at t) read-annotated.Post)
@@ -246,7 +247,8 @@ read-annotated-same-length t c = search needs
 
 read-annotated-returns : (t : ℕ) → read-annotated-lts.Need-returns (read-annotated-calls t) (read-annotated-at t) read-annotated.Post
 read-annotated-returns t c = (
-  annotated.notes-refused (c .before .before .before .before .before .before .before .before .before .before .pre .1 .0) (c .before .before .before .before .read-notes .ensures) _ (c .enum-told .given .1),
+  annotated.notes-refused (c .before .before .before .before .before .before .before .before .before .before .pre .1 .0)
+      (c .before .before .before .before .read-notes .ensures) _ (c .enum-told .given .1),
   refused-names (c .enum-told .given .1),
 )
 
@@ -330,7 +332,8 @@ read-annotated-returns-3 t c =
 
 -- the rest of the line, and the children behind it
 block-rest : (t : ℕ) (c : read-block-lts.After-rest (read-block-calls t) (read-block-at t) read-block.Post)
-    → RestAt (c .before .before .before .before .before .before .before .args .s .now) (c .before .before .before .before .before .before .before .args .at) (c .rest .given .0 .0)
+    → RestAt (c .before .before .before .before .before .before .before .args .s .now) (c .before .before .before .before .before .before .before .args .at)
+    (c .rest .given .0 .0)
 block-rest t c =
     rest-at _ _ _ _ _ _ (c .before .before .before .before .before .before .before .pre .1 .0 .in-sheet .inside) (c .before .before .line-rest .ensures) (c .rest .given .1)
 
@@ -342,7 +345,8 @@ block-body : (t : ℕ) (c : read-block-lts.After-body (read-block-calls t) (read
 block-body t c =
     let at-read-children = c .before .before .before .before .before .before in
     let at-rest = at-read-children .before .before .before .before in
-    block.body-at (at-rest .before .before .before .before .before .before .before .pre .1 .0) _ _ (block-rest t at-rest) (at-read-children .read-children .ensures .0) (c .body .given .1)
+    block.body-at (at-rest .before .before .before .before .before .before .before .pre .1 .0) _ _ (block-rest t at-rest)
+    (at-read-children .read-children .ensures .0) (c .body .given .1)
 
 read-block-line-rest-requires : (t : ℕ) → read-block-lts.Need-line-rest-requires (read-block-calls t) (read-block-at t) read-block.Post
 read-block-line-rest-requires t c κs = search needs
@@ -529,7 +533,8 @@ read-children-returns-2 : (t : ℕ)
 read-children-returns-2 t c =
     let at-read-piece = c .before .before .before .before .before .before in
     let at-if = at-read-piece .before .before .before .before in (
-      pieces-refused (at-if .before .before .before .before .loop .inv .0) (at-if .before .before .before .tab-end .ensures) (at-if .before .starts-with .ensures) (at-if .if1 .left)
+      pieces-refused (at-if .before .before .before .before .loop .inv .0) (at-if .before .before .before .tab-end .ensures)
+          (at-if .before .starts-with .ensures) (at-if .if1 .left)
           (at-read-piece .before .before .after .ensures) (at-read-piece .read-piece .ensures .0) (c .enum-told .given .1),
       refused-names (c .enum-told .given .1),
     )
@@ -783,13 +788,16 @@ read-piece-enum-told-2 t c = search needs
 
 read-piece-returns-3 : (t : ℕ) → read-piece-lts.Need-returns-3 (read-piece-calls t) (read-piece-at t) read-piece.Post
 read-piece-returns-3 t c = (
-  tabs-refused (c .before .before .before .before .before .before .before .before .before .before .before .before .before .before .before .pre .1 .0) _ (c .before .before .before .before .is-blank-line .ensures) (c .before .before .before .if3 .left) _
+  tabs-refused (c .before .before .before .before .before .before .before .before .before .before .before .before .before .before .before .pre .1 .0) _
+      (c .before .before .before .before .is-blank-line .ensures) (c .before .before .before .if3 .left) _
       (c .before .before .tabs-only .ensures) (c .enum-told2 .given .1),
   refused-names (c .enum-told2 .given .1),
 )
 
 read-piece-read-annotated-requires : (t : ℕ) → read-piece-lts.Need-read-annotated-requires (read-piece-calls t) (read-piece-at t) read-piece.Post
-read-piece-read-annotated-requires t c κs = let top = c .before .before .before .before .before .before .before .before .before in (omega (arith, top .pre .0), (top .pre .1 .0, top .pre .1 .1, top .pre .1 .2))
+read-piece-read-annotated-requires t c κs =
+    let top = c .before .before .before .before .before .before .before .before .before in
+    (omega (arith, top .pre .0), (top .pre .1 .0, top .pre .1 .1, top .pre .1 .2))
 
 read-piece-end-line-requires : (t : ℕ) → read-piece-lts.Need-end-line-requires (read-piece-calls t) (read-piece-at t) read-piece.Post
 read-piece-end-line-requires t c κs =
