@@ -1,22 +1,21 @@
--- Entries that stand in the cells: the first of them, those before and those behind a place, which kinds they have, and that those which are laid
--- stand. Over plain lists. Assumes nothing.
+-- Entries that stand in the cells: the first of them, those before and those behind a place, and which kinds they have.
+-- Over plain lists. Assumes nothing.
 use Prim.Native.Nat.{ℕ, suc, _+_, _*_, _/_, _≤_, _<_}
 use mathlib.Core.Path.{_≡_, refl, sym, ap, _∙_}
 use mathlib.Core.Bool.{Bool, true}
 use mathlib.Core.List.{List, [], _∷_, _++_, append-assoc}
 use native.Mathlib.Omega.{arith}
-use lib.ListN.{length, take, drop, getD, set, length-append, length-drop}
-use lib.Seq.{sets, sets-eq, getD-set-other, length-take-le, drop-at, drop-drop, drop-append-seam}
+use lib.ListN.{length, drop, length-append, length-drop}
+use lib.Seq.{drop-drop, drop-append-seam}
 use lib.Dec.{leb, eqb}
 use borrow.Author.Tests.{leb-true, leb-false, eqb-true, eq-eqb}
 use Rattle.paper.specs.Bytes.{all}
 use Rattle.paper.specs.Values.{opener, Value, leaf, emptyBracket, bracket, More, close, comma}
 use Rattle.paper.specs.Entries.{Entry, entryCells, allCells, itemEntries, moreEntries, itemSize, valueWidth, labelWidth}
-use Rattle.paper.specs.View.{cellOf}
 use Rattle.paper.proofs.Tests.{split, true-false}
 use Rattle.paper.proofs.Lists.{all-head, all-append}
-use Rattle.entries.specs.Laid.{lay, entryAt, Stand, kindAt}
-use Rattle.entries.proofs.Laying.{cells-length, cells-append, lay-length}
+use Rattle.entries.specs.Laid.{entryAt, Stand, kindAt}
+use Rattle.entries.proofs.Laying.{cells-length, cells-append}
 use Rattle.entries.proofs.Getting.{at-none, at-drop}
 
 module _ (cells : List ℕ) (n : ℕ) (es fs : List Entry) where
@@ -87,45 +86,3 @@ mutual
       let start = at + 1 + length white + labelWidth a in
       all-append (ofKind 3) (itemEntries next (next + 1) start v) (moreEntries parent (next + 1 + itemSize v) (start + valueWidth v) more)
       (item-kinds v next (next + 1) start) (more-kinds more parent (next + 1 + itemSize v) (start + valueWidth v))
-
--- ---- entries that were laid
-
--- they stand where they were laid
-pub laid-stands : (cells : List ℕ) (n : ℕ) (es : List Entry) → (n + length es) * entryCells ≤ length cells → Stand (lay cells n es) n es
-unfolding lay
-laid-stands cells n es h =
-    let own : List ℕ = allCells es in
-    let at : ℕ = n * entryCells in
-    let fits : at + length own ≤ length cells = omega (arith, cells-length es) in
-    let front : length (take at cells) ≡ at = length-take-le at cells (omega (arith, fits)) in
-    let rest : List ℕ = drop (at + length own) cells in
-    record {
-      rest = rest;
-      held = rw (sets-eq own cells at fits, append-assoc (take at cells) own rest) (drop-at (take at cells) (own ++ rest) at front);
-    }
-
--- a cell in front of a run of stores stays
-sets-below : (b l : List ℕ) (k i : ℕ) → i < k → getD (sets l k b) i 0 ≡ getD l i 0
-sets-below [] l k i h = refl
-sets-below (y ∷ b) l k i h = sets-below b (set l k y) (suc k) i (omega arith) ∙ getD-set-other l k i y 0 (λ e. omega arith)
-
-cell-below : (cells : List ℕ) (n : ℕ) (es : List Entry) (m : ℕ) → m < n → (i : ℕ) → i < entryCells → cellOf (lay cells n es) m i ≡ cellOf cells m i
-unfolding lay
-cell-below cells n es m h i l = sets-below (allCells es) cells (n * entryCells) (entryCells * m + i) (omega arith)
-
--- and so does an entry in front of those that are laid
-pub laid-below : (cells : List ℕ) (n : ℕ) (es : List Entry) (m : ℕ) → m < n → entryAt (lay cells n es) m ≡ entryAt cells m
-unfolding entryAt
-laid-below cells n es m h =
-    let stays : (i : ℕ) → i < entryCells → cellOf (lay cells n es) m i ≡ cellOf cells m i = cell-below cells n es m h in
-    rw (
-      lay-length cells n es,
-      stays 0 (omega arith),
-      stays 1 (omega arith),
-      stays 2 (omega arith),
-      stays 3 (omega arith),
-      stays 4 (omega arith),
-      stays 5 (omega arith),
-      stays 6 (omega arith),
-      stays 7 (omega arith),
-    )

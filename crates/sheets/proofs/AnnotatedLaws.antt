@@ -148,9 +148,6 @@ module _ {table index s : List ℕ} {at : ℕ} {cells : List ℕ} {slot : Slot} 
           found-at conceptSize (λ c. 1) s r _ mark reading end inside mine (made-concept .says)
           (concept-reads m bounds (length (drop mark s) + 1) deeper (room - length noted) tabs (drop mark s)) (run .2) e
 
-      pub own-one : mine ≡ 1
-      own-one = sym (the-concept .owned)
-
       pub all-few : slot .next + made + inside ≤ slot .room
       all-few = omega (arith, n .few, n .many, the-concept .many, the-concept .holds .fits)
 

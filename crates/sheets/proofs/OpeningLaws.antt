@@ -233,13 +233,14 @@ module _ {s : List ℕ} {start to : ℕ} {cells : List ℕ} {slot : Slot} {after
       (known .finds ∙ ap (markedBy (known .it)) (at .0))
       (sym (known .many)) (sym (known .owned)) (known .laid) (u, known .wide, refl)
 
-  -- an index of names where the traits end lies before the marker's end
-  pub marker-names : (e : Ends) {last : ℕ} → a ≡ endAs e last → {end : ℕ} {x : List ℕ} → NamesBefore s (end + 1) x → end ≤ mark
-      → {t : Part} → t ≡ Read last made own → NamesOnward s t x
-  marker-names e {last} g lies h q stop more mine p =
-      let at = end-found s mark (known .inside) a says e last g in
-      let same : last ≡ stop = cc in
-      names-on lies (omega (arith, at .2))
+-- an index of names that lies before its ending lies before its end
+pub marker-names : {s : List ℕ} {mark : ℕ} {x : List ℕ} → NamesBefore s (mark + 1) x → mark ≤ length s → (a : Ending)
+    → ended a ≡ endedOf s (ending (drop mark s)) → (e : Ends) {last : ℕ} → a ≡ endAs e last
+    → {t : Part} {made own : ℕ} → t ≡ Read last made own → NamesOnward s t x
+marker-names {s} {mark} lies h a says e {last} g q stop more mine p =
+    let at = end-found s mark h a says e last g in
+    let same : last ≡ stop = cc in
+    names-on lies (omega (arith, at .2))
 
 -- ---- a name that is judged by nesting, table and room
 

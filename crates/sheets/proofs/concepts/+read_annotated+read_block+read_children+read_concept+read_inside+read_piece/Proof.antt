@@ -492,7 +492,8 @@ read-children-returns t c =
 read-children-after-requires : (t : ℕ)
     → read-children-lts.Need-after-requires (read-children-calls t) (read-children-at t) read-children.Post read-children-Inv-loop read-children-μ-loop
 read-children-after-requires t c κs =
-    omega (arith, c .before .before .before .before .before .loop .inv .0 .few, c .before .before .before .before .before .before .before .before .before .before .pre .1 .0 .fits .few)
+    let at-loop = c .before .before .before .before .before in
+    omega (arith, at-loop .loop .inv .0 .few, at-loop .before .before .before .before .before .pre .1 .0 .fits .few)
 
 read-children-read-piece-requires : (t : ℕ)
     → read-children-lts.Need-read-piece-requires (read-children-calls t) (read-children-at t) read-children.Post read-children-Inv-loop read-children-μ-loop
@@ -655,9 +656,10 @@ read-concept-returns t c = (
 
 read-concept-same-length-3 : (t : ℕ) → read-concept-lts.Need-same-length-3 (read-concept-calls t) (read-concept-at t) read-concept.Post
 read-concept-same-length-3 t c =
+    let at-read-inside = c .before .before .before .before .before .before .before .before in
     c .before .before .end-concept .kept .1 .1 .1 .1 .1 .1 .0
-    ∙ c .before .before .before .before .before .before .before .before .read-inside .kept .1 .1 .1 .1 .1 .1 .1 .1 .0
-    ∙ c .before .before .before .before .before .before .before .before .before .before .before .before .before .before .before .before .before .before .before .before .read-opening .kept .1 .1 .1 .1 .0
+    ∙ at-read-inside .read-inside .kept .1 .1 .1 .1 .1 .1 .1 .1 .0
+    ∙ at-read-inside .before .before .before .before .before .before .before .before .before .before .before .before .read-opening .kept .1 .1 .1 .1 .0
 
 read-concept-same-length-4 : (t : ℕ) → read-concept-lts.Need-same-length-4 (read-concept-calls t) (read-concept-at t) read-concept.Post
 read-concept-same-length-4 t c = search needs

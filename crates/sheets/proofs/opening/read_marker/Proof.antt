@@ -1,7 +1,10 @@
 -- A law for each way out: the room, the traits, the ending.
+use Prim.Native.Nat.{_+_}
 use mathlib.Core.Path.{refl, ap}
+use native.Mathlib.Omega.{arith}
 use Rattle.paper.specs.Tree.{block, self}
 use Rattle.entries.proofs.Slots.{fits-under}
+use Rattle.sheets.specs.Traits.{NamesBefore}
 use Rattle.sheets.specs.Opening.{partOf}
 use Rattle.sheets.proofs.NameIndex.{names-on}
 use Rattle.sheets.proofs.TraitRuns.{refused-names}
@@ -23,6 +26,14 @@ traits c =
     marker-traits (top .pre .0) (top .pre .2) (top .pre .1) (top .args .block) (at-if .before .is-full .ensures) (at-if .if1 .left)
     (at-read-traits .before .before .under .ensures) (at-read-traits .read-traits .ensures .0) (c .before .before .before .end .given .1)
     (c .before .white-end .ensures)
+
+-- every start in the index of names lies before the ending
+lies : (c : tie.After-read-ending) → let at-read-traits = c .before .before .before .before .before .before .before .before .before in
+    NamesBefore (at-read-traits .before .before .before .before .before .before .before .before .before .args .s .now) (c .before .white-end .result + 1) (at-read-traits .read-traits .last .1 .1 .1 .1 .0)
+lies c =
+    let at-end = c .before .before .before in
+    let at-read-traits = at-end .before .before .before .before .before .before in
+    names-on (at-read-traits .read-traits .ensures .1 _ _ _ (at-end .end .given .1)) (omega (arith, c .before .white-end .ensures .1))
 
 is-full-requires : tie.Need-is-full-requires
 is-full-requires c κs = search needs
@@ -46,8 +57,7 @@ read-traits-requires c κs =
     let top = at-is-full .before .before .before .before in (
       top .pre .0,
       fits-under (top .pre .2) (at-is-full .is-full .ensures) (c .before .before .before .if1 .left) (c .before .under .ensures),
-      names-on
-          (top .pre .3) (top .pre .1),
+      names-on (top .pre .3) (top .pre .1),
     )
 
 enum-known-refusal : tie.Need-enum-known-refusal
@@ -120,14 +130,10 @@ same-length-6 c = search needs
 
 returns-4 : tie.Need-returns-4
 returns-4 c =
-    let at-white-end = c .before .before .before .before in
-    let at-end = at-white-end .before .before in
-    let at-read-traits = at-end .before .before .before .before .before .before in
-    let top = at-read-traits .before .before .before .before .before .before .before .before .before in (
-      marker-read (traits (c .before .before .before)) _ _ (c .before .before .before .read-ending .ensures) self (c .before .end2 .given .1) refl refl,
-      marker-names (traits (c .before .before .before)) (top .args .block) _ (c .before .before .before .read-ending .ensures) self (c .before .end2 .given .1)
-          (at-read-traits .read-traits .ensures .1 _ _ _ (at-end .end .given .1)) (at-white-end .white-end .ensures .1) refl,
-    )
+    let at-ending = c .before .before .before in
+    let ends = at-ending .read-ending .ensures in
+    let is = c .before .end2 .given .1 in
+    (marker-read (traits at-ending) _ _ ends self is refl refl, marker-names (lies at-ending) (traits at-ending .inside) _ ends self is refl)
 
 same-length-7 : tie.Need-same-length-7
 same-length-7 c = search needs
@@ -137,14 +143,10 @@ same-length-8 c = search needs
 
 returns-5 : tie.Need-returns-5
 returns-5 c =
-    let at-white-end = c .before .before .before .before in
-    let at-end = at-white-end .before .before in
-    let at-read-traits = at-end .before .before .before .before .before .before in
-    let top = at-read-traits .before .before .before .before .before .before .before .before .before in (
-      marker-read (traits (c .before .before .before)) _ _ (c .before .before .before .read-ending .ensures) block (c .before .end3 .given .1) refl refl,
-      marker-names (traits (c .before .before .before)) (top .args .block) _ (c .before .before .before .read-ending .ensures) block (c .before .end3 .given .1)
-          (at-read-traits .read-traits .ensures .1 _ _ _ (at-end .end .given .1)) (at-white-end .white-end .ensures .1) refl,
-    )
+    let at-ending = c .before .before .before in
+    let ends = at-ending .read-ending .ensures in
+    let is = c .before .end3 .given .1 in
+    (marker-read (traits at-ending) _ _ ends block is refl refl, marker-names (lies at-ending) (traits at-ending .inside) _ ends block is refl)
 
 pub read-marker-spec : {M : Type 1} → statement M
 read-marker-spec =

@@ -170,7 +170,8 @@ returns-4 c =
 
 add-made : tie.Need-add-made Inv-loop μ-loop
 add-made c =
-    let top = c .before .before .before .before .before .before .before .before .before .before .before .before .before .before .before .before .before .before .before .before .before .before in
+    let at-loop = c .before .before .before .before .before .before .before .before .before .before .before .before .before .before .before .before .before .before in
+    let top = at-loop .before .before .before .before in
     omega (arith, ahead (c .before), top .pre .1 .few)
 
 add-own : tie.Need-add-own Inv-loop μ-loop
