@@ -15,7 +15,6 @@
 static const char help[] =
     "cdx add -t TABLE ROLL [SHEET..]      adds sheets to a roll, in canonical form\n"
     "cdx add -t TABLE -n ROLL [SHEET..]   makes a new roll of them\n"
-    "cdx add -g ..                        the same for guests' sheets\n"
     "\n"
     "All sheets are added or none: where one is refused the roll stays as it is. A\n"
     "new file takes the place of the old one, with its owner and its mode, so that\n"
@@ -28,8 +27,7 @@ static const char help[] =
     "taken for a roll. Nor is one that reads as a single sheet and does not end in an\n"
     "empty line, as rolls do, unless -f says that it is a roll.\n"
     "\n"
-    "TABLE is a mode table or its text. With -g there is none, and a body holds what\n"
-    "its layout shows. No SHEET, or `-`, is standard input.\n"
+    "TABLE is a mode table or its text. No SHEET, or `-`, is standard input.\n"
     "Status 1 if a sheet or the roll is refused, 2 for wrong use, or if a file could\n"
     "not be read or written.\n"
     "\n"
@@ -67,15 +65,15 @@ static bool ends_in_empty_line(void)
 }
 
 /* Whether the roll's file, as a whole, reads as a sheet. */
-static bool reads_as_sheet(const struct given *given)
+static bool reads_as_sheet(const struct table *table)
 {
     uint32_t answer[CDX_ANSWER];
-    sheet_answer(given, roll.bytes, roll.length, roll.cells, CDX_MAX_CELLS, answer);
+    cdx_sheet(table->bytes, table->length, roll.bytes, roll.length, roll.cells, CDX_MAX_CELLS, answer);
     return answer[0] == CDX_OK;
 }
 
 /* Reads the roll's file, where it is one. A new roll has no file yet, and begins empty. */
-static enum status take_roll(const struct request *request, const struct given *given)
+static enum status take_roll(const struct request *request, const struct table *table)
 {
     const char *file = request->files[0];
     roll.name = file;
@@ -89,18 +87,18 @@ static enum status take_roll(const struct request *request, const struct given *
         return wrong_roll("is not there; -n makes a new roll");
     if (!is_regular(file) || !load_roll(file, &roll))
         return FAILED;
-    if (!request->as_roll && !ends_in_empty_line() && reads_as_sheet(given))
+    if (!request->as_roll && !ends_in_empty_line() && reads_as_sheet(table))
         return wrong_roll("reads as a single sheet, and ROLL comes first; -f takes it for a roll");
     return ALL_WELL;
 }
 
 /* Reads the roll, and finds whether it can be added to at all and so many sheets may still come to it. */
-static enum status look_at_roll(const struct request *request, const struct given *given, size_t sheets)
+static enum status look_at_roll(const struct request *request, const struct table *table, size_t sheets)
 {
-    enum status status = take_roll(request, given);
+    enum status status = take_roll(request, table);
     if (status != ALL_WELL)
         return status;
-    if (!read_roll(given, &roll))
+    if (!read_roll(table, &roll))
         return refuse_roll(stderr, &roll);
     if (sheets <= CDX_MAX_SHEETS - roll.answer[2])
         return ALL_WELL;
@@ -123,7 +121,7 @@ static struct request sheets_of(const struct request *request)
 }
 
 /* Says why a sheet is not added. Two refusals are about the roll. */
-static enum status refuse_to_add(const struct given *given, const struct sheet *sheet)
+static enum status refuse_to_add(const struct table *table, const struct sheet *sheet)
 {
     switch (sheet->answer[0]) {
     case CDX_NO_ROOM:
@@ -135,31 +133,32 @@ static enum status refuse_to_add(const struct given *given, const struct sheet *
                       "the roll lacks its last line end");
         return REFUSED;
     default:
-        return refuse_sheet(stderr, given, sheet);
+        return refuse_sheet(stderr, table, sheet);
     }
 }
 
 /* Adds a sheet to the roll, or to those that are to come to it. */
-static enum status add(const struct given *given, struct sheet *sheet, struct roll *to)
+static enum status add(const struct table *table, struct sheet *sheet, struct roll *to)
 {
-    adding_answer(given, sheet->bytes, sheet->length, to->bytes, CDX_MAX_ROLL, to->length, sheet->cells, CDX_MAX_CELLS, sheet->answer);
+    cdx_add(table->bytes, table->length, sheet->bytes, sheet->length, to->bytes, CDX_MAX_ROLL, to->length, sheet->cells, CDX_MAX_CELLS,
+            sheet->answer);
     if (sheet->answer[0] != CDX_OK)
-        return refuse_to_add(given, sheet);
+        return refuse_to_add(table, sheet);
     to->length = sheet->answer[2];
     return ALL_WELL;
 }
 
 /* Lays a sheet out behind those that are to come to the roll. */
-static enum status lay_out(const struct request *request, const struct given *given, struct sheet *sheet)
+static enum status lay_out(const struct request *request, const struct table *table, struct sheet *sheet)
 {
     (void)request;
-    enum status status = add(given, sheet, &more);
+    enum status status = add(table, sheet, &more);
     ends[laid_out++] = more.length;
     return status;
 }
 
 /* Adds all that was laid out to the roll. */
-static enum status add_all(const struct given *given, const struct request *sheets)
+static enum status add_all(const struct table *table, const struct request *sheets)
 {
     static struct sheet sheet;
     size_t start = 0;
@@ -167,7 +166,7 @@ static enum status add_all(const struct given *given, const struct request *shee
         sheet.name = called(sheets->files[number]);
         sheet.length = ends[number] - start;
         memcpy(sheet.bytes, more.bytes + start, sheet.length);
-        enum status status = add(given, &sheet, &roll);
+        enum status status = add(table, &sheet, &roll);
         if (status != ALL_WELL)
             return status;
         start = ends[number];
@@ -178,12 +177,12 @@ static enum status add_all(const struct given *given, const struct request *shee
 /* ---- Both */
 
 /* Adds what was laid out to the roll as it is now: since it was looked at first, others may have added to it, or made it. */
-static enum status grow(const struct request *request, const struct given *given, const struct request *sheets)
+static enum status grow(const struct request *request, const struct table *table, const struct request *sheets)
 {
     const char *file = request->files[0];
-    enum status status = look_at_roll(request, given, sheets->count);
+    enum status status = look_at_roll(request, table, sheets->count);
     if (status == ALL_WELL)
-        status = add_all(given, sheets);
+        status = add_all(table, sheets);
     if (status != ALL_WELL)
         return status;
     bool written = request->is_new ? make_file(file, roll.bytes, roll.length) : replace(file, roll.bytes, roll.length);
@@ -191,12 +190,12 @@ static enum status grow(const struct request *request, const struct given *given
 }
 
 /* The same while nobody else adds to the roll, which is there. */
-static enum status grow_alone(const struct request *request, const struct given *given, const struct request *sheets)
+static enum status grow_alone(const struct request *request, const struct table *table, const struct request *sheets)
 {
     struct lock lock;
     if (!lock_roll(request->files[0], &lock))
         return FAILED;
-    enum status status = grow(request, given, sheets);
+    enum status status = grow(request, table, sheets);
     unlock_roll(&lock);
     return status;
 }
@@ -216,18 +215,18 @@ static const char *wrong_with(const struct request *request)
 
 /* Sheets may take long to come, as from a terminal. So nobody is kept out while they do, and nothing is written before all are there;
  * but what is wrong with the roll is told first. */
-static enum status run(const struct request *request, const struct given *given)
+static enum status run(const struct request *request, const struct table *table)
 {
     struct request sheets = sheets_of(request);
-    enum status status = look_at_roll(request, given, sheets.count);
+    enum status status = look_at_roll(request, table, sheets.count);
     if (status == ALL_WELL)
-        status = for_each_sheet(&sheets, given, lay_out);
+        status = for_each_sheet(&sheets, table, lay_out);
     if (status == ALL_WELL)
-        status = request->is_new ? grow(request, given, &sheets) : grow_alone(request, given, &sheets);
+        status = request->is_new ? grow(request, table, &sheets) : grow_alone(request, table, &sheets);
     if (status != ALL_WELL)
         return status;
     print_added(sheets.count);
     return is_written() ? ALL_WELL : FAILED;
 }
 
-const struct command add_command = {"add", ":fghnt:", help, wrong_with, run};
+const struct command add_command = {"add", ":fhnt:", help, wrong_with, run};

@@ -8,15 +8,11 @@
 
 static const char help[] =
     "cdx check -t TABLE [FILE..]   says of each sheet whether it is in order\n"
-    "cdx check -g [FILE..]         the same for guests' sheets, which have no mode table\n"
     "\n"
     "Each sheet has a line on standard output: how many entries it has; or line and column,\n"
     "the number of the refusal and what it means, and below it the line, with a caret under\n"
     "the place. Of a trait that stands twice it tells both places. A column is a character:\n"
     "a tab is one, a wide character is one.\n"
-    "\n"
-    "With -g a body holds Concepts where a line of it begins with < or [ exactly one tab\n"
-    "deeper than the marker, or where it is empty; else it holds text.\n"
     "\n"
     "TABLE is a mode table or its text. No FILE, or `-`, is standard input.\n"
     "Status 1 if a sheet is refused, 2 if a file could not be read.\n"
@@ -24,11 +20,11 @@ static const char help[] =
     "\n"
     "Example: cdx check -t course.txt sheets/*.cdx\n";
 
-static enum status check(const struct request *request, const struct given *given, struct sheet *sheet)
+static enum status check(const struct request *request, const struct table *table, struct sheet *sheet)
 {
     (void)request;
-    if (!read_sheet(given, sheet))
-        return refuse_sheet(stdout, given, sheet);
+    if (!read_sheet(table, sheet))
+        return refuse_sheet(stdout, table, sheet);
     print_name(stdout, sheet->name);
     fputs(": ", stdout);
     print_entries(stdout, sheet->answer[2]);
@@ -42,9 +38,9 @@ static const char *wrong_with(const struct request *request)
     return NULL;
 }
 
-static enum status run(const struct request *request, const struct given *given)
+static enum status run(const struct request *request, const struct table *table)
 {
-    return for_each_sheet(request, given, check);
+    return for_each_sheet(request, table, check);
 }
 
-const struct command check_command = {"check", ":ght:", help, wrong_with, run};
+const struct command check_command = {"check", ":ht:", help, wrong_with, run};

@@ -16,7 +16,6 @@ enum status {
 /* What is asked of a command. An option that was not given is NULL or false. */
 struct request {
     const char *table; /* -t */
-    bool is_guest;     /* -g */
     bool as_text;      /* -d */
     bool in_place;     /* -w */
     bool list;         /* -l */
@@ -26,15 +25,15 @@ struct request {
     size_t count;
 };
 
-struct given;
+struct table;
 
-/* A command with -t is run with that table or, by -g, with none; a command without -t finds no table in what is given. */
+/* A command with -t is run under that table; for one without, the table is NULL. */
 struct command {
     const char *name;
     const char *options; /* for getopt */
     const char *help;
     const char *(*wrong_with)(const struct request *request); /* what is wrong with a request, or NULL */
-    enum status (*run)(const struct request *request, const struct given *given);
+    enum status (*run)(const struct request *request, const struct table *table);
 };
 
 extern const struct command table_command, check_command, show_command, format_command, roll_command, add_command;

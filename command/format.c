@@ -11,13 +11,11 @@ static const char help[] =
     "cdx format -t TABLE [FILE]      prints the canonical form of a sheet\n"
     "cdx format -t TABLE -w FILE..   puts the form of each sheet in its place\n"
     "cdx format -t TABLE -l FILE..   names the files that are not in their form; with -w too\n"
-    "cdx format -g ..                the same for guests' sheets, which have no mode table\n"
     "\n"
     "With -w a new file takes the place of the old one, with its owner and its mode; nothing\n"
     "is written where nothing changes, and a sheet that is refused stays as it is.\n"
     "\n"
-    "TABLE is a mode table or its text. With -g there is none, and a body holds what its\n"
-    "layout shows. No FILE, or `-`, is standard input.\n"
+    "TABLE is a mode table or its text. No FILE, or `-`, is standard input.\n"
     "Status 1 if a sheet is refused, 2 if a file could not be read or written.\n"
     "docs/FORMAT.md tells what the form is.\n"
     "\n"
@@ -28,11 +26,11 @@ static bool is_changed(const struct sheet *sheet, const struct form *form)
     return sheet->length != form->length || memcmp(sheet->bytes, form->bytes, form->length) != 0;
 }
 
-static enum status format(const struct request *request, const struct given *given, struct sheet *sheet)
+static enum status format(const struct request *request, const struct table *table, struct sheet *sheet)
 {
     static struct form form;
-    if (!write_form(given, sheet, &form))
-        return refuse_sheet(stderr, given, sheet);
+    if (!write_form(table, sheet, &form))
+        return refuse_sheet(stderr, table, sheet);
     if (!request->list && !request->in_place)
         fwrite(form.bytes, 1, form.length, stdout);
     else if (is_changed(sheet, &form)) {
@@ -54,9 +52,9 @@ static const char *wrong_with(const struct request *request)
     return NULL;
 }
 
-static enum status run(const struct request *request, const struct given *given)
+static enum status run(const struct request *request, const struct table *table)
 {
-    return for_each_sheet(request, given, format);
+    return for_each_sheet(request, table, format);
 }
 
-const struct command format_command = {"format", ":ght:lw", help, wrong_with, run};
+const struct command format_command = {"format", ":ht:lw", help, wrong_with, run};

@@ -4,8 +4,8 @@
 
 #include "command.h"
 #include "files.h"
-#include "given.h"
 #include "glyphs.h"
+#include "tables.h"
 
 #include <fcntl.h>
 #include <signal.h>
@@ -17,8 +17,7 @@
 static const char overview[] =
     "cdx reads Codex sheets, writes their canonical form, and keeps them in rolls.\n"
     "\n"
-    "  cdx table [FILE]              a mode table from its text; -d: its text again;\n"
-    "                                -g SHEET..: the text of one for guests' sheets\n"
+    "  cdx table [FILE]              a mode table from its text; -d: its text again\n"
     "  cdx check -t TABLE [FILE..]   whether sheets are in order, or what is wrong where\n"
     "  cdx show -t TABLE [FILE]      the entries of a sheet, as a tree\n"
     "  cdx format -t TABLE [FILE]    the canonical form of a sheet, printed;\n"
@@ -28,7 +27,6 @@ static const char overview[] =
     "                                adds sheets, all or none; -n: to a new roll\n"
     "\n"
     "TABLE is a mode table or its text, lines like `children Lab` and `content Steps`.\n"
-    "-g in place of -t TABLE reads guests' sheets: by their layout, without a table.\n"
     "No FILE, or `-`, is standard input. Messages go to standard error.\n"
     "\n"
     "Status: 0 all is well\n"
@@ -80,8 +78,6 @@ static int read_options(const struct command *command, int count, char **words, 
     while ((letter = getopt(count, words, command->options)) != -1)
         if (letter == 't')
             request->table = optarg;
-        else if (letter == 'g')
-            request->is_guest = true;
         else if (letter == 'd')
             request->as_text = true;
         else if (letter == 'w')
@@ -97,27 +93,16 @@ static int read_options(const struct command *command, int count, char **words, 
     return 0;
 }
 
-/* What is wrong with the table of a request to a command that asks for one, or NULL. */
-static const char *wrong_with_table(const struct request *request)
-{
-    if (request->table == NULL && !request->is_guest)
-        return "name a mode table with -t TABLE, or say -g for guests' sheets";
-    if (request->table != NULL && request->is_guest)
-        return "-t TABLE names a mode table, and -g says that there is none; leave one of them out";
-    return NULL;
-}
-
 static enum status answer(const struct command *command, const struct request *request)
 {
-    static struct given given;
-    const char *wrong = strchr(command->options, 't') != NULL ? wrong_with_table(request) : NULL;
-    if (wrong == NULL)
-        wrong = command->wrong_with(request);
+    static struct table table;
+    const char *wrong = command->wrong_with(request);
     if (wrong != NULL)
         return wrong_use(command, "%s", wrong);
-    given.is_guest = request->is_guest;
-    enum status status = request->table != NULL ? load_table(request->table, &given.table) : ALL_WELL;
-    return status != ALL_WELL ? status : command->run(request, &given);
+    if (request->table == NULL)
+        return command->run(request, NULL);
+    enum status status = load_table(request->table, &table);
+    return status != ALL_WELL ? status : command->run(request, &table);
 }
 
 /* Reads a command's words, of which the first is its name, and runs it. */
@@ -132,6 +117,8 @@ static enum status ask(const struct command *command, int count, char **words)
         return wrong_use(command, "-%c has nothing behind it", optopt);
     if (letter != 0)
         return wrong_use(command, "there is no option -%c", optopt);
+    if (request.table == NULL && strchr(command->options, 't') != NULL)
+        return wrong_use(command, "-t TABLE is missing");
     if (optind < count) {
         request.files = words + optind;
         request.count = (size_t)(count - optind);

@@ -30,8 +30,9 @@ struct place place_of(const uint8_t *bytes, size_t length, size_t at)
     return place;
 }
 
-void print_place(FILE *out, const char *name, struct place place)
+void print_place(FILE *out, const char *name, const uint8_t *bytes, size_t length, size_t at)
 {
+    struct place place = place_of(bytes, length, at);
     print_name(out, name);
     fprintf(out, ":%zu:%zu", place.line, place.column);
 }

@@ -16,8 +16,8 @@ struct place {
 /* The place of a byte, or of the end where `at` is the length. */
 struct place place_of(const uint8_t *bytes, size_t length, size_t at);
 
-/* Prints a place in a file: the file's name, the line and the column. */
-void print_place(FILE *out, const char *name, struct place place);
+/* Prints where a byte of a file stands: the file's name, the line and the column. */
+void print_place(FILE *out, const char *name, const uint8_t *bytes, size_t length, size_t at);
 
 /* Prints the line of a place, cut around it where it is long, and below it a caret under the place. */
 void print_line(FILE *out, const uint8_t *bytes, size_t length, size_t at);

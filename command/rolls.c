@@ -1,4 +1,4 @@
-/* A roll of a file, read by the proved functions, under a mode table or as one of guests' sheets.
+/* A roll of a file, read by the proved function under a mode table.
  * Document 01's "Rolls" says where its sheets are, and what their records have. */
 #include "rolls.h"
 
@@ -11,9 +11,10 @@ bool load_roll(const char *file, struct roll *roll)
     return load(file, roll->bytes, sizeof roll->bytes, &roll->length);
 }
 
-bool read_roll(const struct given *given, struct roll *roll)
+bool read_roll(const struct table *table, struct roll *roll)
 {
-    roll_answer(given, roll->bytes, roll->length, roll->records, CDX_MAX_RECORD_CELLS, roll->cells, CDX_MAX_CELLS, roll->answer);
+    cdx_roll(table->bytes, table->length, roll->bytes, roll->length, roll->records, CDX_MAX_RECORD_CELLS, roll->cells,
+             CDX_MAX_CELLS, roll->answer);
     return roll->answer[0] == CDX_OK;
 }
 

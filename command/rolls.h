@@ -1,9 +1,11 @@
-/* A roll of a file, read by the proved functions, under a mode table or as one of guests' sheets.
+/* A roll of a file, read by the proved function under a mode table.
  * Document 01's "Rolls" says where its sheets are, and what their records have. */
 #ifndef ROLLS_H
 #define ROLLS_H
 
-#include "given.h"
+#include "cdx.h"
+#include "command.h"
+#include "tables.h"
 
 #include <stdio.h>
 
@@ -21,7 +23,7 @@ struct roll {
 bool load_roll(const char *file, struct roll *roll);
 
 /* Reads the roll itself: there is a record for each sheet. Gives whether it is accepted; its sheets are answered each for itself. */
-bool read_roll(const struct given *given, struct roll *roll);
+bool read_roll(const struct table *table, struct roll *roll);
 
 /* Says why and where the roll as a whole is refused. */
 enum status refuse_roll(FILE *out, const struct roll *roll);

@@ -1,9 +1,11 @@
-/* A sheet of a file, read and laid out by the proved functions, under a mode table or as a guest's.
+/* A sheet of a file, read and laid out by the proved functions under a mode table.
  * Document 01's "Entries", "Canonical form" and "Refusal numbers" say what they answer. */
 #ifndef SHEETS_H
 #define SHEETS_H
 
-#include "given.h"
+#include "cdx.h"
+#include "command.h"
+#include "tables.h"
 
 #include <stdio.h>
 
@@ -22,29 +24,19 @@ struct form {
     uint8_t bytes[CDX_MAX_SHEET];
 };
 
-/* A part of a sheet. */
-struct part {
-    const uint8_t *bytes;
-    size_t length;
-};
-
 /* What a command does with a sheet whose file was read. */
-typedef enum status (*sheet_action)(const struct request *request, const struct given *given, struct sheet *sheet);
+typedef enum status (*sheet_action)(const struct request *request, const struct table *table, struct sheet *sheet);
 
 /* Reads the files that a request names, and acts on each sheet, until standard output takes no more. */
-enum status for_each_sheet(const struct request *request, const struct given *given, sheet_action act);
+enum status for_each_sheet(const struct request *request, const struct table *table, sheet_action act);
 
 /* Reads the sheet itself: its entries are in the cells. Gives whether it is accepted. */
-bool read_sheet(const struct given *given, struct sheet *sheet);
-
-/* An entry of a sheet that was read, and an entry's name. */
-const uint32_t *entry_of(const struct sheet *sheet, uint32_t number);
-struct part name_of(const struct sheet *sheet, const uint32_t *entry);
+bool read_sheet(const struct table *table, struct sheet *sheet);
 
 /* Writes its canonical form. Gives whether it has one. */
-bool write_form(const struct given *given, struct sheet *sheet, struct form *form);
+bool write_form(const struct table *table, struct sheet *sheet, struct form *form);
 
 /* Says why and where the sheet is refused; of a trait that stands twice both places. */
-enum status refuse_sheet(FILE *out, const struct given *given, const struct sheet *sheet);
+enum status refuse_sheet(FILE *out, const struct table *table, const struct sheet *sheet);
 
 #endif

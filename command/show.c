@@ -10,7 +10,6 @@
 
 static const char help[] =
     "cdx show -t TABLE [FILE]   prints the entries of a sheet, each below what it belongs to\n"
-    "cdx show -g [FILE]         the same for a guest's sheet, which has no mode table\n"
     "\n"
     "    Concept Lab (children)\n"
     "      trait sizes (list of 2)\n"
@@ -24,11 +23,26 @@ static const char help[] =
     "an item of a map with its key.\n"
     "An annotation stands above its Concept.\n"
     "\n"
-    "TABLE is a mode table or its text. With -g there is none, and a body holds what its\n"
-    "layout shows. No FILE, or `-`, is standard input.\n"
+    "TABLE is a mode table or its text. No FILE, or `-`, is standard input.\n"
     "Status 1 if the sheet is refused, 2 if a file could not be read.\n"
     "\n"
     "Example: cdx show -t course.txt sheets/paging.cdx\n";
+
+/* A part of the sheet. */
+struct part {
+    const uint8_t *bytes;
+    size_t length;
+};
+
+static const uint32_t *entry_of(const struct sheet *sheet, uint32_t number)
+{
+    return sheet->cells + number * CDX_CELLS;
+}
+
+static struct part name_of(const struct sheet *sheet, const uint32_t *entry)
+{
+    return (struct part){sheet->bytes + entry[CDX_NAME_START], entry[CDX_NAME_END] - entry[CDX_NAME_START]};
+}
 
 /* The part that an entry's span names. */
 static struct part view(const struct sheet *sheet, uint32_t number)
@@ -174,11 +188,11 @@ static void print_tree(const struct sheet *sheet)
     }
 }
 
-static enum status show(const struct request *request, const struct given *given, struct sheet *sheet)
+static enum status show(const struct request *request, const struct table *table, struct sheet *sheet)
 {
     (void)request;
-    if (!read_sheet(given, sheet))
-        return refuse_sheet(stderr, given, sheet);
+    if (!read_sheet(table, sheet))
+        return refuse_sheet(stderr, table, sheet);
     print_tree(sheet);
     return ALL_WELL;
 }
@@ -188,9 +202,9 @@ static const char *wrong_with(const struct request *request)
     return request->count > 1 ? "more than one FILE" : NULL;
 }
 
-static enum status run(const struct request *request, const struct given *given)
+static enum status run(const struct request *request, const struct table *table)
 {
-    return for_each_sheet(request, given, show);
+    return for_each_sheet(request, table, show);
 }
 
-const struct command show_command = {"show", ":ght:", help, wrong_with, run};
+const struct command show_command = {"show", ":ht:", help, wrong_with, run};

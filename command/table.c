@@ -1,19 +1,18 @@
-/* cdx table: makes a mode table from its text, or prints the text of one, which may be that of guests' sheets.
+/* cdx table: makes a mode table from its text, or prints the text of one.
  * Document 01's "The mode table" says what a table is; the text is of this command alone. */
 #define _POSIX_C_SOURCE 200809L
 
 #include "files.h"
-#include "guests.h"
+#include "tables.h"
 
 #include <stdio.h>
 #include <unistd.h>
 
 static const char help[] =
-    "cdx table [FILE]         writes a mode table, which is binary, to standard output\n"
-    "cdx table -d [FILE]      prints a mode table as text\n"
-    "cdx table -g [SHEET..]   prints the text of a mode table for guests' sheets\n"
+    "cdx table [FILE]      writes a mode table, which is binary, to standard output\n"
+    "cdx table -d [FILE]   prints a mode table as text\n"
     "\n"
-    "FILE has a mode table or its text. No FILE or SHEET, or `-`, is standard input.\n"
+    "FILE has a mode table or its text. No FILE, or `-`, is standard input.\n"
     "\n"
     "The text has a line for some names in one mode, and as many such lines as you like:\n"
     "\n"
@@ -24,17 +23,10 @@ static const char help[] =
     "Names keep the rule for Concepts and stand in the table once; each mode has at most 64.\n"
     "Every -t takes the text as well, so the table itself is for other programs.\n"
     "\n"
-    "With -g each name has the mode that its bodies show; an empty body shows children, and\n"
-    "a name that never has a body is put there. Nothing is printed, and the status is 1,\n"
-    "where a sheet is refused, or a name shows both: then it says where.\n"
-    "\n"
-    "Example: cdx table course.txt >course.table\n"
-    "         cdx table -g guests/*.cdx >guests.txt\n";
+    "Example: cdx table course.txt >course.table\n";
 
 static const char *wrong_with(const struct request *request)
 {
-    if (request->is_guest)
-        return request->as_text ? "-g prints the text without -d" : NULL;
     if (request->count > 1)
         return "more than one FILE";
     if (!request->as_text && isatty(STDOUT_FILENO))
@@ -42,17 +34,18 @@ static const char *wrong_with(const struct request *request)
     return NULL;
 }
 
-static enum status run(const struct request *request, const struct given *given)
+static enum status run(const struct request *request, const struct table *none)
 {
     struct table table;
-    enum status status = given->is_guest ? table_of_guests(request, given, &table) : load_table(request->files[0], &table);
+    (void)none;
+    enum status status = load_table(request->files[0], &table);
     if (status != ALL_WELL)
         return status;
-    if (request->as_text || given->is_guest)
+    if (request->as_text)
         print_table(stdout, &table);
     else
         fwrite(table.bytes, 1, table.length, stdout);
     return is_written() ? ALL_WELL : FAILED;
 }
 
-const struct command table_command = {"table", ":dgh", help, wrong_with, run};
+const struct command table_command = {"table", ":hd", help, wrong_with, run};

@@ -52,18 +52,6 @@ enum status load_table(const char *file, struct table *table)
     return REFUSED;
 }
 
-void put_count(struct table *table, size_t count)
-{
-    table->bytes[table->length++] = (uint8_t)count;
-}
-
-void put_name(struct table *table, const uint8_t *letters, size_t length)
-{
-    table->bytes[table->length++] = (uint8_t)length;
-    memcpy(table->bytes + table->length, letters, length);
-    table->length += length;
-}
-
 /* Prints a section's word and its names, on as many lines as they take, and gives where the next section starts. */
 static const uint8_t *print_section(FILE *out, const char *word, const uint8_t *section)
 {

@@ -17,10 +17,6 @@ struct table {
 /* Reads a file that has a mode table or the text of one. Where it has neither it says so on standard error. */
 enum status load_table(const char *file, struct table *table);
 
-/* Puts a section's count, or a name behind it, at the end of a table in the making. */
-void put_count(struct table *table, size_t count);
-void put_name(struct table *table, const uint8_t *letters, size_t length);
-
 /* Prints the text of a table: it reads back to the same table. */
 void print_table(FILE *out, const struct table *table);
 

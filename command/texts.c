@@ -99,9 +99,13 @@ static bool read_lines(struct text *text)
 
 static void put_section(struct table *table, const struct text *text, const struct section *section)
 {
-    put_count(table, section->count);
-    for (size_t number = 0; number < section->count; number++)
-        put_name(table, text->bytes + section->names[number].start, section->names[number].length);
+    table->bytes[table->length++] = (uint8_t)section->count;
+    for (size_t number = 0; number < section->count; number++) {
+        struct word name = section->names[number];
+        table->bytes[table->length++] = (uint8_t)name.length;
+        memcpy(table->bytes + table->length, text->bytes + name.start, name.length);
+        table->length += name.length;
+    }
 }
 
 /* A name by its number in the table. */

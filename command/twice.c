@@ -17,13 +17,13 @@ static size_t name_length(const uint8_t *sheet, size_t length, size_t at)
 
 /* Of all entries that begin with the name and "=" the last one is the trait: behind it there are only other traits of its marker, and
  * items, none of which begins so. */
-size_t first_place(const struct given *given, const uint8_t *sheet, size_t length, size_t again)
+size_t first_place(const struct table *table, const uint8_t *sheet, size_t length, size_t again)
 {
     static uint32_t cells[CDX_MAX_CELLS];
     size_t name = name_length(sheet, length, again), first = again;
     for (size_t lent = 0; lent < CDX_MAX_CELLS; lent += CDX_CELLS) {
         uint32_t answer[CDX_ANSWER];
-        sheet_answer(given, sheet, length, cells, lent, answer);
+        cdx_sheet(table->bytes, table->length, sheet, length, cells, lent, answer);
         if (answer[0] != CDX_NO_ENTRY_LEFT)
             break;
         const uint8_t *entry = sheet + answer[1];

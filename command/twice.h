@@ -3,12 +3,12 @@
 #ifndef TWICE_H
 #define TWICE_H
 
-#include "given.h"
+#include "tables.h"
 
 #include <stddef.h>
 #include <stdint.h>
 
 /* Of a sheet that is refused for a trait whose name stands again at a place, gives the place where it stood first. */
-size_t first_place(const struct given *given, const uint8_t *sheet, size_t length, size_t again);
+size_t first_place(const struct table *table, const uint8_t *sheet, size_t length, size_t again);
 
 #endif

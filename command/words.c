@@ -1,7 +1,8 @@
 /* The numbers of an answer and of an entry in words.
- * They follow the sections "Entries" and "Refusal numbers" of document 01, document 02, Six and Seven, and 001 §18. */
+ * They follow the sections "Entries" and "Refusal numbers" of document 01, document 02, Six, and 001 §18. */
 #include "words.h"
 
+#include "cdx.h"
 #include "places.h"
 
 /* The compiler asks for a case for each number of cdx.h. */
@@ -48,23 +49,6 @@ const char *refusal_in_words(uint32_t number)
         return "the Concept has a trait of this name already";
     }
     return "for a reason that this command does not know";
-}
-
-/* Whether a line begins here as a marker or an annotation does, behind its tabs. */
-static bool begins_line(const uint8_t *bytes, size_t length, size_t at)
-{
-    if (at == length || (bytes[at] != '<' && bytes[at] != '['))
-        return false;
-    while (at > 0 && bytes[at - 1] == '\t')
-        at--;
-    return at == 0 || bytes[at - 1] == '\n';
-}
-
-const char *sheet_refusal_in_words(const struct given *given, uint32_t number, const uint8_t *bytes, size_t length, size_t at)
-{
-    if (given->is_guest && number == CDX_DUE && begins_line(bytes, length, at))
-        return "something else was due here (without a table a child stands one tab deeper, a closing marker at its marker's tabs)";
-    return refusal_in_words(number);
 }
 
 const char *kind_in_words(uint32_t kind)
@@ -119,14 +103,14 @@ void print_sheet_count(FILE *out, uint32_t sheets)
 
 void print_refusal(FILE *out, const char *name, const uint8_t *bytes, size_t length, size_t at, uint32_t number, const char *why)
 {
-    print_place(out, name, place_of(bytes, length, at));
+    print_place(out, name, bytes, length, at);
     fprintf(out, ": refused %u: %s\n", number, why);
     print_line(out, bytes, length, at);
 }
 
 void print_stood_first(FILE *out, const char *name, const uint8_t *bytes, size_t length, size_t at)
 {
-    print_place(out, name, place_of(bytes, length, at));
+    print_place(out, name, bytes, length, at);
     fputs(": it stood here first\n", out);
     print_line(out, bytes, length, at);
 }

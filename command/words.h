@@ -1,9 +1,7 @@
 /* The numbers of an answer and of an entry in words.
- * They follow the sections "Entries" and "Refusal numbers" of document 01, document 02, Six and Seven, and 001 §18. */
+ * They follow the sections "Entries" and "Refusal numbers" of document 01, document 02, Six, and 001 §18. */
 #ifndef WORDS_H
 #define WORDS_H
-
-#include "given.h"
 
 #include <stddef.h>
 #include <stdint.h>
@@ -11,9 +9,6 @@
 
 /* What an answer's number says, be it one of cdx.h or not. */
 const char *refusal_in_words(uint32_t number);
-
-/* The same for a sheet that is refused at a place of the bytes. Of a guest's, where its tabs may be at fault, it adds the rule for tabs. */
-const char *sheet_refusal_in_words(const struct given *given, uint32_t number, const uint8_t *bytes, size_t length, size_t at);
 
 /* What an entry is. */
 const char *kind_in_words(uint32_t kind);

@@ -2,7 +2,7 @@
  *
  * Link with libgateway.a. Every function takes any bytes and any room: there is nothing to check before a call, and a call
  * neither allocates nor keeps anything. What is lent must be there for its whole length, and what a function writes (cells, records,
- * out, answer, and the roll of cdx_add and cdx_guest_add) must not overlap anything else that is lent in the same call.
+ * out, answer, and the roll of cdx_add) must not overlap anything else that is lent in the same call.
  *
  * A pointer may not be null, also where its length is 0.
  */
@@ -123,7 +123,7 @@ enum cdx_time_kind {
 enum cdx_record_cell {
     CDX_SHEET_START = 0,  /* where the sheet starts in the roll, */
     CDX_SHEET_END = 1,    /*   and the place behind its last byte */
-    CDX_SHEET_NUMBER = 2, /* what cdx_sheet, of guests cdx_guest_sheet, answers for its bytes: an enum cdx_number, */
+    CDX_SHEET_NUMBER = 2, /* what cdx_sheet answers for its bytes: an enum cdx_number, */
     CDX_SHEET_PLACE = 3,  /*   a place in the sheet, which is its length where the number is CDX_OK, */
     CDX_SHEET_COUNT = 4   /*   and how many entries it has */
 };
@@ -173,26 +173,6 @@ void cdx_roll(const uint8_t *table, size_t table_len, const uint8_t *roll, size_
  * CDX_MAX_ROLL; then CDX_BEFORE_BOUNDARY, at n, where n is not 0 and the byte before it is no line end (LF). */
 void cdx_add(const uint8_t *table, size_t table_len, const uint8_t *sheet, size_t sheet_len, uint8_t *roll, size_t roll_len, uint64_t n,
              uint32_t *cells, size_t cells_len, uint32_t answer[3]);
-
-/* The same for guests' sheets, which have no mode table. Every name that keeps the name rule may stand, and CDX_TABLE and CDX_UNLISTED are
- * never given. The mode of a body is what its layout shows: children where a line of it begins with "<" or "[" exactly one tab deeper than
- * the marker, or where all of its lines are blank, or none is there; else Content. Children and their annotations stand exactly one tab
- * deeper than the marker around them, and a closing marker at the tabs of its opening one; at other tabs they are refused with CDX_DUE. */
-
-/* As cdx_sheet, for a guest's sheet. The cells of an entry are the same; the form of a Concept says which mode its body has. */
-void cdx_guest_sheet(const uint8_t *sheet, size_t sheet_len, uint32_t *cells, size_t cells_len, uint32_t answer[3]);
-
-/* As cdx_write, for a guest's sheet. Without a table the form reads back to the same meaning, and it is its own form. */
-void cdx_guest_write(const uint8_t *sheet, size_t sheet_len, uint32_t *cells, size_t cells_len, uint8_t *out, size_t out_len,
-                     uint32_t answer[3]);
-
-/* As cdx_roll, for a roll of guests' sheets. A record has what cdx_guest_sheet answers. */
-void cdx_guest_roll(const uint8_t *roll, size_t roll_len, uint32_t *records, size_t records_len, uint32_t *cells, size_t cells_len,
-                    uint32_t answer[3]);
-
-/* As cdx_add, for a guest's sheet. */
-void cdx_guest_add(const uint8_t *sheet, size_t sheet_len, uint8_t *roll, size_t roll_len, uint64_t n, uint32_t *cells, size_t cells_len,
-                   uint32_t answer[3]);
 
 #ifdef __cplusplus
 }

@@ -1,10 +1,10 @@
 /* Does one thing with a sheet or a roll, many times over: the program that tests/speed counts instructions of.
  *
- *     speed read|guest|write|add|roll|each|table TABLE INPUT LENT TIMES
+ *     speed read|write|add|roll|each|table TABLE INPUT LENT TIMES
  *
- * TABLE and INPUT are files, LENT says how many entry cells are lent. INPUT is a sheet, which is read, or read without the table as a
- * guest's, or its form is written, or added to a roll; or it is a roll, which is read, or each of its sheets is read by itself; or only
- * TABLE is read. That is done TIMES times, each time into the same rooms.
+ * TABLE and INPUT are files, LENT says how many entry cells are lent. INPUT is a sheet, which is read, or its form is written, or added to
+ * a roll; or it is a roll, which is read, or each of its sheets is read by itself; or only TABLE is read. That is done TIMES times, each
+ * time into the same rooms.
  * The last answer is printed: number, place and count.
  */
 #include "cdx.h"
@@ -23,11 +23,6 @@ static uint32_t cells[CDX_MAX_CELLS], records[CDX_MAX_RECORD_CELLS], answer[CDX_
 static void read_sheet(void)
 {
     cdx_sheet(table, table_len, input, input_len, cells, lent, answer);
-}
-
-static void read_guest(void)
-{
-    cdx_guest_sheet(input, input_len, cells, lent, answer);
 }
 
 static void write_form(void)
@@ -59,8 +54,7 @@ static void read_table(void)
 static const struct {
     const char *name;
     void (*run)(void);
-} tasks[] = {{"read", read_sheet}, {"guest", read_guest}, {"write", write_form}, {"add", add_form},
-             {"roll", read_roll},  {"each", read_each},   {"table", read_table}};
+} tasks[] = {{"read", read_sheet}, {"write", write_form}, {"add", add_form}, {"roll", read_roll}, {"each", read_each}, {"table", read_table}};
 
 /* Puts a file into the room of an input, as far as both go, and gives its length. */
 static size_t load(const char *path, uint8_t *room, size_t size)
@@ -81,7 +75,7 @@ int main(int argc, char **argv)
     while (task < count && (argc != 6 || strcmp(argv[1], tasks[task].name) != 0))
         task++;
     if (task == count) {
-        fprintf(stderr, "usage: speed read|guest|write|add|roll|each|table TABLE INPUT LENT TIMES\n");
+        fprintf(stderr, "usage: speed read|write|add|roll|each|table TABLE INPUT LENT TIMES\n");
         return 2;
     }
     table_len = load(argv[2], table, sizeof table);

@@ -169,18 +169,6 @@ static bool read_bytes(const char *word, struct input *bytes)
     return *word != 0 && digits % 2 == 0;
 }
 
-/* What is given with a sheet or a roll: a mode table's bytes, or none with a guest's, which has a word of its own. */
-struct given {
-    struct input table;
-    bool guest;
-};
-
-static bool read_given(const char *word, struct given *given)
-{
-    given->guest = strcmp(word, "guest") == 0;
-    return given->guest || read_bytes(word, &given->table);
-}
-
 /* The cells that are left of a request. */
 static bool read_cells(char **rest, struct input *cells)
 {
@@ -226,23 +214,19 @@ static void print_cells(const uint32_t *cells, size_t count)
 }
 
 /* Number, place, count, and the cells. */
-static void answer_sheet(struct given given, struct input sheet, size_t lent)
+static void answer_sheet(struct input table, struct input sheet, size_t lent)
 {
-    const char *call = given.guest ? "cdx_guest_sheet" : "cdx_sheet";
-    struct loan lent_table = lend(given.table.items, given.table.count), lent_sheet = lend(sheet.items, sheet.count);
+    struct loan lent_table = lend(table.items, table.count), lent_sheet = lend(sheet.items, sheet.count);
     struct loan cells = lend_cells(NULL, lent), answer = lend_cells(NULL, CDX_ANSWER);
-    if (given.guest)
-        cdx_guest_sheet(bytes_of(lent_sheet), sheet.count, cells_of(cells), lent, cells_of(answer));
-    else
-        cdx_sheet(bytes_of(lent_table), given.table.count, bytes_of(lent_sheet), sheet.count, cells_of(cells), lent, cells_of(answer));
+    cdx_sheet(bytes_of(lent_table), table.count, bytes_of(lent_sheet), sheet.count, cells_of(cells), lent, cells_of(answer));
     if (!all_kept(lent_table))
-        printf("broken: %s changed the table or its guards", call);
+        printf("broken: cdx_sheet changed the table or its guards");
     else if (!all_kept(lent_sheet))
-        printf("broken: %s changed the sheet or its guards", call);
+        printf("broken: cdx_sheet changed the sheet or its guards");
     else if (!guards_kept(cells))
-        printf("broken: %s wrote outside of the cells", call);
+        printf("broken: cdx_sheet wrote outside of the cells");
     else if (!guards_kept(answer))
-        printf("broken: %s wrote outside of the answer", call);
+        printf("broken: cdx_sheet wrote outside of the answer");
     else {
         print_answer(cells_of(answer));
         print_cells(cells_of(cells), lent);
@@ -261,12 +245,12 @@ static void print_bytes(const uint8_t *bytes, size_t size)
 }
 
 /* Number, place, count, and the form, which is empty where it is refused. Behind the form the output must be as it came. */
-static void print_form(const char *call, const uint32_t answer[CDX_ANSWER], struct loan out)
+static void print_form(const uint32_t answer[CDX_ANSWER], struct loan out)
 {
     if (answer[2] > out.size)
-        printf("broken: %s says that it wrote %u bytes to room for %zu", call, (unsigned)answer[2], out.size);
+        printf("broken: cdx_write says that it wrote %u bytes to room for %zu", (unsigned)answer[2], out.size);
     else if (!kept_from(out, answer[2]))
-        printf("broken: %s changed more of the output than the %u bytes of its answer", call, (unsigned)answer[2]);
+        printf("broken: cdx_write changed more of the output than the %u bytes of its answer", (unsigned)answer[2]);
     else {
         print_answer(answer);
         print_bytes(bytes_of(out), answer[2]);
@@ -280,28 +264,24 @@ static bool all_zero(const uint32_t *cells, size_t count)
     return count == 0;
 }
 
-static void answer_form(struct given given, struct input sheet, size_t lent, size_t room)
+static void answer_form(struct input table, struct input sheet, size_t lent, size_t room)
 {
-    const char *call = given.guest ? "cdx_guest_write" : "cdx_write";
-    struct loan lent_table = lend(given.table.items, given.table.count), lent_sheet = lend(sheet.items, sheet.count);
+    struct loan lent_table = lend(table.items, table.count), lent_sheet = lend(sheet.items, sheet.count);
     struct loan cells = lend_cells(NULL, lent), out = lend(NULL, room), answer = lend_cells(NULL, CDX_ANSWER);
-    if (given.guest)
-        cdx_guest_write(bytes_of(lent_sheet), sheet.count, cells_of(cells), lent, bytes_of(out), room, cells_of(answer));
-    else
-        cdx_write(bytes_of(lent_table), given.table.count, bytes_of(lent_sheet), sheet.count, cells_of(cells), lent, bytes_of(out), room,
-                  cells_of(answer));
+    cdx_write(bytes_of(lent_table), table.count, bytes_of(lent_sheet), sheet.count, cells_of(cells), lent, bytes_of(out), room,
+              cells_of(answer));
     if (!all_kept(lent_table))
-        printf("broken: %s changed the table or its guards", call);
+        printf("broken: cdx_write changed the table or its guards");
     else if (!all_kept(lent_sheet))
-        printf("broken: %s changed the sheet or its guards", call);
+        printf("broken: cdx_write changed the sheet or its guards");
     else if (!guards_kept(cells))
-        printf("broken: %s wrote outside of the cells", call);
+        printf("broken: cdx_write wrote outside of the cells");
     else if (!all_zero(cells_of(cells), lent))
-        printf("broken: %s left a cell that is not zero", call);
+        printf("broken: cdx_write left a cell that is not zero");
     else if (!guards_kept(answer))
-        printf("broken: %s wrote outside of the answer", call);
+        printf("broken: cdx_write wrote outside of the answer");
     else
-        print_form(call, cells_of(answer), out);
+        print_form(cells_of(answer), out);
     give_back(lent_table);
     give_back(lent_sheet);
     give_back(cells);
@@ -355,28 +335,24 @@ static void answer_time(struct input value)
 }
 
 /* Number, place, count, and the records. */
-static void answer_roll(struct given given, struct input roll, size_t room, size_t lent)
+static void answer_roll(struct input table, struct input roll, size_t room, size_t lent)
 {
-    const char *call = given.guest ? "cdx_guest_roll" : "cdx_roll";
-    struct loan lent_table = lend(given.table.items, given.table.count), lent_roll = lend(roll.items, roll.count);
+    struct loan lent_table = lend(table.items, table.count), lent_roll = lend(roll.items, roll.count);
     struct loan records = lend_cells(NULL, room), cells = lend_cells(NULL, lent), answer = lend_cells(NULL, CDX_ANSWER);
-    if (given.guest)
-        cdx_guest_roll(bytes_of(lent_roll), roll.count, cells_of(records), room, cells_of(cells), lent, cells_of(answer));
-    else
-        cdx_roll(bytes_of(lent_table), given.table.count, bytes_of(lent_roll), roll.count, cells_of(records), room, cells_of(cells), lent,
-                 cells_of(answer));
+    cdx_roll(bytes_of(lent_table), table.count, bytes_of(lent_roll), roll.count, cells_of(records), room, cells_of(cells), lent,
+             cells_of(answer));
     if (!all_kept(lent_table))
-        printf("broken: %s changed the table or its guards", call);
+        printf("broken: cdx_roll changed the table or its guards");
     else if (!all_kept(lent_roll))
-        printf("broken: %s changed the roll or its guards", call);
+        printf("broken: cdx_roll changed the roll or its guards");
     else if (!guards_kept(records))
-        printf("broken: %s wrote outside of the records", call);
+        printf("broken: cdx_roll wrote outside of the records");
     else if (!guards_kept(cells))
-        printf("broken: %s wrote outside of the cells", call);
+        printf("broken: cdx_roll wrote outside of the cells");
     else if (!all_zero(cells_of(cells), lent))
-        printf("broken: %s left an entry cell that is not zero", call);
+        printf("broken: cdx_roll left an entry cell that is not zero");
     else if (!guards_kept(answer))
-        printf("broken: %s wrote outside of the answer", call);
+        printf("broken: cdx_roll wrote outside of the answer");
     else {
         print_answer(cells_of(answer));
         print_cells(cells_of(records), room);
@@ -400,41 +376,37 @@ static struct loan lend_roll(struct input roll, size_t room)
 }
 
 /* Number, place, count, and the bytes added, which are none where it is refused. Before and behind them the roll must be as it came. */
-static void print_added(const char *call, const uint32_t answer[CDX_ANSWER], uint64_t n, struct loan roll)
+static void print_added(const uint32_t answer[CDX_ANSWER], uint64_t n, struct loan roll)
 {
     size_t start = answer[0] == CDX_OK ? n : 0, end = answer[2];
     if (start > end || end > roll.size)
-        printf("broken: %s says that it added the bytes from %zu to %zu to room for %zu", call, start, end, roll.size);
+        printf("broken: cdx_add says that it added the bytes from %zu to %zu to room for %zu", start, end, roll.size);
     else if (!kept_around(roll, start, end))
-        printf("broken: %s changed more of the roll than the bytes from %zu to %zu", call, start, end);
+        printf("broken: cdx_add changed more of the roll than the bytes from %zu to %zu", start, end);
     else {
         print_answer(answer);
         print_bytes(bytes_of(roll) + start, end - start);
     }
 }
 
-static void answer_add(struct given given, struct input sheet, size_t lent, struct input roll, uint64_t n, size_t room)
+static void answer_add(struct input table, struct input sheet, size_t lent, struct input roll, uint64_t n, size_t room)
 {
-    const char *call = given.guest ? "cdx_guest_add" : "cdx_add";
-    struct loan lent_table = lend(given.table.items, given.table.count), lent_sheet = lend(sheet.items, sheet.count);
-    struct loan lent_roll = lend_roll(roll, room), cells = lend_cells(NULL, lent), answer = lend_cells(NULL, CDX_ANSWER);
-    if (given.guest)
-        cdx_guest_add(bytes_of(lent_sheet), sheet.count, bytes_of(lent_roll), room, n, cells_of(cells), lent, cells_of(answer));
-    else
-        cdx_add(bytes_of(lent_table), given.table.count, bytes_of(lent_sheet), sheet.count, bytes_of(lent_roll), room, n,
-                cells_of(cells), lent, cells_of(answer));
+    struct loan lent_table = lend(table.items, table.count), lent_sheet = lend(sheet.items, sheet.count), lent_roll = lend_roll(roll, room);
+    struct loan cells = lend_cells(NULL, lent), answer = lend_cells(NULL, CDX_ANSWER);
+    cdx_add(bytes_of(lent_table), table.count, bytes_of(lent_sheet), sheet.count, bytes_of(lent_roll), room, n, cells_of(cells), lent,
+            cells_of(answer));
     if (!all_kept(lent_table))
-        printf("broken: %s changed the table or its guards", call);
+        printf("broken: cdx_add changed the table or its guards");
     else if (!all_kept(lent_sheet))
-        printf("broken: %s changed the sheet or its guards", call);
+        printf("broken: cdx_add changed the sheet or its guards");
     else if (!guards_kept(cells))
-        printf("broken: %s wrote outside of the cells", call);
+        printf("broken: cdx_add wrote outside of the cells");
     else if (!all_zero(cells_of(cells), lent))
-        printf("broken: %s left a cell that is not zero", call);
+        printf("broken: cdx_add left a cell that is not zero");
     else if (!guards_kept(answer))
-        printf("broken: %s wrote outside of the answer", call);
+        printf("broken: cdx_add wrote outside of the answer");
     else
-        print_added(call, cells_of(answer), n, lent_roll);
+        print_added(cells_of(answer), n, lent_roll);
     give_back(lent_table);
     give_back(lent_sheet);
     give_back(lent_roll);
@@ -458,35 +430,34 @@ static bool read_size(const char *word, uint64_t *size)
 /* Answers the request that stands in the line, or says that there is none. */
 static void answer_line(char *line)
 {
-    struct given given = {{NULL, 0}, false};
-    struct input first = {NULL, 0}, second = {NULL, 0};
+    struct input first = {NULL, 0}, second = {NULL, 0}, third = {NULL, 0};
     uint64_t number, room, end;
     const char *kind = next_word(&line);
     if (strcmp(kind, "table") == 0 && read_bytes(next_word(&line), &first) && *next_word(&line) == 0)
         answer_table(first);
-    else if (strcmp(kind, "sheet") == 0 && read_given(next_word(&line), &given) && read_bytes(next_word(&line), &first) &&
+    else if (strcmp(kind, "sheet") == 0 && read_bytes(next_word(&line), &first) && read_bytes(next_word(&line), &second) &&
              read_size(next_word(&line), &number) && *next_word(&line) == 0)
-        answer_sheet(given, first, (size_t)number);
-    else if (strcmp(kind, "form") == 0 && read_given(next_word(&line), &given) && read_bytes(next_word(&line), &first) &&
+        answer_sheet(first, second, (size_t)number);
+    else if (strcmp(kind, "form") == 0 && read_bytes(next_word(&line), &first) && read_bytes(next_word(&line), &second) &&
              read_size(next_word(&line), &number) && read_room(&line, &room))
-        answer_form(given, first, (size_t)number, (size_t)room);
+        answer_form(first, second, (size_t)number, (size_t)room);
     else if (strcmp(kind, "view") == 0 && read_bytes(next_word(&line), &first) &&
              read_number(next_word(&line), UINT64_MAX, &number) && read_cells(&line, &second))
         answer_view(first, number, second);
     else if (strcmp(kind, "time") == 0 && read_bytes(next_word(&line), &first) && *next_word(&line) == 0)
         answer_time(first);
-    else if (strcmp(kind, "roll") == 0 && read_given(next_word(&line), &given) && read_bytes(next_word(&line), &first) &&
+    else if (strcmp(kind, "roll") == 0 && read_bytes(next_word(&line), &first) && read_bytes(next_word(&line), &second) &&
              read_size(next_word(&line), &room) && read_size(next_word(&line), &number) && *next_word(&line) == 0)
-        answer_roll(given, first, (size_t)room, (size_t)number);
-    else if (strcmp(kind, "add") == 0 && read_given(next_word(&line), &given) && read_bytes(next_word(&line), &first) &&
-             read_size(next_word(&line), &number) && read_bytes(next_word(&line), &second) &&
+        answer_roll(first, second, (size_t)room, (size_t)number);
+    else if (strcmp(kind, "add") == 0 && read_bytes(next_word(&line), &first) && read_bytes(next_word(&line), &second) &&
+             read_size(next_word(&line), &number) && read_bytes(next_word(&line), &third) &&
              read_number(next_word(&line), UINT64_MAX, &end) && read_size(next_word(&line), &room) && *next_word(&line) == 0)
-        answer_add(given, first, (size_t)number, second, end, (size_t)room);
+        answer_add(first, second, (size_t)number, third, end, (size_t)room);
     else
         printf("not a request");
-    free(given.table.items);
     free(first.items);
     free(second.items);
+    free(third.items);
 }
 
 int main(void)

@@ -1,9 +1,7 @@
 /* Holds the numbers of cdx.h to libgateway.a: what is at a limit is accepted and what is one past it refused, each refusal has its
- * number, and each kind and form of an entry, kind of a time and cell of a record too; of sheets and rolls under a mode table, and of the
- * same as guests', without one. Says what is not so, and then ends with status 1. */
+ * number, and each kind and form of an entry, kind of a time and cell of a record too. Says what is not so, and then ends with status 1. */
 #include "cdx.h"
 
-#include <stdbool.h>
 #include <stdio.h>
 #include <string.h>
 
@@ -16,7 +14,6 @@ static const size_t cells_len = sizeof cells / sizeof *cells;
 static uint32_t records[CDX_MAX_RECORD_CELLS + CDX_RECORD]; /* a record more than is allowed */
 static const size_t records_len = sizeof records / sizeof *records;
 static uint8_t out[2 * CDX_MAX_ROLL];
-static bool is_guest; /* sheets and rolls are read without a table */
 static int status;
 
 static void add(const char *part, size_t times)
@@ -27,7 +24,7 @@ static void add(const char *part, size_t times)
 
 static void wrong(const char *what, unsigned due, unsigned got)
 {
-    printf("%s%s: the header says %u, the library %u\n", what, is_guest ? ", without a table" : "", due, got);
+    printf("%s: the header says %u, the library %u\n", what, due, got);
     status = 1;
 }
 
@@ -35,10 +32,7 @@ static void wrong(const char *what, unsigned due, unsigned got)
 static void sheet_is(enum cdx_number due, const char *what)
 {
     uint32_t answer[CDX_ANSWER];
-    if (is_guest)
-        cdx_guest_sheet((const uint8_t *)text, length, cells, cells_len, answer);
-    else
-        cdx_sheet((const uint8_t *)lab, sizeof lab - 1, (const uint8_t *)text, length, cells, cells_len, answer);
+    cdx_sheet((const uint8_t *)lab, sizeof lab - 1, (const uint8_t *)text, length, cells, cells_len, answer);
     if (answer[0] != due)
         wrong(what, due, answer[0]);
     length = 0;
@@ -58,10 +52,7 @@ static void table_is(enum cdx_number due, const char *what)
 static void form_is(enum cdx_number due, size_t room, const char *what)
 {
     uint32_t answer[CDX_ANSWER];
-    if (is_guest)
-        cdx_guest_write((const uint8_t *)text, length, cells, cells_len, out, room, answer);
-    else
-        cdx_write((const uint8_t *)lab, sizeof lab - 1, (const uint8_t *)text, length, cells, cells_len, out, room, answer);
+    cdx_write((const uint8_t *)lab, sizeof lab - 1, (const uint8_t *)text, length, cells, cells_len, out, room, answer);
     if (answer[0] != due)
         wrong(what, due, answer[0]);
     length = 0;
@@ -71,10 +62,7 @@ static void form_is(enum cdx_number due, size_t room, const char *what)
 static void roll_is(enum cdx_number due, size_t lent, const char *what)
 {
     uint32_t answer[CDX_ANSWER];
-    if (is_guest)
-        cdx_guest_roll((const uint8_t *)text, length, records, lent, cells, cells_len, answer);
-    else
-        cdx_roll((const uint8_t *)lab, sizeof lab - 1, (const uint8_t *)text, length, records, lent, cells, cells_len, answer);
+    cdx_roll((const uint8_t *)lab, sizeof lab - 1, (const uint8_t *)text, length, records, lent, cells, cells_len, answer);
     if (answer[0] != due)
         wrong(what, due, answer[0]);
     length = 0;
@@ -84,10 +72,7 @@ static void roll_is(enum cdx_number due, size_t lent, const char *what)
 static void adding_is(enum cdx_number due, size_t room, uint64_t n, const char *what)
 {
     uint32_t answer[CDX_ANSWER];
-    if (is_guest)
-        cdx_guest_add((const uint8_t *)text, length, out, room, n, cells, cells_len, answer);
-    else
-        cdx_add((const uint8_t *)lab, sizeof lab - 1, (const uint8_t *)text, length, out, room, n, cells, cells_len, answer);
+    cdx_add((const uint8_t *)lab, sizeof lab - 1, (const uint8_t *)text, length, out, room, n, cells, cells_len, answer);
     if (answer[0] != due)
         wrong(what, due, answer[0]);
     length = 0;
@@ -114,22 +99,11 @@ static void add_entries(size_t past) /* Concept, trait and items */
     add("]/>", 1);
 }
 
-/* A line with so many tabs before it. */
-static void add_line(size_t tabs, const char *line)
-{
-    add("\t", tabs);
-    add(line, 1);
-    add("\n", 1);
-}
-
 static void add_concepts(size_t past)
 {
-    const size_t outer = CDX_MAX_CONCEPTS + past - 1;
-    for (size_t tabs = 0; tabs < outer; tabs++)
-        add_line(tabs, "<Lab>");
-    add_line(outer, "<Lab/>");
-    for (size_t tabs = outer; tabs > 0; tabs--)
-        add_line(tabs - 1, "</Lab>");
+    add("<Lab>\n", CDX_MAX_CONCEPTS + past - 1);
+    add("<Lab/>\n", 1);
+    add("</Lab>\n", CDX_MAX_CONCEPTS + past - 1);
 }
 
 /* Lists in one another, and in the innermost another bracket, which counts as one. */
@@ -200,10 +174,6 @@ static void try_limits(void)
         limits[at].add(1);
         sheet_is(limits[at].past, limits[at].what);
     }
-}
-
-static void try_tables(void)
-{
     add_section('A', CDX_MAX_SECTION);
     add_section('B', CDX_MAX_SECTION);
     if (length != CDX_MAX_TABLE)
@@ -219,22 +189,13 @@ static void try_refusals(void)
     static const struct {
         enum cdx_number number;
         const char *sheet;
-    } refused[] = {{CDX_BYTES, "\x7F"},        {CDX_NAME, "<lab/>"},
-                   {CDX_VALUE, "<Lab n=04/>"}, {CDX_DUE, "<Lab/>\nx"},
-                   {CDX_CUT, "<Lab>"},         {CDX_CLOSING_NAME, "<Lab>\n\t<Lab/>\n</Steps>"},
-                   {CDX_TRAIT_TWICE, "<Lab n=1 n=2/>"}};
+    } refused[] = {{CDX_BYTES, "\x7F"},          {CDX_NAME, "<lab/>"},     {CDX_UNLISTED, "<Other/>"},
+                   {CDX_VALUE, "<Lab n=04/>"},   {CDX_DUE, "<Lab/>\nx"},   {CDX_CLOSING_NAME, "<Lab>\n</Steps>"},
+                   {CDX_CUT, "<Lab>"},           {CDX_TRAIT_TWICE, "<Lab n=1 n=2/>"}};
     for (size_t at = 0; at < sizeof refused / sizeof *refused; at++) {
         add(refused[at].sheet, 1);
         sheet_is(refused[at].number, refused[at].sheet);
     }
-    add("<Other/>", 1);
-    sheet_is(is_guest ? CDX_OK : CDX_UNLISTED, "a name that the table has not");
-    add("<Lab>\n<Lab/>\n</Lab>", 1);
-    sheet_is(is_guest ? CDX_DUE : CDX_OK, "a child at its parent's tabs");
-}
-
-static void try_views(void)
-{
     uint32_t answer[CDX_ANSWER];
     cdx_view((const uint8_t *)lab, 0, cells, 0, 0, answer);
     if (answer[0] != CDX_VIEW)
@@ -274,9 +235,9 @@ static void try_records(void)
 {
     static const uint32_t due[2][CDX_RECORD] = {
         {[CDX_SHEET_START] = 1, [CDX_SHEET_END] = 12, [CDX_SHEET_NUMBER] = CDX_OK, [CDX_SHEET_PLACE] = 11, [CDX_SHEET_COUNT] = 2},
-        {[CDX_SHEET_START] = 12, [CDX_SHEET_END] = 23, [CDX_SHEET_NUMBER] = CDX_VALUE, [CDX_SHEET_PLACE] = 7, [CDX_SHEET_COUNT] = 0},
+        {[CDX_SHEET_START] = 12, [CDX_SHEET_END] = 20, [CDX_SHEET_NUMBER] = CDX_UNLISTED, [CDX_SHEET_PLACE] = 1, [CDX_SHEET_COUNT] = 0},
     };
-    add("\n<Lab n=4/>\n<Lab n=04/>", 1);
+    add("\n<Lab n=4/>\n<Other/>", 1);
     roll_is(CDX_OK, records_len, "a roll");
     for (size_t at = 0; at < 2 * CDX_RECORD; at++)
         if (records[at] != due[at / CDX_RECORD][at % CDX_RECORD])
@@ -330,7 +291,7 @@ static void name_is(size_t number, size_t due)
 static void try_entries(void)
 {
     add("[a]\n<Lab a=\"\" b='b' c=true d=4 e=0.5 f=6e6 g=7/7 h=$H i=~i j=00000000-0000-0000-0000-000000000000 k=k: l={now}\n", 1);
-    add("m=[12] n=set[14] o=map[key:15] p=(16)>\n\t<Lab/>\n\t<Steps>\n\t\tboot\n\t</Steps>\n</Lab>", 1);
+    add("m=[12] n=set[14] o=map[key:15] p=(16)>\n<Lab/>\n<Steps>\n</Steps>\n</Lab>", 1);
     sheet_is(CDX_OK, "a sheet with every kind and form");
     entry_is(0, CDX_ANNOTATION, 0, CDX_TOP, 0);
     entry_is(1, CDX_CONCEPT, CDX_CHILDREN, CDX_TOP, 18);
@@ -365,28 +326,17 @@ static void try_times(void)
     }
 }
 
-/* All that is done with sheets and rolls. */
-static void try_way(bool guest)
+int main(void)
 {
-    is_guest = guest;
-    memset(out, 0, sizeof out);
     try_limits();
     try_refusals();
     try_forms();
     try_entries();
+    try_times();
     try_rolls();
     try_records();
     try_adding();
-}
-
-int main(void)
-{
-    try_tables();
-    try_views();
-    try_times();
-    try_way(false);
-    try_way(true);
     if (status == 0)
-        puts("the limits, refusals, kinds, forms, times and records of include/cdx.h are the library's, with a table and without");
+        puts("the limits, refusals, kinds, forms, times and records of include/cdx.h are the library's");
     return status;
 }

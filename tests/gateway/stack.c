@@ -95,30 +95,7 @@ static void call_add(void)
     cdx_add(table, table_len, text, text_len, room, sizeof room, 0, cells, CDX_MAX_CELLS, answer);
 }
 
-static void call_guest_sheet(void)
-{
-    cdx_guest_sheet(text, text_len, cells, CDX_MAX_CELLS, answer);
-}
-
-static void call_guest_write(void)
-{
-    cdx_guest_write(text, text_len, cells, CDX_MAX_CELLS, room, CDX_MAX_SHEET, answer);
-}
-
-static void call_guest_roll(void)
-{
-    cdx_guest_roll(text, text_len, records, CDX_MAX_RECORD_CELLS, cells, CDX_MAX_CELLS, answer);
-}
-
-static void call_guest_add(void)
-{
-    cdx_guest_add(text, text_len, room, sizeof room, 0, cells, CDX_MAX_CELLS, answer);
-}
-
-enum { TABLE, VIEW, TIME, SHEET, WRITE, ROLL, ADD, GUEST_SHEET, GUEST_WRITE, GUEST_ROLL, GUEST_ADD, FUNCTIONS };
-
-/* What a function under a table is for guests, which have none. */
-enum { GUEST = GUEST_SHEET - SHEET };
+enum { TABLE, SHEET, VIEW, TIME, WRITE, ROLL, ADD, FUNCTIONS };
 
 static struct {
     const char *name;
@@ -127,17 +104,10 @@ static struct {
     const char *most_for; /*   and by which input */
     size_t allowed;
 } functions[FUNCTIONS] = {
-    [TABLE] = {.name = "cdx_table", .call = call_table},
-    [VIEW] = {.name = "cdx_view", .call = call_view},
-    [TIME] = {.name = "cdx_time", .call = call_time},
-    [SHEET] = {.name = "cdx_sheet", .call = call_sheet},
-    [WRITE] = {.name = "cdx_write", .call = call_write},
-    [ROLL] = {.name = "cdx_roll", .call = call_roll},
+    [TABLE] = {.name = "cdx_table", .call = call_table}, [SHEET] = {.name = "cdx_sheet", .call = call_sheet},
+    [VIEW] = {.name = "cdx_view", .call = call_view},    [TIME] = {.name = "cdx_time", .call = call_time},
+    [WRITE] = {.name = "cdx_write", .call = call_write}, [ROLL] = {.name = "cdx_roll", .call = call_roll},
     [ADD] = {.name = "cdx_add", .call = call_add},
-    [GUEST_SHEET] = {.name = "cdx_guest_sheet", .call = call_guest_sheet},
-    [GUEST_WRITE] = {.name = "cdx_guest_write", .call = call_guest_write},
-    [GUEST_ROLL] = {.name = "cdx_guest_roll", .call = call_guest_roll},
-    [GUEST_ADD] = {.name = "cdx_guest_add", .call = call_guest_add},
 };
 
 static void measure(int function, const char *input)
@@ -229,49 +199,31 @@ static void add_brackets(const char *open, const char *value, const char *close,
     add(close, deep);
 }
 
-/* The start of a line with so many tabs before it: those of a Concept in so many others, as a guest's sheet must have them. */
-static void add_at(size_t tabs, const char *start)
+/* The opening markers of Concepts in one another, each with so many traits and an annotation, but for the root. An inner marker has a tab
+ * before it, since a line that begins with "<" would begin a sheet of a roll. */
+static void open_concepts(size_t concepts, size_t traits)
 {
-    add("\t", tabs);
-    add(start, 1);
-}
-
-/* The opening markers of Concepts in one another, behind so many others, each with so many traits. All but the root have an annotation,
- * where these are asked for. */
-static void open_concepts(size_t outer, size_t concepts, size_t traits, bool annotated)
-{
-    for (size_t tabs = outer; tabs < outer + concepts; tabs++) {
-        if (annotated && tabs > 0)
-            add_at(tabs, "[a]\n");
-        add_at(tabs, "<Lab");
+    for (size_t n = 0; n < concepts; n++) {
+        add(n == 0 ? "<Lab" : "\t[a]\n\t<Lab", 1);
         add_traits(traits);
         add(">\n", 1);
     }
 }
 
-enum { INNERMOST = CDX_MAX_CONCEPTS - 1 };
-
 /* The innermost Concept, with so many traits and no end, in as many others as are allowed. */
 static void open_all(size_t outer_traits, size_t inner_traits)
 {
     text_len = 0;
-    open_concepts(0, INNERMOST, outer_traits, true);
-    add_at(INNERMOST, "<Lab");
+    open_concepts(CDX_MAX_CONCEPTS - 1, outer_traits);
+    add("\t<Lab", 1);
     add_traits(inner_traits);
 }
 
-/* The closing markers around the innermost Concept. */
-static void close_outer(void)
-{
-    for (size_t tabs = INNERMOST; tabs > 0; tabs--)
-        add_at(tabs - 1, "</Lab>\n");
-}
-
-/* The ends of all that was opened. */
+/* The ends of all these. */
 static void close_all(void)
 {
     add("/>\n", 1);
-    close_outer();
+    add("</Lab>\n", CDX_MAX_CONCEPTS - 1);
 }
 
 /* As deep as is allowed in every way: Concepts with traits, and in the innermost brackets of every kind, maps with every kind of value. */
@@ -298,12 +250,9 @@ static void make_deepest(void)
 static void make_deep_content(void)
 {
     text_len = 0;
-    open_concepts(0, INNERMOST, 6, true);
-    add_at(INNERMOST, "<Steps b=1 c=2>\n");
-    add_at(INNERMOST + 1, "a\n\n");
-    add_at(INNERMOST + 2, "b\n");
-    add_at(INNERMOST, "</Steps>\n");
-    close_outer();
+    open_concepts(CDX_MAX_CONCEPTS - 1, 6);
+    add("\t<Steps b=1 c=2>\n\t\ta\n\n\t\t\tb\n\t</Steps>\n", 1);
+    add("</Lab>\n", CDX_MAX_CONCEPTS - 1);
 }
 
 /* A sheet of so many bytes, most of them Content. Its form has a line end more. */
@@ -360,9 +309,9 @@ static void make_wide_outside(void)
 {
     const size_t wide = 18;
     text_len = 0;
-    open_concepts(0, wide, 40, true);
-    open_concepts(wide, INNERMOST - wide, 0, false);
-    add_at(INNERMOST, "<Lab");
+    open_concepts(wide, 40);
+    add("\t<Lab>\n", CDX_MAX_CONCEPTS - 1 - wide);
+    add("\t<Lab", 1);
     close_all();
 }
 
@@ -371,55 +320,48 @@ static void make_wide_inside(void)
 {
     const size_t wide = (CDX_MAX_ENTRIES - CDX_MAX_CONCEPTS) / 40;
     text_len = 0;
-    open_concepts(0, CDX_MAX_CONCEPTS - wide, 0, false);
-    open_concepts(CDX_MAX_CONCEPTS - wide, wide - 1, 40, false);
-    add_at(INNERMOST, "<Lab");
+    add("<Lab>\n", 1);
+    add("\t<Lab>\n", CDX_MAX_CONCEPTS - 1 - wide);
+    for (size_t n = 1; n < wide; n++) {
+        add("\t<Lab", 1);
+        add_traits(40);
+        add(">\n", 1);
+    }
+    add("\t<Lab", 1);
     add_traits(40);
     close_all();
 }
 
-/* All that is done with a sheet, under a table and then without. */
+/* All that is done with a sheet. */
 static void measure_all(const char *input)
 {
-    for (int way = 0; way <= GUEST; way += GUEST) {
-        measure(SHEET + way, input);
-        entry = answer[2] > 0 ? answer[2] - 1 : 0;
-        measure(VIEW, input);
-        measure(WRITE + way, input);
-        measure(ROLL + way, input);
-        measure(ADD + way, input);
-    }
+    measure(SHEET, input);
+    entry = answer[2] > 0 ? answer[2] - 1 : 0;
+    measure(VIEW, input);
+    measure(WRITE, input);
+    measure(ROLL, input);
+    measure(ADD, input);
 }
 
 /* The same for a sheet that reads without refusal. What its form is answered with, written or added, is said. */
 static void measure_accepted(const char *input, enum cdx_number form)
 {
-    for (int way = 0; way <= GUEST; way += GUEST) {
-        measure_due(SHEET + way, input, CDX_OK);
-        entry = answer[2] - 1;
-        measure_due(VIEW, input, CDX_OK);
-        measure_due(WRITE + way, input, form);
-        measure_due(ROLL + way, input, CDX_OK);
-        if (answer[2] != 1 || records[CDX_SHEET_NUMBER] != CDX_OK) {
-            printf("%s: %s is not a sheet of a roll\n", functions[ROLL + way].name, input);
-            status = 1;
-        }
-        measure_due(ADD + way, input, form);
+    measure_due(SHEET, input, CDX_OK);
+    entry = answer[2] - 1;
+    measure_due(VIEW, input, CDX_OK);
+    measure_due(WRITE, input, form);
+    measure_due(ROLL, input, CDX_OK);
+    if (answer[2] != 1 || records[CDX_SHEET_NUMBER] != CDX_OK) {
+        printf("cdx_roll: %s is not a sheet of a roll\n", input);
+        status = 1;
     }
+    measure_due(ADD, input, form);
 }
 
 static void measure_refused(const char *input, enum cdx_number due)
 {
     measure_due(SHEET, input, due);
-    measure_due(GUEST_SHEET, input, due);
     measure_all(input);
-}
-
-/* A roll, under a table and without. */
-static void measure_roll(const char *input, enum cdx_number due)
-{
-    measure_due(ROLL, input, due);
-    measure_due(GUEST_ROLL, input, due);
 }
 
 /* A form has every trait of a wide marker on a line of its own, behind tabs, so that those of the deep and wide sheets are too long. */
@@ -451,8 +393,7 @@ static void try_accepted(void)
 static void try_refused(void)
 {
     open_all(6, 6);
-    add(">\n", 1);
-    add_at(CDX_MAX_CONCEPTS, "<Lab/>");
+    add(">\n\t<Lab/>", 1);
     measure_refused("a Concept too deep", CDX_TOO_DEEP);
     open_all(6, 6);
     add_trait(6);
@@ -482,20 +423,20 @@ static void try_rolls(void)
 {
     text_len = 0;
     add("<Lab/>\n", CDX_MAX_SHEETS);
-    measure_roll("as many sheets as are allowed", CDX_OK);
+    measure_due(ROLL, "as many sheets as are allowed", CDX_OK);
     add("<Lab/>\n", 1);
-    measure_roll("too many sheets", CDX_TOO_MANY_SHEETS);
+    measure_due(ROLL, "too many sheets", CDX_TOO_MANY_SHEETS);
     make_deepest();
     const size_t one = text_len;
     for (; text_len + one <= CDX_MAX_ROLL; text_len += one)
         memcpy(text + text_len, text, one);
     add("\n", CDX_MAX_ROLL - text_len);
-    measure_roll("the largest roll", CDX_OK);
+    measure_due(ROLL, "the largest roll", CDX_OK);
     add("\n", 1);
-    measure_roll("a roll that is too long", CDX_ROLL_TOO_LONG);
+    measure_due(ROLL, "a roll that is too long", CDX_ROLL_TOO_LONG);
     text[0] = 'x';
     text_len--;
-    measure_roll("a roll with something before its first sheet", CDX_BEFORE_BOUNDARY);
+    measure_due(ROLL, "a roll with something before its first sheet", CDX_BEFORE_BOUNDARY);
 }
 
 static void try_times(void)

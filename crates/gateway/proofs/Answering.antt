@@ -8,7 +8,6 @@ use borrow.Author.Tests.{leb-true}
 use native.Mathlib.Omega.{arith}
 use Rattle.paper.specs.Answer.{Told}
 use Rattle.paper.specs.Modes.{read_table}
-use Rattle.paper.specs.Ways.{Given}
 use Rattle.paper.specs.Entries.{Entry}
 use Rattle.paper.specs.View.{viewable, view_answer}
 use Rattle.paper.specs.Limits.{sheet_limit}
@@ -27,19 +26,19 @@ use Rattle.paper.proofs.Beginning.{Begins, begins}
 pub table_few : (table : List ℕ) (t : Told) → t ≡ read_table table → Few t
 table_few table t e = rw e (omega (arith, (table_small table).0), omega (arith, (table_small table).1))
 
-pub sheet_few : (given : Given) (s : List ℕ) (lent : ℕ) (t : Told) (cells : List ℕ) → record { answer = t; cells = cells } ≡ reading given s lent → Few t
-sheet_few given s lent t cells e =
-    let a : t ≡ (reading given s lent).answer = ap (λ (x : Reading). x.answer) e in
-    rw a (omega (arith, (reading_small given s lent).0), omega (arith, (reading_small given s lent).1))
+pub sheet_few : (table s : List ℕ) (lent : ℕ) (t : Told) (cells : List ℕ) → record { answer = t; cells = cells } ≡ reading table s lent → Few t
+sheet_few table s lent t cells e =
+    let a : t ≡ (reading table s lent).answer = ap (λ (x : Reading). x.answer) e in
+    rw a (omega (arith, (reading_small table s lent).0), omega (arith, (reading_small table s lent).1))
 
 -- what is written is no longer than a sheet, and a refused reading's place is in one
-writing_few : (given : Given) (s : List ℕ) (lent : ℕ) (out : List ℕ) → Few (writing given s lent out).answer
+writing_few : (table s : List ℕ) (lent : ℕ) (out : List ℕ) → Few (writing table s lent out).answer
 unfolding writing write_form
-writing_few given s lent out = by_tree (begin given s lent) refl (begins given s lent)
+writing_few table s lent out = by_tree (begin table s lent) refl (begins table s lent)
   where
-    by_tree : (b : Begun) → begin given s lent ≡ b → Begins given s lent b → Few (writing given s lent out).answer
+    by_tree : (b : Begun) → begin table s lent ≡ b → Begins table s lent b → Few (writing table s lent out).answer
     by_tree (unread n at) e q =
-        let small = rw q.is at (reading_small given s lent) in
+        let small = rw q.is at (reading_small table s lent) in
         rw (e, writing) (omega (arith, small.0), omega arith)
     by_tree (tree t) e q =
         split (form_fits out (canonical t))
@@ -48,15 +47,15 @@ writing_few given s lent out = by_tree (begin given s lent) refl (begins given s
         rw (e, writing, write_form, f) (omega arith, omega (arith, short)))
         (λ f. rw (e, writing, write_form, f) (omega arith, omega arith))
 
-pub form_few : (given : Given) (s : List ℕ) (lent : ℕ) (out : List ℕ) (t : Told) (after cells : List ℕ)
-    → record { answer = t; out = after; cells = cells } ≡ writing given s lent out → Few t
-form_few given s lent out t after cells e =
-    let a : t ≡ (writing given s lent out).answer = ap (λ (x : Writing). x.answer) e in
-    rw a (writing_few given s lent out)
+pub form_few : (table s : List ℕ) (lent : ℕ) (out : List ℕ) (t : Told) (after cells : List ℕ)
+    → record { answer = t; out = after; cells = cells } ≡ writing table s lent out → Few t
+form_few table s lent out t after cells e =
+    let a : t ≡ (writing table s lent out).answer = ap (λ (x : Writing). x.answer) e in
+    rw a (writing_few table s lent out)
 
-pub form_told : (given : Given) (s : List ℕ) (lent : ℕ) (out : List ℕ) (t : Told) (after cells answer : List ℕ)
-    → record { answer = t; out = after; cells = cells } ≡ writing given s lent out → answer ≡ threeOf t → TellsForm given s lent out cells after answer
-form_told given s lent out t after cells answer e told =
+pub form_told : (table s : List ℕ) (lent : ℕ) (out : List ℕ) (t : Told) (after cells answer : List ℕ)
+    → record { answer = t; out = after; cells = cells } ≡ writing table s lent out → answer ≡ threeOf t → TellsForm table s lent out cells after answer
+form_told table s lent out t after cells answer e told =
     (ap (λ (x : Writing). x.cells) e, ap (λ (x : Writing). x.out) e, told ∙ ap (λ (x : Writing). threeOf x.answer) e)
 
 -- ---- a view

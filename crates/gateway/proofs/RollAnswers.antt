@@ -11,7 +11,7 @@ use native.Mathlib.Omega.{arith}
 use Rattle.paper.specs.Answer.{Told}
 use Rattle.paper.specs.Found.{Found, found, fault}
 use Rattle.paper.specs.Bytes.{lf}
-use Rattle.paper.specs.Ways.{Way, Given, way_of}
+use Rattle.paper.specs.Modes.{Modes, mode_table, read_table}
 use Rattle.paper.specs.Tree.{Blank, Annotation, Sheet}
 use Rattle.paper.specs.Grammar.{blanks_onto, annotations_onto, sheet_onto}
 use Rattle.paper.specs.Limits.{sheet_limit}
@@ -22,7 +22,7 @@ use Rattle.paper.specs.Roll.{roll_limit, Parts, parts, parts_of, together, RollR
 use Rattle.paper.specs.Roll.{add_fits, ends_in_line, add_form, add_tree, adding}
 use Rattle.paper.proofs.Tests.{split, up_to}
 use Rattle.paper.proofs.Lists.{both, by_front}
-use Rattle.paper.proofs.Givens.{given_refused}
+use Rattle.paper.proofs.TableSizes.{table_small}
 use Rattle.paper.proofs.Exactly.{sheet_answers, reading_small}
 use Rattle.paper.proofs.Beginning.{Sound, Begins, begins, reads_tree}
 use Rattle.paper.proofs.Fronts.{blanks_front}
@@ -39,19 +39,19 @@ some_short zero ps = omega arith
 some_short (suc n) [] = omega arith
 some_short (suc n) (p ∷ ps) = omega (arith, length-append p (together (take n ps)), length-append p (together ps), some_short n ps)
 
-module _ (given : Given) (r : List ℕ) (records : ℕ) (lead : List ℕ) (sheets : List (List ℕ)) (all : lead ++ together sheets ≡ r) where
+module _ (table r : List ℕ) (records : ℕ) (lead : List ℕ) (sheets : List (List ℕ)) (all : lead ++ together sheets ≡ r) where
   abbrev faults : Told
-  faults = roll_faults given (roll_room records) r (parts lead sheets)
+  faults = roll_faults table (roll_room records) r (parts lead sheets)
 
   lengths : length lead + length (together sheets) ≡ length r
   lengths = sym (length-append lead (together sheets)) ∙ ap length all
 
   module _ (h : length r ≤ roll_limit) where
     -- a place in the roll, and no more records than sheets are allowed
-    by_lead : (way : Way) (left : List ℕ) → way_of given ≡ found way left → (x : Found (List ℕ)) → only_blanks lead ≡ x → Few faults
+    by_lead : (m : Modes) (left : List ℕ) → mode_table table ≡ found m left → (x : Found (List ℕ)) → only_blanks lead ≡ x → Few faults
     unfolding roll_faults
-    by_lead way left e (fault n rest) f = rw (le-ltb roll_limit (length r) h, roll_faults, e, f) (omega (arith, lengths), omega arith)
-    by_lead way left e (found bs rest) f =
+    by_lead m left e (fault n rest) f = rw (le-ltb roll_limit (length r) h, roll_faults, e, f) (omega (arith, lengths), omega arith)
+    by_lead m left e (found bs rest) f =
         split (ltb (roll_room records) (length sheets))
         (λ o. rw (le-ltb roll_limit (length r) h, roll_faults, e, f, o) (omega (arith, lengths, some_short (roll_room records) sheets), omega arith))
         (λ o.
@@ -59,37 +59,38 @@ module _ (given : Given) (r : List ℕ) (records : ℕ) (lead : List ℕ) (sheet
         rw (le-ltb roll_limit (length r) h, roll_faults, e, f, o) (omega arith, omega (arith, few)))
 
     -- a place in the table
-    by_given : (x : Found Way) → way_of given ≡ x → Few faults
-    unfolding roll_faults
-    by_given (found way left) e = by_lead way left e (only_blanks lead) refl
-    by_given (fault n left) e =
-        rw (le-ltb roll_limit (length r) h, roll_faults, e) (omega (arith, (given_refused given n left e).small), omega arith)
+    by_table : (x : Found Modes) → mode_table table ≡ x → Few faults
+    unfolding roll_faults read_table
+    by_table (found m left) e = by_lead m left e (only_blanks lead) refl
+    by_table (fault n left) e =
+        let small = rw (read_table, e) at (table_small table).0 in
+        rw (le-ltb roll_limit (length r) h, roll_faults, e) (omega (arith, small), omega arith)
 
   faults_few : Few faults
   unfolding roll_faults
   faults_few =
       up_to (length r) roll_limit
-      (λ h. by_given h (way_of given) refl)
+      (λ h. by_table h (mode_table table) refl)
       (λ h. rw (lt-ltb roll_limit (length r) h, roll_faults) (omega arith, omega arith))
 
 -- the answer of every roll
-listing_few : (given : Given) (r : List ℕ) (records lent : ℕ) → Few (roll_reading given r records lent).answer
+listing_few : (table r : List ℕ) (records lent : ℕ) → Few (roll_reading table r records lent).answer
 unfolding roll_reading
-listing_few given r records lent = go (parts_of r) (nothing_lost true r)
+listing_few table r records lent = go (parts_of r) (nothing_lost true r)
   where
-    go : (q : Parts) → whole q ≡ r → Few (roll_faults given (roll_room records) r q)
-    go (parts lead sheets) all = faults_few given r records lead sheets all
+    go : (q : Parts) → whole q ≡ r → Few (roll_faults table (roll_room records) r q)
+    go (parts lead sheets) all = faults_few table r records lead sheets all
 
-pub roll_few : (given : Given) (r : List ℕ) (records lent : ℕ) (t : Told) (after cells : List ℕ)
-    → record { answer = t; records = after; cells = cells } ≡ roll_reading given r records lent → Few t
-roll_few given r records lent t after cells e =
-    let a : t ≡ (roll_reading given r records lent).answer = ap (λ (x : RollReading). x.answer) e in
-    rw a (listing_few given r records lent)
+pub roll_few : (table r : List ℕ) (records lent : ℕ) (t : Told) (after cells : List ℕ)
+    → record { answer = t; records = after; cells = cells } ≡ roll_reading table r records lent → Few t
+roll_few table r records lent t after cells e =
+    let a : t ≡ (roll_reading table r records lent).answer = ap (λ (x : RollReading). x.answer) e in
+    rw a (listing_few table r records lent)
 
-pub roll_told : (given : Given) (r : List ℕ) (records lent : ℕ) (t : Told) (after cells answer : List ℕ)
-    → record { answer = t; records = after; cells = cells } ≡ roll_reading given r records lent → answer ≡ threeOf t
-    → TellsRoll given r records lent after cells answer
-roll_told given r records lent t after cells answer e told =
+pub roll_told : (table r : List ℕ) (records lent : ℕ) (t : Told) (after cells answer : List ℕ)
+    → record { answer = t; records = after; cells = cells } ≡ roll_reading table r records lent → answer ≡ threeOf t
+    → TellsRoll table r records lent after cells answer
+roll_told table r records lent t after cells answer e told =
     (ap (λ (x : RollReading). x.records) e, ap (λ (x : RollReading). x.cells) e, told ∙ ap (λ (x : RollReading). threeOf x.answer) e)
 
 -- ---- adding
@@ -119,33 +120,33 @@ mark_in_sheet : (t : Sheet) (a : Annotation) (notes : List Annotation) → t.ann
 unfolding sheet_onto
 mark_in_sheet t a notes e = rw e (mark_inside t.before a notes _)
 
-tree_few : (given : Given) (s : List ℕ) (lent : ℕ) (roll : List ℕ) (n : ℕ) (t : Sheet) → Sound given s lent t → Few (add_tree lent roll n t).answer
+tree_few : (table s : List ℕ) (lent : ℕ) (roll : List ℕ) (n : ℕ) (t : Sheet) → Sound table s lent t → Few (add_tree lent roll n t).answer
 unfolding add_tree
-tree_few given s lent roll n t h =
+tree_few table s lent roll n t h =
     by_front t.annotations
     (λ e. rw (e, add_tree) (form_few lent roll n (canonical t)))
     (λ a notes e.
-    let short = rw (reads_tree h) at (reading_small given s lent).0 in
-    let answers = rw h.read at (sheet_answers h.way (room_of lent) s) in
+    let short = rw (reads_tree h) at (reading_small table s lent).0 in
+    let answers = rw h.read at (sheet_answers h.modes (room_of lent) s) in
     rw (e, add_tree) (omega (arith, mark_in_sheet t a notes e, ap length answers.1.derives.covers, short), omega arith))
 
-added_few : (given : Given) (s roll : List ℕ) (n lent : ℕ) → Few (adding given s roll n lent).answer
+added_few : (table s roll : List ℕ) (n lent : ℕ) → Few (adding table s roll n lent).answer
 unfolding adding
-added_few given s roll n lent = go (begin given s lent) refl (begins given s lent)
+added_few table s roll n lent = go (begin table s lent) refl (begins table s lent)
   where
-    go : (b : Begun) → begin given s lent ≡ b → Begins given s lent b → Few (adding given s roll n lent).answer
+    go : (b : Begun) → begin table s lent ≡ b → Begins table s lent b → Few (adding table s roll n lent).answer
     go (unread k at) e q =
-        let small = rw q.is at (reading_small given s lent) in
+        let small = rw q.is at (reading_small table s lent) in
         rw (e, adding) (omega (arith, small.0), omega arith)
-    go (tree t) e q = rw (e, adding) (tree_few given s lent roll n t q)
+    go (tree t) e q = rw (e, adding) (tree_few table s lent roll n t q)
 
-pub adding_few : (given : Given) (s roll : List ℕ) (n lent : ℕ) (t : Told) (after cells : List ℕ)
-    → record { answer = t; out = after; cells = cells } ≡ adding given s roll n lent → Few t
-adding_few given s roll n lent t after cells e =
-    let a : t ≡ (adding given s roll n lent).answer = ap (λ (x : Writing). x.answer) e in
-    rw a (added_few given s roll n lent)
+pub adding_few : (table s roll : List ℕ) (n lent : ℕ) (t : Told) (after cells : List ℕ)
+    → record { answer = t; out = after; cells = cells } ≡ adding table s roll n lent → Few t
+adding_few table s roll n lent t after cells e =
+    let a : t ≡ (adding table s roll n lent).answer = ap (λ (x : Writing). x.answer) e in
+    rw a (added_few table s roll n lent)
 
-pub adding_told : (given : Given) (s roll : List ℕ) (n lent : ℕ) (t : Told) (after cells answer : List ℕ)
-    → record { answer = t; out = after; cells = cells } ≡ adding given s roll n lent → answer ≡ threeOf t → TellsAdding given s roll n lent after cells answer
-adding_told given s roll n lent t after cells answer e told =
+pub adding_told : (table s roll : List ℕ) (n lent : ℕ) (t : Told) (after cells answer : List ℕ)
+    → record { answer = t; out = after; cells = cells } ≡ adding table s roll n lent → answer ≡ threeOf t → TellsAdding table s roll n lent after cells answer
+adding_told table s roll n lent t after cells answer e told =
     (ap (λ (x : Writing). x.out) e, ap (λ (x : Writing). x.cells) e, told ∙ ap (λ (x : Writing). threeOf x.answer) e)

@@ -1,16 +1,15 @@
 // The C interface: the public functions for programs that are not written in Rattle.
-// Document 01, "Refusal numbers" and the answers of "Order"; document 02, Two and Seven. include/cdx.h declares these functions for C.
+// Document 01, "Refusal numbers" and the answers of "Order"; document 02, Two. include/cdx.h declares these functions for C.
 ghost use Rattle.std.specs.Prelude.{◌≡◌, length};
 ghost use Rattle.paper.specs.Answer.{told};
 ghost use Rattle.times.specs.Numbers.{TellsTime};
 ghost use Rattle.gateway.specs.Answers.{Few, threeOf};
-ghost use Rattle.paper.specs.Ways.{tabled, guest};
 ghost use Rattle.gateway.specs.Promises.{TellsTable, TellsSheet, TellsView, TellsForm, TellsRoll, TellsAdding};
 
 use entries::get;
-use layout::{write, write_guest};
+use layout::write;
 use paper::Answer;
-use sheets::{read, read_guest, view_answer};
+use sheets::{read, view_answer};
 use times::kinds::value_kind;
 
 // Reads a mode table. The answer is number, place and count.
@@ -24,18 +23,10 @@ pub extern "C" fn cdx_table(table: &[u8], answer: &mut [u32; 3])
 // Reads a sheet under a mode table into the cells lent. The answer is number, place and count.
 #[unsafe(no_mangle)]
 pub extern "C" fn cdx_sheet(table: &[u8], sheet: &[u8], cells: &mut [u32], answer: &mut [u32; 3])
-    ensures { TellsSheet (tabled table.now) sheet.now (length cells.old)
+    ensures { TellsSheet table.now sheet.now (length cells.old)
         cells.new answer.new }
 {
     tell(read(table, sheet, cells), answer);
-}
-
-// Reads a guest's sheet, without a mode table, into the cells lent. The answer is number, place and count.
-#[unsafe(no_mangle)]
-pub extern "C" fn cdx_guest_sheet(sheet: &[u8], cells: &mut [u32], answer: &mut [u32; 3])
-    ensures { TellsSheet guest sheet.now (length cells.old) cells.new answer.new }
-{
-    tell(read_guest(sheet, cells), answer);
 }
 
 // The part of the sheet that an entry's span names. The answer is number, start and end of the part; both are 0 where it is refused.
@@ -70,24 +61,10 @@ pub extern "C" fn cdx_write(
     out: &mut [u8],
     answer: &mut [u32; 3],
 )
-    ensures { TellsForm (tabled table.now) sheet.now (length cells.old) out.old
+    ensures { TellsForm table.now sheet.now (length cells.old) out.old
         cells.new out.new answer.new }
 {
     tell(write(table, sheet, cells, out), answer);
-}
-
-// Writes the canonical form of a guest's sheet, which is read without a mode table, as `cdx_write` does.
-#[unsafe(no_mangle)]
-pub extern "C" fn cdx_guest_write(
-    sheet: &[u8],
-    cells: &mut [u32],
-    out: &mut [u8],
-    answer: &mut [u32; 3],
-)
-    ensures { TellsForm guest sheet.now (length cells.old) out.old
-        cells.new out.new answer.new }
-{
-    tell(write_guest(sheet, cells, out), answer);
 }
 
 // Reads a roll into the records lent. The cells are lent to the reading of each sheet, and zero after every answer. The answer is
@@ -100,24 +77,10 @@ pub extern "C" fn cdx_roll(
     cells: &mut [u32],
     answer: &mut [u32; 3],
 )
-    ensures { TellsRoll (tabled table.now) roll.now (length records.old) (length cells.old)
+    ensures { TellsRoll table.now roll.now (length records.old) (length cells.old)
         records.new cells.new answer.new }
 {
     tell(rolls::read(table, roll, records, cells), answer);
-}
-
-// Reads a roll of guests' sheets, each without a mode table, as `cdx_roll` does.
-#[unsafe(no_mangle)]
-pub extern "C" fn cdx_guest_roll(
-    roll: &[u8],
-    records: &mut [u32],
-    cells: &mut [u32],
-    answer: &mut [u32; 3],
-)
-    ensures { TellsRoll guest roll.now (length records.old) (length cells.old)
-        records.new cells.new answer.new }
-{
-    tell(rolls::read_guest(roll, records, cells), answer);
 }
 
 // Adds the canonical form of a sheet that reads without refusal, and one further LF, behind the first n bytes of the roll, and leaves
@@ -132,25 +95,10 @@ pub extern "C" fn cdx_add(
     cells: &mut [u32],
     answer: &mut [u32; 3],
 )
-    ensures { TellsAdding (tabled table.now) sheet.now roll.old n (length cells.old)
+    ensures { TellsAdding table.now sheet.now roll.old n (length cells.old)
         roll.new cells.new answer.new }
 {
     tell(rolls::add(table, sheet, roll, n as usize, cells), answer);
-}
-
-// Adds the canonical form of a guest's sheet, which is read without a mode table, as `cdx_add` does.
-#[unsafe(no_mangle)]
-pub extern "C" fn cdx_guest_add(
-    sheet: &[u8],
-    roll: &mut [u8],
-    n: u64,
-    cells: &mut [u32],
-    answer: &mut [u32; 3],
-)
-    ensures { TellsAdding guest sheet.now roll.old n (length cells.old)
-        roll.new cells.new answer.new }
-{
-    tell(rolls::add_guest(sheet, roll, n as usize, cells), answer);
 }
 
 // Writes an answer's number, place and count. They are small enough for an answer's cells.

@@ -2,14 +2,13 @@
 use Prim.Native.Nat.{ℕ}
 use mathlib.Core.Path.{◌≡◌, sym, ap, ◌∙◌}
 use mathlib.Core.List.{List}
-use Rattle.paper.specs.Ways.{Given}
 use Rattle.paper.specs.Writing.{Writing}
 use Rattle.paper.specs.declared.Answer.{Answer}
 use Rattle.paper.proofs.Told.{told_injective}
 use Rattle.layout.specs.Promises.{WritesSheet}
 
-pub one_answer_layout_write : (given : Given) (sheet : List ℕ) (lent : ℕ) (out : List ℕ) (r r' : Answer) (after after' cells cells' : List ℕ)
-    → WritesSheet given sheet lent out r after cells → WritesSheet given sheet lent out r' after' cells' → (r ≡ r') × (after ≡ after') × (cells ≡ cells')
-one_answer_layout_write given sheet lent out r r' after after' cells cells' e e' =
+pub one_answer_layout_write : (table sheet : List ℕ) (lent : ℕ) (out : List ℕ) (r r' : Answer) (after after' cells cells' : List ℕ)
+    → WritesSheet table sheet lent out r after cells → WritesSheet table sheet lent out r' after' cells' → (r ≡ r') × (after ≡ after') × (cells ≡ cells')
+one_answer_layout_write table sheet lent out r r' after after' cells cells' e e' =
     let q = e ∙ sym e' in
     (told_injective r r' (ap (λ (x : Writing). x.answer) q), ap (λ (x : Writing). x.out) q, ap (λ (x : Writing). x.cells) q)

@@ -16,7 +16,6 @@ use Rattle.paper.specs.declared.Refusal.TheVariants.{NoRoom}
 use Rattle.paper.specs.Answer.{Told, accepted, refused, told}
 use Rattle.paper.specs.Found.{Found, found, fault}
 use Rattle.paper.specs.Names.{name_limit}
-use Rattle.paper.specs.Ways.{Way, Given, way_of}
 use Rattle.paper.specs.Tree.{Sheet}
 use Rattle.paper.specs.Limits.{sheet_limit, concept_limit, bracket_limit, concept_fits, concept_depth, within_limits}
 use Rattle.paper.specs.Entries.{Entry, entry_cells, all_cells, entries}
@@ -28,6 +27,7 @@ use Rattle.paper.proofs.Told.{number_positive}
 use Rattle.paper.proofs.Written.{root_rule}
 use Rattle.paper.proofs.Exactly.{Answers, sheet_answers}
 use Rattle.paper.proofs.Beginning.{Begins, begins, begins_tree, reads_tree}
+use Rattle.modes.specs.Table.{Valid, modes_of}
 use Rattle.entries.specs.Laid.{lay}
 use Rattle.entries.proofs.Laying.{cells_length}
 use Rattle.sheets.specs.Sheets.{answer_of, AnswersSheet}
@@ -132,27 +132,27 @@ module _ (form₀ form w out : List ℕ) (end lent : ℕ) (e : page form₀ 0 w 
 -- ---- writing
 
 -- the reading that every writing begins with is refused: its answer and cells are those of every writing
-pub record Passed (given : Given) (s : List ℕ) (lent : ℕ) (answer : Told) (after : List ℕ) : Type 0 where
+pub record Passed (table s : List ℕ) (lent : ℕ) (answer : Told) (after : List ℕ) : Type 0 where
   pub number : ℕ
   pub place : ℕ
-  pub begins : begin given s lent ≡ unread number place
+  pub begins : begin table s lent ≡ unread number place
   pub is : ◌≡◌ {A = Reading} (record { answer = answer; cells = after }) (record { answer = refused number place; cells = replicate lent 0 })
 
-pub refused_passed : (given : Given) (s : List ℕ) (lent : ℕ) (r : Answer) (why : Refusal) (place : ℕ) → r ≡ Refused why place → (after : List ℕ)
-    → ◌≡◌ {A = Reading} (record { answer = told r; cells = after }) (reading given s lent) → Passed given s lent (told r) after
-refused_passed given s lent r why place is after e = go (begin given s lent) refl (begins given s lent)
+pub refused_passed : (table s : List ℕ) (lent : ℕ) (r : Answer) (why : Refusal) (place : ℕ) → r ≡ Refused why place → (after : List ℕ)
+    → ◌≡◌ {A = Reading} (record { answer = told r; cells = after }) (reading table s lent) → Passed table s lent (told r) after
+refused_passed table s lent r why place is after e = go (begin table s lent) refl (begins table s lent)
   where
-    go : (x : Begun) → begin given s lent ≡ x → Begins given s lent x → Passed given s lent (told r) after
+    go : (x : Begun) → begin table s lent ≡ x → Begins table s lent x → Passed table s lent (told r) after
     go (tree t) b h =
         let q : told r ≡ accepted (length s) (length (entries t)) = ap (λ (x : Reading). x.answer) (e ∙ reads_tree h) in
         absurd (number_positive why (ap (λ (x : Told). x.number) (sym (ap told is) ∙ q)))
     go (unread n at) b h = record { number = n; place = at; begins = b; is = e ∙ h.is }
 
 -- a refused reading is passed through
-pub refused_through : (given : Given) (s out : List ℕ) (lent : ℕ) (answer : Told) (after : List ℕ) → Passed given s lent answer after
-    → record { answer = answer; out = out; cells = after } ≡ writing given s lent out
+pub refused_through : (table s out : List ℕ) (lent : ℕ) (answer : Told) (after : List ℕ) → Passed table s lent answer after
+    → record { answer = answer; out = out; cells = after } ≡ writing table s lent out
 unfolding writing
-refused_through given s out lent answer after p =
+refused_through table s out lent answer after p =
     rw (p.begins, writing) (ap (λ (x : Reading). record { answer = x.answer; out = out; cells = x.cells }) p.is)
 
 -- a refusal counts nothing
@@ -169,24 +169,24 @@ laid_front cells mid es count many fits e =
     ∙ page_front cells (sets cells 0 (all_cells es)) (all_cells es) (omega (arith, cells_length es)) refl
 
 -- the tree that a sheet reads to, where so many cells are lent and these hold its entries
-pub record Read (given : Given) (s : List ℕ) (lent : ℕ) (held : List ℕ) : Type 0 where
+pub record Read (table s : List ℕ) (lent : ℕ) (held : List ℕ) : Type 0 where
   pub it : Sheet
-  pub begins : begin given s lent ≡ tree it
+  pub begins : begin table s lent ≡ tree it
   pub of : OfSheet s held it
 
-module _ (given : Given) (way : Way) (s cells mid out : List ℕ) (r : Answer) (place count : ℕ) (valid : way_of given ≡ found way [])
-    (g : AnswersSheet s cells (sheet_of way (room_of (length cells)) s) (told r) mid) (same : length mid ≡ length cells)
+module _ (table s cells mid out : List ℕ) (r : Answer) (place count : ℕ) (valid : Valid table)
+    (g : AnswersSheet s cells (sheet_of (modes_of table) (room_of (length cells)) s) (told r) mid) (same : length mid ≡ length cells)
     (is : r ≡ Accepted place count) where
   -- the cells of the entries are part of those that are lent
   pub cells_inside : count * entry_cells ≤ length mid
-  cells_inside = count_fits given s cells way r mid count g same (sym (ap (λ (x : Told). x.count) (ap told is)))
+  cells_inside = count_fits table s cells r mid count g same (sym (ap (λ (x : Told). x.count) (ap told is)))
 
-  pub tree_read : Read given s (length cells) (take (count * entry_cells) mid)
+  pub tree_read : Read table s (length cells) (take (count * entry_cells) mid)
   unfolding within_limits
-  tree_read = go (sheet_of way (room_of (length cells)) s) refl (sheet_answers way (room_of (length cells)) s) g.says
+  tree_read = go (sheet_of (modes_of table) (room_of (length cells)) s) refl (sheet_answers (modes_of table) (room_of (length cells)) s) g.says
     where
-      go : (x : Found Sheet) → sheet_of way (room_of (length cells)) s ≡ x → Answers way (room_of (length cells)) s x → told r
-          ≡ answer_of s x → Read given s (length cells) (take (count * entry_cells) mid)
+      go : (x : Found Sheet) → sheet_of (modes_of table) (room_of (length cells)) s ≡ x → Answers (modes_of table) (room_of (length cells)) s x → told r
+          ≡ answer_of s x → Read table s (length cells) (take (count * entry_cells) mid)
       go (fault n left) e h q = absurd (omega (arith, h.least, sym (ap (λ (x : Told). x.number) (sym (ap told is) ∙ q))))
       go (found t left) e h q =
           let a = h.1 in
@@ -195,11 +195,11 @@ module _ (given : Given) (way : Way) (s cells mid out : List ℕ) (r : Answer) (
           let many : count ≡ length (entries t) = ap (λ (x : Told). x.count) (sym (ap told is) ∙ q) in
           record {
             it = t;
-            begins = begins_tree (record { way = way; valid = valid; read = e ∙ ap (found t) h.0 });
+            begins = begins_tree (record { modes = modes_of table; valid = valid; read = e ∙ ap (found t) h.0 });
             of = record {
               covers = a.derives.covers;
               keeps = record {
-                rule = root_rule t a.derives.rule;
+                rule = root_rule (modes_of table) t a.derives.rule;
                 within = w.1;
                 deep = leb-true (concept_depth t.root) concept_limit
                     p.1;
@@ -210,7 +210,7 @@ module _ (given : Given) (way : Way) (s cells mid out : List ℕ) (r : Answer) (
 
   pub written : (answer : Answer) (after : List ℕ) (zeros : List ℕ) → zeros ≡ replicate (length cells) 0
       → FormWritten s (take (count * entry_cells) mid) out (told answer) after
-      → WritesSheet given s (length cells) out answer after zeros
+      → WritesSheet table s (length cells) out answer after zeros
   unfolding writing
   written answer after zeros z f =
       let read = tree_read in

@@ -3,47 +3,28 @@
 ghost use Rattle.std.specs.Prelude.{◌≡◌, min, length};
 ghost use Rattle.paper.specs.Answer.{told};
 ghost use Rattle.paper.specs.Limits.{sheet_limit};
-ghost use Rattle.paper.specs.Ways.{tabled, guest};
-ghost use Rattle.modes.specs.Ways.{given_by};
 ghost use Rattle.layout.specs.Promises.{WritesSheet, FormWritten};
 
 use entries::{CELLS, zero_from};
-use modes::way::{Way, ready};
 use paper::{Answer, Refusal};
 use printing::concepts::put_sheet;
 use quoting::page::put;
-use sheets::read_by;
+use sheets::read_under;
 use text::utf8::Cursor;
 
 // Writes the canonical form of a sheet that reads without refusal. The cells are lent to the reading, and zero after every answer.
 // A refusal leaves `out` as it came.
 pub fn write(table: &[u8], sheet: &[u8], cells: &mut [u32], out: &mut [u8]) -> Answer
-    ensures { WritesSheet (tabled table.now) sheet.now (length cells.old) out.old
-        result out.new cells.new }
-{
-    write_given(Way::Table, table, sheet, cells, out)
-}
-
-// Writes the canonical form of a guest's sheet, which is read without a table.
-pub fn write_guest(sheet: &[u8], cells: &mut [u32], out: &mut [u8]) -> Answer
-    ensures { WritesSheet guest sheet.now (length cells.old) out.old
-        result out.new cells.new }
-{
-    write_given(Way::Layout, &[], sheet, cells, out)
-}
-
-// Writes the canonical form of a sheet that is read by this way.
-fn write_given(way: Way, table: &[u8], sheet: &[u8], cells: &mut [u32], out: &mut [u8]) -> Answer
-    ensures { WritesSheet (given_by way table.now) sheet.now (length cells.old) out.old
+    ensures { WritesSheet table.now sheet.now (length cells.old) out.old
         result out.new cells.new }
 {
     let mut index = [0; modes::index::CELLS];
-    let given = ready(way, table, &mut index);
-    let Answer::Accepted { place: _, count: _ } = given else {
+    let modes = modes::read_into(table, &mut index);
+    let Answer::Accepted { place: _, count: _ } = modes else {
         zero_from(cells, 0);
-        return given;
+        return modes;
     };
-    let reading = read_by(way, table, sheet, cells, &index);
+    let reading = read_under(table, sheet, cells, &index);
     let Answer::Accepted { place: _, count } = reading else {
         zero_from(cells, 0);
         return reading;

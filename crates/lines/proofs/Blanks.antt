@@ -9,7 +9,7 @@ use lib.ListN.{length, get_or, drop, drop_of_length-le}
 use lib.Dec.{eqb}
 use Rattle.paper.specs.declared.Refusal.{Refusal}
 use Rattle.paper.specs.Found.{found, fault, more, turn_of, taking}
-use Rattle.paper.specs.Bytes.{is_blank, is_line_end, starts_in, length_in, front, behind, starts_with, space, tab, lf, is}
+use Rattle.paper.specs.Bytes.{is_blank, is_line_end, starts_in, length_in, front, behind, starts_with, space, tab, is}
 use Rattle.paper.specs.Reading.{line_rest, is_blank_line, blank_turn, blank_lines, is_tab, no_space, tabs_only, last_blanks}
 use Rattle.paper.proofs.Tests.{split}
 use Rattle.paper.proofs.Lines.{blank_shorter}
@@ -19,7 +19,7 @@ use Rattle.lines.specs.declared.part.Part.{Part}
 use Rattle.lines.specs.declared.part.Part.TheVariants.{Read, Refused}
 use Rattle.text.proofs.Stretch.{Stretch, behind_at, behind_none, behind_some}
 use Rattle.lines.proofs.Crossing.{says_read}
-use Rattle.lines.proofs.Ends.{RestAt, rest_at, rest_lf, starts_one, stands_one}
+use Rattle.lines.proofs.Ends.{RestAt, starts_one}
 use Rattle.lines.proofs.Turns.{turn_more, turn_over, turn_refused}
 
 -- ---- the blanks that stand from a place to an end
@@ -52,24 +52,9 @@ as_many [] e = refl
 as_many (b ∷ l) e =
     split (eqb b tab) (λ t. rw (tab_blank b t, length_in, t) (ap suc (as_many l (rw (length_in, t) at e)))) (λ f. rw (length_in, f, rw (length_in, f) at e))
 
-tabs_blanks : (s : List ℕ) (at end : ℕ) → Stretch is_tab s at end → starts_in is_blank (drop end s) ≡ false → Stretch is_blank s at end
+pub tabs_blanks : (s : List ℕ) (at end : ℕ) → Stretch is_tab s at end → starts_in is_blank (drop end s) ≡ false → Stretch is_blank s at end
 tabs_blanks s at end run e =
     (run.0 ∙ ap (λ (k : ℕ). at + k) (sym (as_many (drop at s) (ap (starts_in is_blank) (behind_at is_tab s at end run) ∙ e))), run.1, run.2)
-
--- this byte behind the tabs of a line, where it is no blank: they are all the blanks in front
-pub tabs_before : (b : ℕ) (s : List ℕ) (at mark : ℕ) → Stretch is_tab s at mark → starts_with (b ∷ []) (drop mark s) ≡ true → is_blank b ≡ false
-    → Stretch is_blank s at mark
-unfolding starts_in
-tabs_before b s at mark run starts n =
-    let one = stands_one b s mark starts in
-    tabs_blanks s at mark run (rw (here s mark one.0, one.1) n)
-
--- LF behind them: an empty line
-pub empty_line : (s : List ℕ) (at mark : ℕ) → Stretch is_tab s at mark → starts_with (lf ∷ []) (drop mark s) ≡ true → RestAt s at (mark + 1)
-unfolding is_blank
-empty_line s at mark run starts =
-    rest_at s at (Read (mark + 1) 0 0) (mark + 1) 0 0 (omega (arith, run.1, run.2))
-    (rest_lf s at mark (tabs_before lf s at mark run starts refl) starts (Read (mark + 1) 0 0) refl) refl
 
 -- ---- the tabs of a line on which a blank line may stand too
 

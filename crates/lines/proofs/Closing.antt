@@ -37,18 +37,6 @@ starts_both [] q s = refl
 starts_both (b ∷ p) q [] = refl
 starts_both (b ∷ p) q (c ∷ s) = split (eqb c b) (λ e. rw (e, starts_with) (starts_both p q s)) (λ e. rw (e, starts_with))
 
--- a closing marker by its parts, at a place
-pub closing_parts : (s w : List ℕ) (at size : ℕ) → length w ≡ size → starts_with (closing_onto w []) (drop at s)
-    ≡ starts_with (bytes "</") (drop at s) && (starts_with w (drop (at + 2) s) && starts_with (bytes ">") (drop (at + 2 + size) s))
-closing_parts s w at size z =
-    rw (
-      starts_both (bytes "</") (w ++ bytes ">") (drop at s),
-      starts_both w (bytes ">") (drop 2 (drop at s)),
-      drop-drop 2 at s,
-      drop-drop (length w) (at + 2) s,
-      z,
-    )
-
 -- it has exactly these tabs
 closes_tabs : (tabs : ℕ) (w s : List ℕ) → closes_line tabs w s ≡ true → length_in is_tab s ≡ tabs
 unfolding starts_in
@@ -99,7 +87,11 @@ module _ (s w : List ℕ) (at tabs mark size : ℕ) (run : Stretch is_tab s at m
           behind_tabs_lem tabs w (drop at s) k,
           drop-drop tabs at s,
           m,
-          closing_parts s w mark size z,
+          starts_both (bytes "</") (w ++ bytes ">") (drop mark s),
+          starts_both w (bytes ">") (drop 2 (drop mark s)),
+          drop-drop 2 mark s,
+          drop-drop (length w) (mark + 2) s,
+          z,
           drop-drop (length (closing_mark tabs w)) at s,
           n,
         )

@@ -7,31 +7,29 @@ use mathlib.Core.List.{List, [], ◌∷◌}
 use native.Mathlib.Omega.{arith}
 use lib.ListN.{length, drop, length-append, length-drop}
 use lib.Seq.{drop-drop}
-use lib.Dec.{leb, ltb}
+use lib.Dec.{leb}
 use borrow.Author.Tests.{leb-true, leb-false}
 use Rattle.paper.specs.declared.Refusal.{Refusal}
 use Rattle.paper.specs.declared.Refusal.TheVariants.{NoEntryLeft}
-use Rattle.paper.specs.Limits.{sheet_limit}
 use Rattle.paper.specs.Found.{Found, found, fault, and_then, Turn, more, over, stop, turn_of, taking, many_of}
-use Rattle.paper.specs.Bytes.{byte, is_white, length_in, is, past, lf}
-use Rattle.paper.specs.Tree.{Blank, Line, blank, Marker, Concept, content}
+use Rattle.paper.specs.Bytes.{byte}
+use Rattle.paper.specs.Tree.{Blank, Line, Marker, Concept, content}
 use Rattle.paper.specs.Grammar.{blank_onto, closing_onto, lines_onto}
 use Rattle.paper.specs.Entries.{Entry, unnamed}
-use Rattle.paper.specs.Reading.{line_rest, makes, closing_mark, closes_line, line_turn, inked_line, content_of}
+use Rattle.paper.specs.Reading.{line_rest, makes, closing_mark, closes_line, line_turn, content_of}
 use Rattle.paper.proofs.Tests.{true_false}
 use Rattle.paper.proofs.Finds.{Reads, Turns}
 use Rattle.paper.proofs.Lines.{makes_complete}
-use Rattle.paper.proofs.Content.{ReadLine, ReadLines, line_reads, line_shorter, line_complete, lines_reads, closes_is}
+use Rattle.paper.proofs.Content.{ReadLine, ReadLines, line_reads, line_shorter, lines_reads, closes_is}
 use Rattle.entries.specs.Laid.{lay}
-use Rattle.lines.specs.Parts.{seen, passed, turned, Makes, part, content_entries, PassesLine}
+use Rattle.lines.specs.Parts.{seen, passed, turned, Makes, content_entries, PassesLine}
 use Rattle.lines.specs.declared.part.Part.{Part}
 use Rattle.lines.specs.declared.part.Part.TheVariants.{Read, Refused}
 use Rattle.lines.proofs.Crossing.{further, says_read, found_at_lem, FoundAt, makes_refused, makes_passed, makes_read}
 use Rattle.lines.proofs.Ends.{RestAt}
 use Rattle.lines.proofs.Lengths.{tabs_long, blank_long, lines_long}
-use Rattle.lines.proofs.NextLine.{past_line, inked_line_lem}
 use Rattle.lines.proofs.Turns.{turn_more, turn_over, turn_refused}
-use Rattle.lines.proofs.Closing.{mark_length, part_length}
+use Rattle.lines.proofs.Closing.{mark_length}
 use Rattle.lines.proofs.ContentLines.{turned_found}
 
 -- ---- a turn of the loop
@@ -64,17 +62,6 @@ pub record LinesTo (s w : List ℕ) (tabs start i : ℕ) : Type 0 where
 pub lines_begin : (s w : List ℕ) (tabs start : ℕ) → start ≤ length s → LinesTo s w tabs start start
 lines_begin s w tabs start h = record { ahead = omega arith; inside = h; same = refl }
 
--- a blank line is passed
-pub lines_past : (s w : List ℕ) (tabs start i end : ℕ) → LinesTo s w tabs start i → RestAt s i end → LinesTo s w tabs start end
-lines_past s w tabs start i end so_far line = record {
-  ahead = omega (arith, so_far.ahead, line.ahead);
-  inside = line.inside;
-  same =
-      turn_more (taking (λ l. 0)) (line_turn tabs w) (line_shorter tabs w) 0 (drop i s) (λ ls. 0) (λ ls. 0) s (blank line.it) (drop end s)
-      (ap (line_turn tabs w 0) line.covers ∙ line_complete tabs w 0 (blank line.it) (drop end s) line.rule)
-      ∙ so_far.same;
-}
-
 -- all lines, where the closing one stands at i
 abbrev AllLines : List ℕ → List ℕ → ℕ → ℕ → ℕ → Type 0
 AllLines s w tabs start i = FoundAt (λ ls. 0) (λ ls. 0) (λ lines left. ReadLines tabs w (drop start s) lines left) s start (lines_of tabs w (drop start s)) i 0 0
@@ -93,31 +80,20 @@ module _ (s w : List ℕ) (tabs start i : ℕ) (so_far : LinesTo s w tabs start 
         r why place seen_line q this.is_turn
         ∙ so_far.same
 
-    module _ (end made mine : ℕ) (q : r ≡ Read end made mine) where
-      this_line : FoundAt (λ l. 0) (λ l. 0) (λ l left. ReadLine tabs (drop i s) l left) s i this.line end made mine
-      this_line = found_at_lem (λ l. 0) (λ l. 0) s r _ i this.line end made mine seen_line this.reads so_far.inside q
-
-      pub lines_on : (i < end) × LinesTo s w tabs start end
-      lines_on =
-          let f = this_line in (
-            further s i end f.holds.shorter,
-            record {
-              ahead = omega (arith, so_far.ahead, f.ahead);
-              inside = f.inside;
-              same =
-                  turn_more (taking (λ l. 0)) (line_turn tabs w) (line_shorter tabs w) 0 (drop i s) (λ ls. 0) (λ ls. 0) s f.it (drop end s)
-                  (this.is_turn ∙ ap turn_of f.finds)
-                  ∙ so_far.same;
-            },
-          )
-
-      -- it ends behind its LF
-      pub line_after : drop end s ≡ past (is lf) (drop i s)
-      line_after = let f = this_line in sym (ap (past (is lf)) f.holds.covers ∙ past_line tabs f.it (drop end s) f.holds.rule)
-
-      -- and is inked where the white space in front of it ends before that
-      pub line_inked : ltb (length_in is_white (drop i s) + length (drop end s)) (length (drop i s)) ≡ inked_line (drop i s)
-      line_inked = let f = this_line in rw f.holds.covers (inked_line_lem tabs f.it (drop end s) f.holds.rule)
+    pub lines_on : (end made mine : ℕ) → r ≡ Read end made mine → (i < end) × LinesTo s w tabs start end
+    lines_on end made mine q =
+        let f =
+        found_at_lem (λ l. 0) (λ l. 0) s r (λ l left. ReadLine tabs (drop i s) l left) i this.line end made mine seen_line this.reads so_far.inside q in (
+          further s i end f.holds.shorter,
+          record {
+            ahead = omega (arith, so_far.ahead, f.ahead);
+            inside = f.inside;
+            same =
+                turn_more (taking (λ l. 0)) (line_turn tabs w) (line_shorter tabs w) 0 (drop i s) (λ ls. 0) (λ ls. 0) s f.it (drop end s)
+                (this.is_turn ∙ ap turn_of f.finds)
+                ∙ so_far.same;
+          },
+        )
 
   -- the closing line ends inside
   pub closing_inside : o ≡ true → i + tabs + 3 + length w ≤ length s
@@ -140,13 +116,6 @@ module _ (s w : List ℕ) (tabs start i : ℕ) (so_far : LinesTo s w tabs start 
       (turn_over (taking (λ l. 0)) (line_turn tabs w) (line_shorter tabs w) 0 (drop i s) (drop i s) (rw (sym asked ∙ n, line_turn))) refl refl in
       found_at_lem (λ ls. 0) (λ ls. 0) s (Read i 0 0) (λ lines left. ReadLines tabs w (drop start s) lines left) start (lines_of tabs w (drop start s)) i 0 0
       (e ∙ so_far.same) (lines_reads tabs w (drop start s)) (omega (arith, so_far.ahead, so_far.inside)) refl
-
--- and within the limit
-pub closing_within :
-    (s : List ℕ) (from to tabs start i : ℕ) → length s ≤ sheet_limit → from ≤ to → to ≤ length s → LinesTo s (part s from to) tabs start i → (o : Bool)
-    → o ≡ closes_line tabs (part s from to) (drop i s) → o ≡ true → i + tabs + 3 + (to - from) ≤ sheet_limit
-closing_within s from to tabs start i h a b so_far o asked n =
-    omega (arith, closing_inside s (part s from to) tabs start i so_far o asked n, part_length s from to a b)
 
 -- ---- Content
 

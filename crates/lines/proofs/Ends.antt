@@ -13,7 +13,7 @@ use Rattle.paper.specs.Found.{found, fault}
 use Rattle.paper.specs.Bytes.{is_upper, is_lower, is_blank, is_name_byte, starts_in, front, starts_with, lf, cr, is}
 use Rattle.paper.specs.Names.{run, past_run, is_concept_name, is_trait_name}
 use Rattle.paper.specs.Tree.{LF, CRLF, Blank}
-use Rattle.paper.specs.Grammar.{blank_onto, blank_rule}
+use Rattle.paper.specs.Grammar.{blank_onto}
 use Rattle.paper.specs.Reading.{due, name_of, name, line_end, line_rest}
 use Rattle.paper.proofs.Tests.{split}
 use Rattle.paper.proofs.Lines.{ReadBlank, rest_reads}
@@ -158,7 +158,6 @@ pub record RestAt (s : List ℕ) (at end : ℕ) : Type 0 where
   pub it : Blank
   pub finds : line_rest (drop at s) ≡ found it (drop end s)
   pub covers : drop at s ≡ blank_onto it (drop end s)
-  pub rule : blank_rule it ≡ true
   pub ahead : at < end
   pub inside : end ≤ length s
 
@@ -166,4 +165,4 @@ pub rest_at : (s : List ℕ) (at : ℕ) (r : Part) (end made mine : ℕ) → at 
     → RestAt s at end
 rest_at s at r end made mine h e q =
     let f = found_at_lem (λ b. 0) (λ b. 0) s r (λ b left. ReadBlank (drop at s) b left) at (line_rest (drop at s)) end made mine e (rest_reads (drop at s)) h q in
-    record { it = f.it; finds = f.finds; covers = f.holds.covers; rule = f.holds.rule; ahead = further s at end f.holds.shorter; inside = f.inside }
+    record { it = f.it; finds = f.finds; covers = f.holds.covers; ahead = further s at end f.holds.shorter; inside = f.inside }

@@ -11,7 +11,7 @@ use Rattle.paper.specs.Grammar.{line_end_onto, blank_onto, blanks_onto, tabs_ont
 pub tabs_long : (n : ℕ) (next : List ℕ) → length (tabs_onto n next) ≡ n + length next
 tabs_long n next = omega (arith, length-append (replicate n tab) next, length-replicate n tab)
 
-pub end_long : (e : LineEnd) (next : List ℕ) → length (line_end_onto e next) ≡ length (line_end_onto e []) + length next
+end_long : (e : LineEnd) (next : List ℕ) → length (line_end_onto e next) ≡ length (line_end_onto e []) + length next
 end_long LF next = omega arith
 end_long CRLF next = omega arith
 

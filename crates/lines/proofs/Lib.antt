@@ -7,9 +7,7 @@ pub mod Blanks
 pub mod Notes
 pub mod NoteRuns
 pub mod Closing
-pub mod NextLine
 pub mod ContentLines
 pub mod ContentRun
-pub mod Showing
 pub mod ReadAt
 pub mod MarkLaws

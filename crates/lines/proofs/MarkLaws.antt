@@ -2,9 +2,9 @@
 use Prim.Native.Nat.{ℕ, ◌+◌, ◌-◌, ◌≤◌, ◌<◌}
 use mathlib.Core.Path.{◌≡◌, refl, sym, ap, ◌∙◌}
 use mathlib.Core.Bool.{true, false}
-use mathlib.Core.List.{List, [], ◌∷◌, append_assoc}
+use mathlib.Core.List.{List, [], ◌∷◌}
 use native.Mathlib.Omega.{arith}
-use lib.ListN.{length, drop, get_or, length-drop, length-append, drop_of_length-le}
+use lib.ListN.{length, drop, get_or, length-drop, drop_of_length-le}
 use lib.Seq.{drop-drop}
 use lib.Dec.{eqb}
 use native.Mathlib.Nat.{sub-zero}
@@ -12,23 +12,19 @@ use Rattle.paper.specs.declared.Refusal.{Refusal}
 use Rattle.paper.specs.declared.Refusal.TheVariants.{Cut, Due, ClosingName}
 use Rattle.paper.specs.Found.{Found, found, fault, and_then, place_in}
 use Rattle.paper.specs.Bytes.{byte, bytes, same, starts_with}
-use Rattle.paper.specs.Grammar.{closing_onto}
 use Rattle.paper.specs.Reading.{due, name, ending, closing}
 use Rattle.paper.proofs.Tests.{split, true_false, when_true, when_false}
 use Rattle.paper.proofs.Finds.{then_then, then_alike}
 use Rattle.paper.proofs.Lists.{starts_is}
-use Rattle.paper.proofs.Markers.{closing_complete}
-use Rattle.lines.specs.Parts.{seen, passed, due_all, part, NameStands}
+use Rattle.lines.specs.Parts.{seen, passed, due_all, part}
 use Rattle.lines.specs.Endings.{ended, ended_of, fault_here}
 use Rattle.lines.specs.declared.marks.Ending.{Ending}
 use Rattle.lines.specs.declared.marks.Ending.TheVariants.{Block, Closed}
 use Rattle.text.proofs.Places.{here, place_back}
-use Rattle.text.proofs.Compared.{stands_inside}
 use Rattle.lines.specs.declared.part.Part.{Part}
-use Rattle.lines.specs.declared.part.Part.TheVariants.{Read, Refused}
-use Rattle.lines.proofs.Crossing.{refused_then, says_read, says_refused}
+use Rattle.lines.specs.declared.part.Part.TheVariants.{Refused}
+use Rattle.lines.proofs.Crossing.{refused_then, says_refused}
 use Rattle.lines.proofs.ReadAt.{AllDueAt, NameAt, part_is}
-use Rattle.lines.proofs.Closing.{closing_parts, part_length}
 
 -- ---- a closing marker: "</", its name, ">"; the answer on each is what is known
 
@@ -47,51 +43,6 @@ one_byte b s l = go (due b l)
     go : (x : Found ℕ) → passed s (and_then x (λ c left. due_all [] left)) ≡ passed s x
     go (found c left) = refl
     go (fault n left) = refl
-
--- whether the one of a name stands at a place, by its parts
-module _ (s w : List ℕ) (at : ℕ) where
-  pub unlike_mark : starts_with (bytes "</") (drop at s) ≡ false → false ≡ starts_with (closing_onto w []) (drop at s)
-  unlike_mark o = sym (closing_parts s w at (length w) refl ∙ rw o)
-
-  module _ (o : starts_with (bytes "</") (drop at s) ≡ true) where
-    pub unlike_name : starts_with w (drop (at + 2) s) ≡ false → false ≡ starts_with (closing_onto w []) (drop at s)
-    unlike_name h = sym (closing_parts s w at (length w) refl ∙ rw (o, h))
-
-    module _ (h : starts_with w (drop (at + 2) s) ≡ true) where
-      pub alike_inside : at + 2 + length w ≤ length s
-      alike_inside = omega (arith, stands_inside (bytes "</") s at o, stands_inside w s (at + 2) h)
-
-      pub alike_end : starts_with (bytes ">") (drop (at + 2 + length w) s) ≡ starts_with (closing_onto w []) (drop at s)
-      alike_end = sym (closing_parts s w at (length w) refl ∙ rw (o, h))
-
--- the one that is due stands there
-module _ {s : List ℕ} {from to : ℕ} (stands : NameStands s from to) (at : ℕ) (e : starts_with (closing_onto (part s from to) []) (drop at s) ≡ true) where
-  abbrev its_name : List ℕ
-  its_name = part s from to
-
-  abbrev its_end : ℕ
-  its_end = at + 2 + (to - from) + 1
-
-  name_size : length its_name ≡ to - from
-  name_size = part_length s from to (omega (arith, stands.some)) stands.inside
-
-  mark_size : at + length (closing_onto its_name []) ≡ its_end
-  mark_size = omega (arith, name_size, length-append its_name (byte ">" ∷ []))
-
-  pub closing_inside : its_end ≤ length s
-  closing_inside = omega (arith, stands_inside (closing_onto its_name []) s at e, mark_size)
-
-  its_marker : drop at s ≡ closing_onto its_name (drop its_end s)
-  its_marker =
-      let mark = closing_onto its_name [] in
-      starts_is mark (drop at s) e
-      ∙ ap (λ (l : List ℕ). byte "<" ∷ byte "/" ∷ l) (append_assoc its_name (byte ">" ∷ []) (drop (length mark) (drop at s)))
-      ∙ ap (closing_onto its_name) (drop-drop (length mark) at s ∙ ap (λ (n : ℕ). drop n s) mark_size)
-
-  pub closing_stands : {r : Part} → r ≡ Read its_end 0 0 → seen r ≡ passed s (closing its_name (drop at s))
-  closing_stands {r} q =
-      says_read (λ b. 0) (λ b. 0) s (closing its_name (drop at s)) r (byte ">") its_end 0 0 q closing_inside
-      (ap (closing its_name) its_marker ∙ closing_complete its_name (drop its_end s) stands.letters (omega (arith, name_size, stands.some))) refl refl
 
 module _ (s w : List ℕ) (at : ℕ) where
   pub no_mark : (r : Part) (why : Refusal) (place : ℕ) → seen r ≡ passed s (due_all (bytes "</") (drop at s)) → r ≡ Refused why place

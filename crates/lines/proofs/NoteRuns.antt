@@ -10,8 +10,7 @@ use lib.ListN.{length, drop, length-drop, length-append}
 use lib.Seq.{drop-drop}
 use borrow.Author.Tests.{not-true, not-false}
 use Rattle.paper.specs.declared.Refusal.{Refusal}
-use Rattle.paper.specs.declared.Refusal.TheVariants.{Due}
-use Rattle.paper.specs.Found.{Found, fault, stop, turn_of, taking}
+use Rattle.paper.specs.Found.{Found, turn_of, taking}
 use Rattle.paper.specs.Bytes.{byte, bytes, length_in, behind, starts_with}
 use Rattle.paper.specs.Tree.{Annotation}
 use Rattle.paper.specs.Grammar.{blank_onto, annotation_onto}
@@ -26,7 +25,7 @@ use Rattle.lines.specs.declared.part.Part.{Part}
 use Rattle.lines.specs.declared.part.Part.TheVariants.{Read, Refused}
 use Rattle.text.proofs.Stretch.{Stretch, behind_at}
 use Rattle.text.proofs.Compared.{stands_inside}
-use Rattle.lines.proofs.Crossing.{FoundAt, found_at_lem, says_refused, makes_same}
+use Rattle.lines.proofs.Crossing.{FoundAt, found_at_lem, makes_same}
 use Rattle.lines.proofs.Turns.{makes_over, makes_stop, makes_more}
 use Rattle.lines.proofs.Lengths.{blank_long, note_long}
 
@@ -34,32 +33,32 @@ use Rattle.lines.proofs.Lengths.{blank_long, note_long}
 abbrev counted : ℕ → List Annotation → ℕ
 counted made notes = made + length notes
 
-abbrev pub Rest : (ℕ → Bool) → List ℕ → Slot → List ℕ → ℕ → ℕ → Part → List ℕ → Type 0
-Rest will s slot cells i made r after =
+abbrev pub Rest : List ℕ → Slot → List ℕ → ℕ → ℕ → Part → List ℕ → Type 0
+Rest s slot cells i made r after =
     Makes (counted made) (counted made) (annotation_entries slot.parent i) s cells (slot.next + made)
-    (annotations will (slot.room - (slot.next + made)) (drop i s)) r after
+    (annotations (slot.room - (slot.next + made)) (drop i s)) r after
 
 -- what the turns so far leave
-pub record Notes (will : ℕ → Bool) (s : List ℕ) (at : ℕ) (lent : List ℕ) (slot : Slot) (cells : List ℕ) (i made : ℕ) : Type 0 where
+pub record Notes (s : List ℕ) (at : ℕ) (lent : List ℕ) (slot : Slot) (cells : List ℕ) (i made : ℕ) : Type 0 where
   pub inside : i ≤ length s
   pub few : slot.next + made ≤ slot.room
   pub held : length cells ≡ length lent
-  pub onward : (r : Part) (after : List ℕ) → Rest will s slot cells i made r after → MakesNotes will s at lent slot r after
+  pub onward : (r : Part) (after : List ℕ) → Rest s slot cells i made r after → MakesNotes s at lent slot r after
 
-pub notes_begin : (will : ℕ → Bool) (s : List ℕ) (at : ℕ) (cells : List ℕ) (slot : Slot) → at ≤ length s → slot.next ≤ slot.room → Notes will s at cells slot cells at 0
-notes_begin will s at cells slot h f = record {
+pub notes_begin : (s : List ℕ) (at : ℕ) (cells : List ℕ) (slot : Slot) → at ≤ length s → slot.next ≤ slot.room → Notes s at cells slot cells at 0
+notes_begin s at cells slot h f = record {
   inside = h;
   few = omega arith;
   held = refl;
   onward = λ r after k.
       makes_same (counted 0) (counted 0) length length (annotation_entries slot.parent at) s cells slot.next
-      (annotations will (slot.room - slot.next) (drop at s)) r after
+      (annotations (slot.room - slot.next) (drop at s)) r after
       (λ notes. zero-add (length notes)) (λ notes. zero-add (length notes)) (rw (add-zero slot.next) at k);
 }
 
 -- ---- a turn
 
-module _ (will : ℕ → Bool) (s : List ℕ) (at : ℕ) (lent : List ℕ) (slot : Slot) (cells : List ℕ) (i made : ℕ) (so_far : Notes will s at lent slot cells i made)
+module _ (s : List ℕ) (at : ℕ) (lent : List ℕ) (slot : Slot) (cells : List ℕ) (i made : ℕ) (so_far : Notes s at lent slot cells i made)
     (mark : ℕ) (run : Stretch is_tab s i mark) (o : Bool) (asked : o ≡ starts_with (bytes "[") (drop mark s)) where
   abbrev left : ℕ
   left = slot.room - (slot.next + made)
@@ -67,113 +66,91 @@ module _ (will : ℕ → Bool) (s : List ℕ) (at : ℕ) (lent : List ℕ) (slot
   bracket : starts_with (bytes "[") (behind is_tab (drop i s)) ≡ o
   bracket = ap (starts_with (bytes "[")) (behind_at is_tab s i mark run) ∙ sym asked
 
-  pub notes_over : not o ≡ true → (r : Part) → r ≡ Read i made made → MakesNotes will s at lent slot r cells
+  pub notes_over : not o ≡ true → (r : Part) → r ≡ Read i made made → MakesNotes s at lent slot r cells
   unfolding annotation_turn annotation_entries
   notes_over n r e =
       so_far.onward r cells
-      (makes_over (taking (λ a. 1)) (annotation_turn will) (annotation_shorter will) left (drop i s) (counted made) (counted made) (annotation_entries
-      slot.parent i) s cells
+      (makes_over (taking (λ a. 1)) annotation_turn annotation_shorter left (drop i s) (counted made) (counted made) (annotation_entries slot.parent i) s cells
       (slot.next + made) r i made made (rw (bracket ∙ not-true o n, annotation_turn)) e so_far.inside (sym (add-zero made)) (sym (add-zero made)) refl)
 
   module _ (n : not o ≡ false) where
     pub mark_inside : mark + 1 ≤ length s
     mark_inside = omega (arith, stands_inside (bytes "[") s mark (sym asked ∙ not-false o n))
 
-    module _ (t : Bool) (told : t ≡ will (mark - i)) where
-      will_do : will (length_in is_tab (drop i s)) ≡ t
-      will_do = let tabs : length_in is_tab (drop i s) ≡ mark - i = omega (arith, run.0) in ap will tabs ∙ sym told
+    a_note : (room : ℕ) → annotation_turn room (drop i s) ≡ turn_of (annotation room (length_in is_tab (drop i s)) (drop (mark + 1) s))
+    unfolding annotation_turn
+    a_note room =
+        rw (bracket ∙ not-false o n, annotation_turn)
+        (ap (λ (l : List ℕ). turn_of (annotation room (length_in is_tab (drop i s)) l)) (ap (drop 1) (behind_at is_tab s i mark run) ∙ drop-drop 1 mark s))
 
-      -- its tabs will not do
-      misplaced : (room : ℕ) → not t ≡ true → annotation_turn will room (drop i s) ≡ stop 7 (drop mark s)
-      unfolding annotation_turn
-      misplaced room f =
-          rw (bracket ∙ not-false o n, annotation_turn, will_do ∙ not-true t f) (ap (λ (l : List ℕ). stop 7 l) (behind_at is_tab s i mark run))
+    -- the slot that is lent for one more
+    module _ (next : Slot) (lends : next ≡ slot_after slot made) where
+      pub lent_fits : Fits lent slot → Fits cells next
+      lent_fits h = fits_after made h so_far.held so_far.few lends
 
-      pub notes_misplaced : not t ≡ true → (r : Part) → r ≡ Refused Due mark → MakesNotes will s at lent slot r cells
-      notes_misplaced f r q =
-          so_far.onward r cells
-          (makes_stop (taking (λ a. 1)) (annotation_turn will) (annotation_shorter will) left (drop i s) (λ a. 1) (λ a. 1) turn_of (λ k rest. refl)
-          (counted made) (counted made)
-          (annotation_entries slot.parent i) s cells (slot.next + made) (fault 7 (drop mark s)) r cells Due mark
-          (says_refused {A = Annotation} (λ a. 1) (λ a. 1) s (fault 7 (drop mark s)) r Due mark q run.2 refl) q (misplaced left f))
+      module _ (r : Part) (after : List ℕ) (one : MakesNote s (mark + 1) cells next r after) where
+        abbrev reading : Found Annotation
+        reading = annotation left (length_in is_tab (drop i s)) (drop (mark + 1) s)
 
-      module _ (f : not t ≡ false) where
-        a_note : (room : ℕ) → annotation_turn will room (drop i s) ≡ turn_of (annotation room (length_in is_tab (drop i s)) (drop (mark + 1) s))
-        unfolding annotation_turn
-        a_note room =
-            rw (bracket ∙ not-false o n, annotation_turn, will_do ∙ not-false t f)
-            (ap (λ (l : List ℕ). turn_of (annotation room (length_in is_tab (drop i s)) l)) (ap (drop 1) (behind_at is_tab s i mark run) ∙ drop-drop 1 mark s))
+        noted : Makes (λ a. 1) (λ a. 1) (note_entries slot.parent (mark + 1)) s cells (slot.next + made) reading r after
+        noted = rw lends at (one (length_in is_tab (drop i s)))
 
-        -- the slot that is lent for one more
-        module _ (next : Slot) (lends : next ≡ slot_after slot made) where
-          pub lent_fits : Fits lent slot → Fits cells next
-          lent_fits h = fits_after made h so_far.held so_far.few lends
+        pub notes_refused : (why : Refusal) (place : ℕ) → r ≡ Refused why place → MakesNotes s at lent slot r after
+        notes_refused why place q =
+            so_far.onward r after
+            (makes_stop (taking (λ a. 1)) annotation_turn annotation_shorter left (drop i s) (λ a. 1) (λ a. 1) turn_of (λ k rest. refl) (counted made) (counted made)
+            (annotation_entries slot.parent i) s cells (slot.next + made) reading r after why place noted.says q (a_note left))
 
-          module _ (r : Part) (after : List ℕ) (one : MakesNote s (mark + 1) cells next r after) where
-            abbrev reading : Found Annotation
-            reading = annotation left (length_in is_tab (drop i s)) (drop (mark + 1) s)
+        module _ (end own mine : ℕ) (q : r ≡ Read end own mine) where
+          it : FoundAt (λ a. 1) (λ a. 1) (λ a rest. ReadBehind left (length_in is_tab (drop i s)) (drop (mark + 1) s) a rest) s (mark + 1) reading end own mine
+          it =
+              found_at_lem (λ a. 1) (λ a. 1) s r _ (mark + 1) reading end own mine noted.says
+              (annotation_reads left (length_in is_tab (drop i s)) (drop (mark + 1) s)) mark_inside q
 
-            noted : Makes (λ a. 1) (λ a. 1) (note_entries slot.parent (mark + 1)) s cells (slot.next + made) reading r after
-            noted = rw lends at (one (length_in is_tab (drop i s)))
+          pub note_ahead : (i < end) × (end ≤ length s)
+          note_ahead = (omega (arith, it.ahead, run.1), it.inside)
 
-            pub notes_refused : (why : Refusal) (place : ℕ) → r ≡ Refused why place → MakesNotes will s at lent slot r after
-            notes_refused why place q =
-                so_far.onward r after
-                (makes_stop (taking (λ a. 1)) (annotation_turn will) (annotation_shorter will) left (drop i s) (λ a. 1) (λ a. 1) turn_of (λ k rest. refl)
-                (counted made) (counted made)
-                (annotation_entries slot.parent i) s cells (slot.next + made) reading r after why place noted.says q (a_note left))
+          starts : i + it.it.tabs + 1 ≡ mark + 1
+          starts = omega (arith, it.holds.at, run.0)
 
-            module _ (end own mine : ℕ) (q : r ≡ Read end own mine) where
-              it : FoundAt (λ a. 1) (λ a. 1) (λ a rest. ReadBehind left (length_in is_tab (drop i s)) (drop (mark + 1) s) a rest) s (mark + 1) reading end own mine
-              it =
-                  found_at_lem (λ a. 1) (λ a. 1) s r _ (mark + 1) reading end own mine noted.says
-                  (annotation_reads left (length_in is_tab (drop i s)) (drop (mark + 1) s)) mark_inside q
+          ends : i + length (annotation_onto it.it []) ≡ end
+          ends =
+              let a = it.it in
+              let rest = byte "]" ∷ blank_onto a.rest (drop end s) in
+              omega (
+                arith,
+                starts,
+                note_long a [],
+                ap length it.holds.covers,
+                length-append a.text rest,
+                blank_long a.rest (drop end s),
+                length-drop (mark + 1) s,
+                length-drop end s,
+                mark_inside,
+                it.inside,
+              )
 
-              pub note_ahead : (i < end) × (end ≤ length s)
-              note_ahead = (omega (arith, it.ahead, run.1), it.inside)
+          entered : (notes : List Annotation)
+              → annotation_entries slot.parent i (it.it ∷ notes)
+              ≡ note_entries slot.parent (mark + 1) it.it ++ annotation_entries slot.parent end notes
+          unfolding annotation_entries
+          entered notes = rw (starts, ends)
 
-              starts : i + it.it.tabs + 1 ≡ mark + 1
-              starts = omega (arith, it.holds.at, run.0)
-
-              ends : i + length (annotation_onto it.it []) ≡ end
-              ends =
-                  let a = it.it in
-                  let rest = byte "]" ∷ blank_onto a.rest (drop end s) in
-                  omega (
-                    arith,
-                    starts,
-                    note_long a [],
-                    ap length it.holds.covers,
-                    length-append a.text rest,
-                    blank_long a.rest (drop end s),
-                    length-drop (mark + 1) s,
-                    length-drop end s,
-                    mark_inside,
-                    it.inside,
-                  )
-
-              entered : (notes : List Annotation)
-                  → annotation_entries slot.parent i (it.it ∷ notes)
-                  ≡ note_entries slot.parent (mark + 1) it.it ++ annotation_entries slot.parent end notes
-              unfolding annotation_entries
-              entered notes = rw (starts, ends)
-
-              pub notes_on : length after ≡ length cells → Notes will s at lent slot after end (made + 1)
-              notes_on h =
-                  let number : slot.next + (made + 1) ≡ slot.next + made + 1 = omega arith in
-                  let fewer : slot.room - (slot.next + made + 1) ≡ left - 1 = omega arith in
-                  record {
-                    inside = it.inside;
-                    few = omega (arith, it.holds.fits);
-                    held = h ∙ so_far.held;
-                    onward = λ other cells' k.
-                        so_far.onward other cells'
-                        (makes_more (taking (λ a. 1)) (annotation_turn will) (annotation_shorter will) left (drop i s) (counted made) (counted made)
-                        (annotation_entries slot.parent i)
-                        (annotation_entries slot.parent end) (note_entries slot.parent (mark + 1) it.it) s cells after
-                        (slot.next + made) it.it (drop end s) other cells'
-                        (a_note left ∙ ap turn_of it.finds) entered (noted.laid it.it (drop end s) it.finds)
-                        (makes_same (counted (made + 1)) (counted (made + 1)) _ _ (annotation_entries slot.parent end) s after (slot.next + made + 1)
-                        (annotations will (left - 1) (drop end s)) other cells'
-                        (λ notes. omega arith) (λ notes. omega arith) (rw (number, fewer) at k)));
-                  }
+          pub notes_on : length after ≡ length cells → Notes s at lent slot after end (made + 1)
+          notes_on h =
+              let number : slot.next + (made + 1) ≡ slot.next + made + 1 = omega arith in
+              let fewer : slot.room - (slot.next + made + 1) ≡ left - 1 = omega arith in
+              record {
+                inside = it.inside;
+                few = omega (arith, it.holds.fits);
+                held = h ∙ so_far.held;
+                onward = λ other cells' k.
+                    so_far.onward other cells'
+                    (makes_more (taking (λ a. 1)) annotation_turn annotation_shorter left (drop i s) (counted made) (counted made) (annotation_entries slot.parent i)
+                    (annotation_entries slot.parent end) (note_entries slot.parent (mark + 1) it.it) s cells after
+                    (slot.next + made) it.it (drop end s) other cells'
+                    (a_note left ∙ ap turn_of it.finds) entered (noted.laid it.it (drop end s) it.finds)
+                    (makes_same (counted (made + 1)) (counted (made + 1)) _ _ (annotation_entries slot.parent end) s after (slot.next + made + 1)
+                    (annotations (left - 1) (drop end s)) other cells'
+                    (λ notes. omega arith) (λ notes. omega arith) (rw (number, fewer) at k)));
+              }

@@ -1,24 +1,21 @@
 -- What reading a part of a sheet answers, in numbers, and what a definition finds as such an answer.
 -- Document 01, "Order" and "Entries".
-use Rattle.std.specs.Prelude.{ℕ, ◌+◌, ◌-◌, ◌≤◌, ◌<◌, ◌≡◌, Bool, true, false, ◌&&◌, List, [], ◌∷◌, length, take, drop, eqb}
+use Rattle.std.specs.Prelude.{ℕ, ◌+◌, ◌-◌, ◌≤◌, ◌≡◌, Bool, true, false, ◌&&◌, List, [], ◌∷◌, length, take, drop}
 use Rattle.paper.specs.Answer.{number_of}
 use Rattle.paper.specs.Found.{Found, found, fault, and_then, Turn, more, over, stop, place_in}
-use Rattle.paper.specs.Bytes.{is_upper, is_lower, is_name_byte, is_blank, all, length_in, front, behind}
+use Rattle.paper.specs.Bytes.{is_upper, is_lower, is_blank, length_in, front, behind}
 use Rattle.paper.specs.Names.{is_concept_name, is_trait_name}
 use Rattle.paper.specs.Limits.{sheet_limit}
 use Rattle.paper.specs.Tree.{Annotation, Marker, Concept, self_closed, children, content}
 use Rattle.paper.specs.Grammar.{blank_onto, lines_onto}
 use Rattle.paper.specs.Entries.{Entry, unnamed, annotation_entries}
-use Rattle.paper.specs.Reading.{is_tab, due, annotation, annotations, any_tabs, closes_line, line_turn, content_of, shows_children, last_blanks}
+use Rattle.paper.specs.Reading.{is_tab, due, annotation, annotations, closes_line, line_turn, content_of, last_blanks}
 use Rattle.entries.specs.Laid.{lay}
 use Rattle.entries.specs.declared.Slot.{Slot}
 use Rattle.lines.specs.declared.part.Part.{Part}
 use Rattle.lines.specs.declared.part.Part.TheVariants.{Read, Refused}
 use Rattle.lines.specs.declared.part.Whose.{Whose}
 use Rattle.lines.specs.declared.part.Whose.TheVariants.{Concepts, Traits, Closings}
-use Rattle.lines.specs.declared.shown.Shown.{Shown}
-use Rattle.lines.specs.declared.tabs.Tabs.{Tabs}
-use Rattle.lines.specs.declared.tabs.Tabs.TheVariants.{Any, Just}
 
 -- number, place, entries made, and entries that name the part's Concept as parent
 pub record Seen : Type 0 where
@@ -72,20 +69,9 @@ rule_by Concepts first keeps = is_upper first && keeps
 rule_by Traits first keeps = is_lower first && keeps
 rule_by Closings first keeps = true
 
--- the tabs at which a line may stand
-abbrev pub will_of : Tabs → ℕ → Bool
-will_of Any = any_tabs
-will_of (Just due) = λ tabs. eqb tabs due
-
 -- the part of a list between two places
 abbrev pub part : List ℕ → ℕ → ℕ → List ℕ
 part s from to = take (to - from) (drop from s)
-
--- a name stands from a place to another: letters and digits, one at least
-pub record NameStands (s : List ℕ) (from to : ℕ) : Type 0 where
-  pub some : from < to
-  pub inside : to ≤ length s
-  pub letters : all is_name_byte (part s from to) ≡ true
 
 -- the tabs that stand at a place end at another
 abbrev pub Tabbed : List ℕ → ℕ → ℕ → Type 0
@@ -109,27 +95,16 @@ abbrev pub MakesNote : List ℕ → ℕ → List ℕ → Slot → Part → List 
 MakesNote s at cells slot r after =
     (tabs : ℕ) → Makes (λ a. 1) (λ a. 1) (note_entries slot.parent at) s cells slot.next (annotation (slot.room - slot.next) tabs (drop at s)) r after
 
--- the annotations that stand at a place, where the tabs of each will do
-abbrev pub MakesNotes : (ℕ → Bool) → List ℕ → ℕ → List ℕ → Slot → Part → List ℕ → Type 0
-MakesNotes will s at cells slot r after =
-    Makes length length (annotation_entries slot.parent at) s cells slot.next (annotations will (slot.room - slot.next) (drop at s)) r after
+-- the annotations that stand at a place
+abbrev pub MakesNotes : List ℕ → ℕ → List ℕ → Slot → Part → List ℕ → Type 0
+MakesNotes s at cells slot r after =
+    Makes length length (annotation_entries slot.parent at) s cells slot.next (annotations (slot.room - slot.next) (drop at s)) r after
 
 -- the Content of a Concept whose opening marker has so many tabs and ends at a place; its name stands from one place to another
 abbrev pub MakesContent : List ℕ → ℕ → ℕ → ℕ → ℕ → List ℕ → Slot → Part → List ℕ → Type 0
 MakesContent s at tabs from to cells slot r after =
     (k : Marker) → k.name ≡ part s from to
     → Makes (λ c. 1) (λ c. 1) (content_entries slot.parent tabs at) s cells slot.next (content_of tabs (slot.room - slot.next) k (drop at s)) r after
-
--- what a body shows: children, or what was read of Content
-abbrev pub shown_by : Bool → Part → Shown
-shown_by true p = Shown.Children
-shown_by false p = Shown.Content p
-
--- the body of the same Concept: Content, unless it is looked at and shows children, of which no cell tells
-pub record ReadsContent (look : Bool) (s : List ℕ) (at tabs from to : ℕ) (cells : List ℕ) (slot : Slot) (r : Shown) (after : List ℕ) : Type 0 where
-  pub children : r ≡ Shown.Children → (look && shows_children tabs (part s from to) (drop at s) ≡ true) × (after ≡ cells)
-  pub content : (p : Part) → r ≡ Shown.Content p
-      → (look && shows_children tabs (part s from to) (drop at s) ≡ false) × MakesContent s at tabs from to cells slot p after
 
 -- a line of Content at a place, whatever name it does not close
 abbrev pub PassesLine : List ℕ → ℕ → ℕ → Part → Type 0

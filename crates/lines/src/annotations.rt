@@ -4,10 +4,9 @@ ghost use Rattle.std.specs.Prelude.{◌≡◌, ◌≤◌, length, drop};
 ghost use Rattle.paper.specs.Bytes.{bytes, elem};
 ghost use Rattle.paper.specs.Reading.{text_of};
 ghost use Rattle.entries.specs.Laid.{Fits};
-ghost use Rattle.lines.specs.Parts.{seen, passed, will_of, In, MakesNote, MakesNotes};
+ghost use Rattle.lines.specs.Parts.{seen, passed, In, MakesNote, MakesNotes};
 
 use crate::part::{Part, cut, line_rest, past, refused};
-use crate::tabs::Tabs;
 use entries::{Slot, nameless, put};
 use paper::{Refusal, forms, kinds};
 use text::classes::is_line_end;
@@ -88,10 +87,10 @@ fn read_one(s: &[u8], at: usize, cells: &mut [u32], slot: Slot) -> Part
     }
 }
 
-// Reads the annotations that stand at `at`, each on a line of its own whose tabs will do, and enters them.
-pub fn read_all(s: &[u8], at: usize, will: Tabs, cells: &mut [u32], slot: Slot) -> Part
+// Reads the annotations that stand at `at`, each on a line of its own, and enters them.
+pub fn read_all(s: &[u8], at: usize, cells: &mut [u32], slot: Slot) -> Part
     requires { In s.now at × Fits cells.old slot }
-    ensures { MakesNotes (will_of will) s.now at cells.old slot result cells.new }
+    ensures { MakesNotes s.now at cells.old slot result cells.new }
 {
     let mut i = at;
     let mut made = 0;
@@ -103,9 +102,6 @@ pub fn read_all(s: &[u8], at: usize, will: Tabs, cells: &mut [u32], slot: Slot) 
                 made,
                 own: made,
             };
-        }
-        if !will.will(mark - i) {
-            return refused(Refusal::Due, mark);
         }
         let one = read_one(s, mark + 1, cells, slot.after(made));
         let Part::Read { end, .. } = one else {

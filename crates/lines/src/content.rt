@@ -1,16 +1,13 @@
 // Content: lines of text one tab deeper than their marker, up to the closing line.
 // Document 01, "The grammar", Content; refusals 7, 9 and 11.
-ghost use Rattle.std.specs.Prelude.{◌≡◌, [], ◌∷◌, suc, ◌*◌, ◌≤◌, length, drop};
+ghost use Rattle.std.specs.Prelude.{◌≡◌, ◌≤◌, length, drop};
 ghost use Rattle.paper.specs.Bytes.{is_blank, behind};
-ghost use Rattle.paper.specs.Limits.{sheet_limit};
-ghost use Rattle.paper.specs.Entries.{entry_cells, unnamed};
 ghost use Rattle.paper.specs.Reading.{at_line_end, closes_line};
-ghost use Rattle.entries.specs.Laid.{lay, Fits};
-ghost use Rattle.lines.specs.Parts.{In, part, Tabbed, PassesLine, ReadsContent};
+ghost use Rattle.entries.specs.Laid.{Fits};
+ghost use Rattle.lines.specs.Parts.{In, part, Tabbed, PassesLine, MakesContent};
 
 use crate::marks::{CLOSING, END};
 use crate::part::{Part, line_end, line_rest, refused};
-use crate::shown::{Shown, begins_element, unless_children};
 use entries::{Slot, nameless, put};
 use paper::{Refusal, forms, kinds};
 use text::classes::is_line_end;
@@ -20,7 +17,7 @@ use text::runs::Class;
 
 // Whether the line at `at`, whose tabs end at `mark`, closes Content: exactly so many tabs, the closing marker of the name
 // that stands from `from` to `to`, and blanks.
-pub fn closes(s: &[u8], at: usize, mark: usize, tabs: usize, from: usize, to: usize) -> bool
+fn closes(s: &[u8], at: usize, mark: usize, tabs: usize, from: usize, to: usize) -> bool
     requires { Tabbed s.now at mark × (from ≤ to) × (to ≤ length s.now) }
     ensures { result ≡ closes_line tabs (part s.now from to) (drop at s.now) }
 {
@@ -42,7 +39,7 @@ pub fn closes(s: &[u8], at: usize, mark: usize, tabs: usize, from: usize, to: us
 }
 
 // Whether only blanks stand from `at` on before the end of the line or of the input.
-pub fn is_over(s: &[u8], at: usize) -> bool
+fn is_over(s: &[u8], at: usize) -> bool
     requires { at ≤ length s.now }
     ensures { result ≡ at_line_end (behind is_blank (drop at s.now)) }
 {
@@ -66,66 +63,38 @@ fn read_line(s: &[u8], at: usize, mark: usize, tabs: usize) -> Part
 }
 
 // Reads the Content of a block from behind its marker's ">" on, with its closing line up to its ">", and enters it.
-// The marker stands on a line of so many tabs, and its name from `from` to `to`. Where the body is looked at, it may show children: then
-// nothing is entered. A fault of Content is answered where no line shows children, so that the look goes on behind it.
+// The marker stands on a line of so many tabs, and its name from `from` to `to`.
 pub fn read_content(
     s: &[u8],
     at: usize,
     tabs: usize,
     from: usize,
     to: usize,
-    look: bool,
     cells: &mut [u32],
     slot: Slot,
-) -> Shown
+) -> Part
     requires { In s.now at × Fits cells.old slot × (from ≤ to) × (to ≤ length s.now) }
-    ensures { ReadsContent look s.now at tabs from to cells.old slot result cells.new }
+    ensures { MakesContent s.now at tabs from to cells.old slot result cells.new }
 {
     let rest = line_rest(s, at);
     let Part::Read { end: start, .. } = rest else {
-        return unless_children(s, at, tabs, from, to, look, rest);
+        return rest;
     };
     if slot.is_full() {
-        let full = refused(Refusal::NoEntryLeft, start);
-        return unless_children(s, at, tabs, from, to, look, full);
+        return refused(Refusal::NoEntryLeft, start);
     }
     let mut i = start;
     loop {
         let mark = runs::tab_end(s, i);
-        if starts_with(s, mark, b"\n") {
-            i = mark + 1;
-            continue;
-        }
         if closes(s, i, mark, tabs, from, to) {
             break;
         }
-        if look && begins_element(s, i, mark, tabs) {
-            return Shown::Children;
-        }
         let line = read_line(s, i, mark, tabs);
         let Part::Read { end, .. } = line else {
-            return unless_children(s, at, tabs, from, to, look, line);
+            return line;
         };
         i = end;
     }
-    if look && i <= runs::white_end(s, start) {
-        return Shown::Children;
-    }
-    Shown::Content(enter_content(
-        start,
-        i,
-        i + tabs + CLOSING.len() + (to - from) + END.len(),
-        cells,
-        slot,
-    ))
-}
-
-// Enters Content that stands from `start` to `end`, and goes on at `next`, behind its closing marker.
-fn enter_content(start: usize, end: usize, next: usize, cells: &mut [u32], slot: Slot) -> Part
-    requires { (suc slot.next * entry_cells ≤ length cells.old) × (start ≤ sheet_limit) × (end ≤ sheet_limit) }
-    ensures { (result ≡ Part.Read next 1 1)
-        × (cells.new ≡ lay cells.old slot.next (unnamed 5 0 slot.parent 0 start end ∷ [])) }
-{
     let n = slot.next;
     put(
         cells,
@@ -136,11 +105,11 @@ fn enter_content(start: usize, end: usize, next: usize, cells: &mut [u32], slot:
             slot.parent,
             0,
             start as u32,
-            end as u32,
+            i as u32,
         ),
     );
     Part::Read {
-        end: next,
+        end: i + tabs + CLOSING.len() + (to - from) + END.len(),
         made: 1,
         own: 1,
     }

@@ -5,5 +5,3 @@ pub mod blank;
 pub mod content;
 pub mod marks;
 pub mod part;
-pub mod shown;
-pub mod tabs;

@@ -1,13 +1,11 @@
 // The marks of a Concept: how its opening marker ends, and its closing marker.
 // Document 01, "The grammar", Markers; refusals 7, 8 and 9.
-ghost use Rattle.std.specs.Prelude.{◌≡◌, [], ◌≤◌, length, drop};
-ghost use Rattle.paper.specs.Bytes.{starts_with};
-ghost use Rattle.paper.specs.Grammar.{closing_onto};
+ghost use Rattle.std.specs.Prelude.{◌≡◌, ◌≤◌, length, drop};
 ghost use Rattle.paper.specs.Reading.{ending, closing};
-ghost use Rattle.lines.specs.Parts.{seen, passed, part, NameStands};
+ghost use Rattle.lines.specs.Parts.{seen, passed, part};
 ghost use Rattle.lines.specs.Endings.{ended, ended_of, fault_here};
 
-use crate::part::{Part, Whose, bytes_due, name_end, past, refused};
+use crate::part::{Part, Whose, bytes_due, name_end, refused};
 use paper::Refusal;
 use text::parts::{same, starts_with};
 
@@ -19,30 +17,11 @@ pub const END: [u8; 1] = *b">";
 
 const CLOSED_END: [u8; 2] = *b"/>";
 
-// Whether the closing marker of this name stands at `at`.
-fn is_closing(s: &[u8], at: usize, name: &[u8]) -> bool
-    requires { at ≤ length s.now }
-    ensures { result ≡ starts_with (closing_onto name.now []) (drop at s.now) }
-{
-    let start = at + CLOSING.len();
-    if !starts_with(s, at, &CLOSING) {
-        return false;
-    }
-    if !starts_with(s, start, name) {
-        return false;
-    }
-    starts_with(s, start + name.len(), &END)
-}
-
-// Reads the closing marker that is due at `at`, of the Concept whose name stands from `from` to `to`. It is compared with the one that is
-// due first; only another is measured, and then always refused.
+// Reads the closing marker that is due at `at`, of the Concept whose name stands from `from` to `to`.
 pub fn read_closing(s: &[u8], at: usize, from: usize, to: usize) -> Part
-    requires { (at ≤ length s.now) × NameStands s.now from to }
+    requires { (at ≤ length s.now) × (from ≤ to) × (to ≤ length s.now) }
     ensures { seen result ≡ passed s.now (closing (part s.now from to) (drop at s.now)) }
 {
-    if is_closing(s, at, &s[from..to]) {
-        return past(at + CLOSING.len() + (to - from) + END.len());
-    }
     let mark = bytes_due(s, at, &CLOSING);
     let Part::Read { end: start, .. } = mark else {
         return mark;

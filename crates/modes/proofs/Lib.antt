@@ -9,4 +9,3 @@ pub mod Laid
 pub mod Tables
 pub mod Lookup
 pub mod OneAnswer
-pub mod Ways

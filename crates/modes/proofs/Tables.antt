@@ -64,9 +64,9 @@ modes_found t m left q = rw (modes_of, q)
 abbrev told_table : List ℕ → Found Modes → Told
 told_table t x = elim x [ found m left ↦ accepted (length t) (length m.children + length m.content) | fault k left ↦ refused k (place_in t left) ]
 
-by_table_lem : (t : List ℕ) → read_table t ≡ told_table t (mode_table t)
+by_table : (t : List ℕ) → read_table t ≡ told_table t (mode_table t)
 unfolding read_table
-by_table_lem t = refl
+by_table t = refl
 
 abbrev by_second : List ℕ → List (List ℕ) → Found (List (List ℕ)) → Told
 by_second t children x = told_table t (with_second children x)
@@ -76,7 +76,7 @@ by_first t x = told_table t (and_then x (λ children left. with_second children 
 
 by_sections : (t : List ℕ) → read_table t ≡ by_first t (section [] t)
 unfolding mode_table
-by_sections t = by_table_lem t
+by_sections t = by_table t
 
 module _ (t : List ℕ) where
   pub first_refused : (a : Answer) (why : Refusal) (p : ℕ) → told a ≡ told_of length t (section (names_of 0 (drop 1 t)) (drop 0 t))

@@ -2,4 +2,3 @@
 pub mod Table
 pub mod Promises
 pub mod Index
-pub mod Ways

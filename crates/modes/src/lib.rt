@@ -1,7 +1,6 @@
 // The mode table: whether it is in order, and what it says of a Concept's name.
 // Document 01, "The mode table", and refusal 1.
 pub mod index;
-pub mod way;
 
 ghost use Rattle.std.specs.Prelude.{◌≡◌, ◌≤◌, length, drop};
 ghost use Rattle.paper.specs.Answer.{told, refused};

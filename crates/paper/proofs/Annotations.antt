@@ -1,18 +1,17 @@
 -- Annotations: what reading them finds, and that it finds what stands there. Assumes nothing.
 use Prim.Native.Nat.{ℕ, suc, ◌+◌, ◌-◌, ◌≤◌, ◌<◌}
 use mathlib.Core.Path.{◌≡◌, refl, sym, ap, ◌∙◌}
-use mathlib.Core.Logic.{inl}
-use mathlib.Core.Bool.{Bool, true, false, not, ◌||◌}
+use mathlib.Core.Bool.{true, false, not, ◌||◌}
 use mathlib.Core.List.{List, [], ◌∷◌, ◌++◌}
 use native.Mathlib.Omega.{arith}
 use lib.ListN.{length, drop, length-append}
 use lib.Dec.{eqb}
 use borrow.Author.Tests.{eqb-true}
-use Rattle.paper.specs.Found.{Found, found, fault, and_then, turn_of, taking}
+use Rattle.paper.specs.Found.{Found, found, fault, and_then, taking}
 use Rattle.paper.specs.Bytes.{byte, bytes, is_line_end, all, elem, starts_in, length_in, behind, starts_with}
 use Rattle.paper.specs.Tree.{Annotation}
 use Rattle.paper.specs.Grammar.{blank_onto, tabs_onto, annotation_onto, annotations_onto, blank_rule, annotation_text, annotation_escape, annotation_rule}
-use Rattle.paper.specs.Reading.{line_rest, is_tab, makes, text_of, escape_of, annotation, annotation_turn, annotations, any_tabs}
+use Rattle.paper.specs.Reading.{line_rest, is_tab, makes, text_of, escape_of, annotation, annotation_turn, annotations}
 use Rattle.paper.proofs.Tests.{split, true_false}
 use Rattle.paper.proofs.Lists.{both, and, all_head, starts_is, starts_of}
 use Rattle.paper.proofs.Finds.{whole, past, tail_length, tail_then, tail_drop, Reads, reads_on, reads_in, Turns, turns_of}
@@ -78,10 +77,9 @@ mutual
 
 -- ---- one annotation
 
-pub record ReadAnnotation (will : ℕ → Bool) (room : ℕ) (s : List ℕ) (a : Annotation) (left : List ℕ) : Type 0 where
+pub record ReadAnnotation (room : ℕ) (s : List ℕ) (a : Annotation) (left : List ℕ) : Type 0 where
   pub covers : s ≡ annotation_onto a left
   pub rule : annotation_rule a ≡ true
-  pub stands : will a.tabs ≡ true
   pub fits : 0 < room
   pub shorter : length left < length s
 
@@ -112,105 +110,83 @@ annotation_reads room tabs s =
     ))))
 
 -- a line that begins with tabs and "["
-turn_reads : (will : ℕ → Bool) (room : ℕ) (s : List ℕ)
-    → Turns s (λ a left. ReadAnnotation will room s a left) (λ left. (s ≡ left) × (starts_with (bytes "[") (behind is_tab s) ≡ false)) (annotation_turn will room s)
+turn_reads : (room : ℕ) (s : List ℕ)
+    → Turns s (λ a left. ReadAnnotation room s a left) (λ left. (s ≡ left) × (starts_with (bytes "[") (behind is_tab s) ≡ false)) (annotation_turn room s)
 unfolding annotation_turn
-turn_reads will room s =
+turn_reads room s =
     split (starts_with (bytes "[") (behind is_tab s))
-    (λ e. split (will (length_in is_tab s))
-    (λ f. rw (e, annotation_turn, f) (turns_of s _ _ (annotation room (length_in is_tab s) (drop 1 (behind is_tab s)))
-    (go e f (annotation room (length_in is_tab s) (drop 1 (behind is_tab s))) (annotation_reads room (length_in is_tab s) (drop 1 (behind is_tab s))))))
-    (λ f. rw (e, annotation_turn, f) (record { least = omega arith; most = inl (omega arith); tail = tail_drop (length_in is_tab s) s })))
+    (λ e. rw (
+      e,
+      annotation_turn,
+    ) (turns_of s _ _ (annotation room (length_in is_tab s) (drop 1 (behind is_tab s)))
+    (go e (annotation room (length_in is_tab s) (drop 1 (behind is_tab s))) (annotation_reads room (length_in is_tab s) (drop 1 (behind is_tab s))))))
     (λ e. rw (e, annotation_turn) (whole, (refl, refl)))
   where
-    go : starts_with (bytes "[") (behind is_tab s) ≡ true → will (length_in is_tab s) ≡ true → (x : Found Annotation)
+    go : starts_with (bytes "[") (behind is_tab s) ≡ true → (x : Found Annotation)
         → Reads (drop 1 (behind is_tab s)) (λ a left. ReadBehind room (length_in is_tab s) (drop 1 (behind is_tab s)) a left) x
-        → Reads s (λ a left. ReadAnnotation will room s a left) x
-    go e f (found a left) h =
+        → Reads s (λ a left. ReadAnnotation room s a left) x
+    go e (found a left) h =
         let b : behind is_tab s ≡ byte "[" ∷ drop 1 (behind is_tab s) = starts_is (bytes "[") (behind is_tab s) e in
         let c : s ≡ annotation_onto a left = tabs_covers s ∙ ap (tabs_onto (length_in is_tab s)) (b ∙ ap (λ (l : List ℕ). byte "[" ∷ l) h.1.covers) ∙ rw h.1.at in (
           tail_then (tail_then (tail_drop (length_in is_tab s) s) (tail_drop 1 (behind is_tab s))) h.0,
           record {
             covers = c;
             rule = h.1.rule;
-            stands = rw h.1.at f;
             fits = h.1.fits;
             shorter = omega (arith, h.1.shorter, tail_length (tail_then (tail_drop (length_in is_tab s) s) (tail_drop 1 (behind is_tab s))));
           },
         )
-    go e f (fault n left) h =
+    go e (fault n left) h =
         record { least = h.least; most = h.most; tail = tail_then (tail_then (tail_drop (length_in is_tab s) s) (tail_drop 1 (behind is_tab s))) h.tail }
 
-pub annotation_shorter : (will : ℕ → Bool) (room : ℕ) (s : List ℕ) → Shorter s (annotation_turn will room s)
-annotation_shorter will room s = turns_shorter s _ _ (λ a left h. h.shorter) (annotation_turn will room s) (turn_reads will room s)
+pub annotation_shorter : (room : ℕ) (s : List ℕ) → Shorter s (annotation_turn room s)
+annotation_shorter room s = turns_shorter s _ _ (λ a left h. h.shorter) (annotation_turn room s) (turn_reads room s)
 
 -- ---- the annotations of a Concept
 
-pub record ReadAnnotations (will : ℕ → Bool) (room : ℕ) (s : List ℕ) (notes : List Annotation) (left : List ℕ) : Type 0 where
+pub record ReadAnnotations (room : ℕ) (s : List ℕ) (notes : List Annotation) (left : List ℕ) : Type 0 where
   pub covers : s ≡ annotations_onto notes left
   pub rule : all annotation_rule notes ≡ true
-  pub stand : all (λ a. will a.tabs) notes ≡ true
   pub fits : length notes ≤ room
 
-pub annotations_reads : (will : ℕ → Bool) (room : ℕ) (s : List ℕ) → Reads s (λ notes left. ReadAnnotations will room s notes left) (annotations will room s)
+pub annotations_reads : (room : ℕ) (s : List ℕ) → Reads s (λ notes left. ReadAnnotations room s notes left) (annotations room s)
 unfolding annotations_onto all
-annotations_reads will room s =
-    many_reads (taking (λ a. 1)) (annotation_turn will)
+annotations_reads room s =
+    many_reads (taking (λ a. 1)) annotation_turn
     (record {
-      of_turn = λ room s a left. ReadAnnotation will room s a left;
+      of_turn = λ room s a left. ReadAnnotation room s a left;
       of_end = λ room s left. (s ≡ left) × (starts_with (bytes "[") (behind is_tab s) ≡ false);
-      of_run = λ room s notes left. ReadAnnotations will room s notes left;
+      of_run = λ room s notes left. ReadAnnotations room s notes left;
     })
-    (turn_reads will)
-    (λ room s left e. record { covers = e.0; rule = refl; stand = refl; fits = omega arith })
+    turn_reads
+    (λ room s left e. record { covers = e.0; rule = refl; fits = omega arith })
     (λ room s a mid notes left t r. record {
       covers = t.covers ∙ ap (annotation_onto a) r.covers;
       rule = and t.rule r.rule;
-      stand = and t.stands r.stand;
       fits = omega (arith, t.fits, r.fits);
     })
     (suc (length s)) room s
 
--- an annotation that stands there, where its tabs will do
-pub annotation_turn_lem : (will : ℕ → Bool) (room : ℕ) (a : Annotation) (next : List ℕ) → will a.tabs ≡ true
-    → annotation_turn will room (annotation_onto a next) ≡ turn_of (annotation room a.tabs (a.text ++ (byte "]" ∷ blank_onto a.rest next)))
-unfolding annotation_turn starts_in
-annotation_turn_lem will room a next w =
-    let inner = a.text ++ (byte "]" ∷ blank_onto a.rest next) in
-    let f : behind is_tab (annotation_onto a next) ≡ byte "[" ∷ inner = tabs_behind a.tabs (byte "[" ∷ inner) refl in
-    let n : length_in is_tab (annotation_onto a next) ≡ a.tabs = tabs_length a.tabs (byte "[" ∷ inner) refl in
-    rw (f, starts_of (bytes "[") inner, annotation_turn, n, w)
-    (ap (λ (m : ℕ). turn_of (annotation room m (drop 1 (behind is_tab (annotation_onto a next))))) n
-    ∙ ap (λ (l : List ℕ). turn_of (annotation room a.tabs (drop 1 l))) f)
-
-pub annotation_complete : (room : ℕ) (a : Annotation) (next : List ℕ) → annotation_rule a ≡ true → 0 < room
-    → annotation room a.tabs (a.text ++ (byte "]" ∷ blank_onto a.rest next)) ≡ found a next
-unfolding annotation annotation_rule
-annotation_complete room a next r l =
-    let k = both (annotation_text a.text) (blank_rule a.rest) r in
-    let inner = a.text ++ (byte "]" ∷ blank_onto a.rest next) in
-    rw (
-      text_complete a.text (blank_onto a.rest next) k.0,
-      makes_complete room inner a.text (blank_onto a.rest next) l,
-      rest_complete a.rest next k.1,
-    )
-
 -- what follows the annotations begins no other one
-pub annotations_complete : (will : ℕ → Bool) (room : ℕ) (notes : List Annotation) (next : List ℕ) → all annotation_rule notes ≡ true
-    → all (λ a. will a.tabs) notes ≡ true → length notes ≤ room
-    → starts_with (bytes "[") (behind is_tab next) ≡ false → annotations will room (annotations_onto notes next) ≡ found notes next
-unfolding annotations_onto annotation_turn
-annotations_complete will room [] next r w l e = run_over (taking (λ a. 1)) (annotation_turn will) (annotation_shorter will) room next next (rw (e, annotation_turn))
-annotations_complete will room (a ∷ notes) next r w l e =
+pub annotations_complete : (room : ℕ) (notes : List Annotation) (next : List ℕ) → all annotation_rule notes ≡ true → length notes ≤ room
+    → starts_with (bytes "[") (behind is_tab next) ≡ false → annotations room (annotations_onto notes next) ≡ found notes next
+unfolding annotations_onto annotation_turn annotation_rule annotation starts_in
+annotations_complete room [] next r l e = run_over (taking (λ a. 1)) annotation_turn annotation_shorter room next next (rw (e, annotation_turn))
+annotations_complete room (a ∷ notes) next r l e =
     let h = all_head annotation_rule a notes r in
-    let g = all_head (λ a. will a.tabs) a notes w in
-    let rest = annotations_onto notes next in
-    run_more (taking (λ a. 1)) (annotation_turn will) (annotation_shorter will) room (annotations_onto (a ∷ notes) next) a rest notes next
-    (annotation_turn_lem will room a rest g.0 ∙ ap turn_of (annotation_complete room a rest h.0 (omega arith)))
-    (annotations_complete will (room - 1) notes next h.1 g.1 (omega arith) e)
-
--- where nothing is asked of the tabs
-pub any_stand : (notes : List Annotation) → all (λ a. any_tabs a.tabs) notes ≡ true
-unfolding all
-any_stand [] = refl
-any_stand (a ∷ notes) = any_stand notes
+    let k = both (annotation_text a.text) (blank_rule a.rest) h.0 in
+    let inner = a.text ++ (byte "]" ∷ blank_onto a.rest (annotations_onto notes next)) in
+    let f : behind is_tab (annotations_onto (a ∷ notes) next) ≡ byte "[" ∷ inner = tabs_behind a.tabs (byte "[" ∷ inner) refl in
+    run_more (taking (λ a. 1)) annotation_turn annotation_shorter room (annotations_onto (a ∷ notes) next) a (annotations_onto notes next) notes next
+    (rw (
+      f,
+      starts_of (bytes "[") inner,
+      annotation_turn,
+      f,
+      tabs_length a.tabs (byte "[" ∷ inner) refl,
+      text_complete a.text (blank_onto a.rest (annotations_onto notes next)) k.0,
+      makes_complete room inner a.text
+          (blank_onto a.rest (annotations_onto notes next)) (omega arith),
+      rest_complete a.rest (annotations_onto notes next) k.1,
+    ))
+    (annotations_complete (room - 1) notes next h.1 (omega arith) e)

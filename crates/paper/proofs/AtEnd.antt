@@ -7,31 +7,32 @@ use mathlib.Core.List.{List, [], ◌∷◌, ◌++◌, map}
 use native.Mathlib.Omega.{arith}
 use lib.ListN.{length, drop, take, get_or, length-append}
 use lib.Dec.{leb, eqb}
-use borrow.Author.Tests.{eqb-true}
+use borrow.Author.Tests.{eqb-true, eq-eqb}
 use Rattle.paper.specs.declared.brackets.Bracket.{Bracket}
+use Rattle.paper.specs.declared.Mode.TheVariants.{Children, Absent}
 use Rattle.paper.specs.Found.{Found, found, fault, and_then, Turn, more, over, stop, turn_of, go_on, many, run_of, taking, many_of}
 use Rattle.paper.specs.Bytes.{byte, bytes, is_upper, is_lower, is_hex, is_blank, is_line_end, is_white, length_in, front, behind, elem, same, starts_in}
 use Rattle.paper.specs.Bytes.{starts_with, lf, cr, space, scalar, is, onward}
 use Rattle.paper.specs.Names.{run, past_run, is_name, among}
-use Rattle.paper.specs.Ways.{Way, by_table, by_layout, tabs_do}
+use Rattle.paper.specs.Modes.{Modes}
 use Rattle.paper.specs.Values.{Piece, four, braces, escaped, opener, closer, may_be_empty, keyed, enders, key_enders, is_bare, is_key_form, Key, Label}
 use Rattle.paper.specs.Values.{Value, More, bracket, comma, piece_rule, word_form}
 use Rattle.paper.specs.Tree.{Trait, Marker, blank, Ending, block, self, Concept, self_closed, done, before, Sheet}
-use Rattle.paper.specs.Grammar.{tabs_onto, unlisted}
+use Rattle.paper.specs.Grammar.{tabs_onto, in_mode}
 use Rattle.paper.specs.Entries.{item_entries, trait_size, body_size}
 use Rattle.paper.specs.ReadingValues.{inside_of, itself, judged, four_digits, braced_digits, escape, piece_turn, close_character, character_of}
 use Rattle.paper.specs.ReadingValues.{backtick_turn, word_length, word_of, leaf_of, value_of, more_of, item_and, temporal_of, inside}
 use Rattle.paper.specs.ReadingValues.{key_word, at_start, key_of, colon, label_of}
 use Rattle.paper.specs.Reading.{Bounds, line_end, line_rest, is_blank_line, blank_turn, blank_lines, is_tab, no_space, tabs_only, name_of, name, due, makes}
-use Rattle.paper.specs.Reading.{text_of, escape_of, annotation, annotation_turn, annotations, any_tabs, misplaced, mark_tabs}
+use Rattle.paper.specs.Reading.{text_of, escape_of, annotation, annotation_turn, annotations}
 use Rattle.paper.specs.Reading.{enters, Earlier, with_trait, fresh, trait_name, trait, trait_due, trait_turn, traits_behind, no_trait}
 use Rattle.paper.specs.Reading.{ending, Opened, opened, admitted, head, opening, closing, closes_line, text_line, other_line, line_turn, content_of, last_blanks, sheet_tree}
-use Rattle.paper.specs.Reading.{holds_children, room_in, inside_by, annotated_by, piece_by, closes_body, concept_of, block_of, body_of, annotated_of, piece_of}
+use Rattle.paper.specs.Reading.{room_in, inside_by, annotated_by, piece_by, is_closing, concept_of, block_of, body_of, annotated_of, piece_of}
 use Rattle.paper.proofs.Tests.{split, true_false}
 use Rattle.paper.proofs.Lists.{by_front, starts_is, both, is_not}
 use Rattle.paper.proofs.Finds.{Tail, tail_length, tail_then, tail_drop, Reads}
 use Rattle.paper.proofs.Runs.{Shorter}
-use Rattle.paper.proofs.Lines.{ReadBlank, rest_reads, blank_shorter, ReadTabs, mark_reads}
+use Rattle.paper.proofs.Lines.{ReadBlank, rest_reads, blank_shorter}
 use Rattle.paper.proofs.Annotations.{ReadAnnotations, annotations_reads, annotation_shorter}
 use Rattle.paper.proofs.Content.{line_shorter}
 use Rattle.paper.proofs.Pieces.{by_inside, turn_closes, turn_escapes, turn_breaks, turn_itself, turn_shorter, tick_shorter}
@@ -46,23 +47,19 @@ use Rattle.paper.proofs.Concepts.{ReadOpening, opening_reads, ReadPiece, piece_r
 use Rattle.paper.proofs.Fuel.{marker_shorter, concept_of_lem, block_of_lem, body_of_lem}
 use Rattle.paper.proofs.TimeKinds.{by_time_kind}
 
--- ---- a 9 leaves nothing, and a 5 is a name that a table does not list
-
--- a number that says neither
-abbrev pub plain : ℕ → Bool
-plain n = not (eqb n 9) && not (eqb n 5)
+-- ---- a 9 leaves nothing
 
 pub data Ends {A : Type 0} : Found A → Type 0 where
   finds : {a : A} {left : List ℕ} → Ends (found a left)
   cut : Ends (fault 9 [])
-  other : {n : ℕ} {left : List ℕ} → plain n ≡ true → Ends (fault n left)
+  other : {n : ℕ} {left : List ℕ} → eqb n 9 ≡ false → Ends (fault n left)
 
 -- the same of a turn
 data Stops {A : Type 0} : Turn A → Type 0 where
   goes : {a : A} {left : List ℕ} → Stops (more a left)
   ends : {left : List ℕ} → Stops (over left)
   cut : Stops (stop 9 [])
-  other : {n : ℕ} {left : List ℕ} → plain n ≡ true → Stops (stop n left)
+  other : {n : ℕ} {left : List ℕ} → eqb n 9 ≡ false → Stops (stop n left)
 
 then : {A B : Type 0} (x : Found A) {next : A → List ℕ → Found B} → Ends x → ((a : A) (left : List ℕ) → Ends (next a left)) → Ends (and_then x next)
 then x finds f = f _ _
@@ -171,17 +168,15 @@ annotation_ends room tabs s =
     then (text_of s) (text_ends s)
     (λ t left. then (makes room s t left) (makes_ends room s t left) (λ t left. then (line_rest left) (line_rest_lem left) (λ rest end. finds)))
 
-annotations_end : (will : ℕ → Bool) (room : ℕ) (s : List ℕ) → Ends (annotations will room s)
+annotations_end : (room : ℕ) (s : List ℕ) → Ends (annotations room s)
 unfolding annotation_turn
-annotations_end will room s = run_ends (taking (λ a. 1)) (annotation_turn will) (annotation_shorter will) turns room s
+annotations_end room s = run_ends (taking (λ a. 1)) annotation_turn annotation_shorter turns room s
   where
-    turns : (room : ℕ) (s : List ℕ) → Stops (annotation_turn will room s)
+    turns : (room : ℕ) (s : List ℕ) → Stops (annotation_turn room s)
     turns room s =
         let inner = drop 1 (behind is_tab s) in
         split (starts_with (bytes "[") (behind is_tab s))
-        (λ e. split (will (length_in is_tab s))
-        (λ f. rw (e, annotation_turn, f) (turn_of_lem (annotation room (length_in is_tab s) inner) (annotation_ends room (length_in is_tab s) inner)))
-        (λ f. rw (e, annotation_turn, f) (other refl)))
+        (λ e. rw (e, annotation_turn) (turn_of_lem (annotation room (length_in is_tab s) inner) (annotation_ends room (length_in is_tab s) inner)))
         (λ e. rw (e, annotation_turn) ends)
 
 -- ---- values
@@ -397,44 +392,17 @@ opened_ends by room w s =
     then (traits_behind by (no_trait room) s) (traits_end by (no_trait room) s)
     (λ ts left. then (ending (behind is_white left)) (ending_ends (behind is_white left)) (λ e end. finds))
 
--- where the way is asked: the same, or a 5 by a table
-abbrev pub HasTable : Way → Type 0
-HasTable (by_table m) = Unit {0}
-HasTable by_layout = ⊥
-
-pub data EndsBy {A : Type 0} (way : Way) : Found A → Type 0 where
-  ends_so : {x : Found A} → Ends x → EndsBy way x
-  unlisted_so : {left : List ℕ} → HasTable way → EndsBy way (fault 5 left)
-
-then_way : {A B : Type 0} {way : Way} (x : Found A) {next : A → List ℕ → Found B} → EndsBy way x → ((a : A) (left : List ℕ) → EndsBy way (next a left))
-    → EndsBy way (and_then x next)
-then_way x (ends_so finds) f = f _ _
-then_way x (ends_so cut) f = ends_so cut
-then_way x (ends_so (other e)) f = ends_so (other e)
-then_way x (unlisted_so t) f = unlisted_so t
-
-then_way_by : {A B : Type 0} {way : Way} (s : List ℕ) (P : A → List ℕ → Type 0) (x : Found A) {next : A → List ℕ → Found B}
-    → Reads s P x → EndsBy way x → ((a : A) (left : List ℕ) → Tail s left → P a left → EndsBy way (next a left)) → EndsBy way (and_then x next)
-then_way_by s P x r (ends_so finds) f = f _ _ r.0 r.1
-then_way_by s P x r (ends_so cut) f = ends_so cut
-then_way_by s P x r (ends_so (other e)) f = ends_so (other e)
-then_way_by s P x r (unlisted_so t) f = unlisted_so t
-
-admitted_ends : (way : Way) (deeper room : ℕ) (s w left : List ℕ) → EndsBy way (admitted way deeper room s w left)
+admitted_ends : (m : Modes) (deeper room : ℕ) (s w left : List ℕ) → Ends (admitted m deeper room s w left)
 unfolding admitted
-admitted_ends way zero room s w left = ends_so (other refl)
-admitted_ends way (suc deeper) room s w left =
-    split (unlisted way w) (λ e. rw (e, admitted) (unlisted_so (by_table_lem way e))) (λ e. rw (e, admitted) (ends_so (makes_ends room (drop 1 s) w left)))
-  where
-    by_table_lem : (way : Way) → unlisted way w ≡ true → HasTable way
-    by_table_lem (by_table m) e = tt
-    by_table_lem by_layout e = true_false (sym e)
+admitted_ends m zero room s w left = other refl
+admitted_ends m (suc deeper) room s w left =
+    split (in_mode Absent m w) (λ e. rw (e, admitted) (other refl)) (λ e. rw (e, admitted) (makes_ends room (drop 1 s) w left))
 
-opening_ends : (way : Way) (by : Bounds) (deeper room : ℕ) (s : List ℕ) → EndsBy way (opening way by deeper room s)
-opening_ends way by deeper room s =
+opening_ends : (m : Modes) (by : Bounds) (deeper room : ℕ) (s : List ℕ) → Ends (opening m by deeper room s)
+opening_ends m by deeper room s =
     let rule = is_name is_upper by.names in
-    then_way (head by s) (ends_so (then (due (byte "<") s) (due_ends (byte "<") s) (λ b named. name_ends rule named)))
-    (λ w left. then_way (admitted way deeper room s w left) (admitted_ends way deeper room s w left) (λ v start. ends_so (opened_ends by (room - 1) v start)))
+    then (head by s) (then (due (byte "<") s) (due_ends (byte "<") s) (λ b named. name_ends rule named))
+    (λ w left. then (admitted m deeper room s w left) (admitted_ends m deeper room s w left) (λ v start. opened_ends by (room - 1) v start))
 
 closing_ends : (w s : List ℕ) → Ends (closing w s)
 unfolding closing
@@ -479,82 +447,69 @@ content_ends tabs room k s =
 -- ---- Concepts
 
 -- what follows an opening marker, where a children block does
-inside_ends : (way : Way) (inner : ℕ → ℕ → ℕ → Marker → List ℕ → Found Concept) (deeper room tabs : ℕ) (o : Opened) (left : List ℕ)
-    → EndsBy way (inner (deeper - 1) (room_in room o) tabs o.marker left) → EndsBy way (inside_by way inner deeper room tabs o left)
-inside_ends way inner deeper room tabs o left h = by_ending o.ends
+inside_ends : (m : Modes) (inner : ℕ → ℕ → Marker → List ℕ → Found Concept) (deeper room tabs : ℕ) (o : Opened) (left : List ℕ)
+    → Ends (inner (deeper - 1) (room_in room o) o.marker left) → Ends (inside_by m inner deeper room tabs o left)
+inside_ends m inner deeper room tabs o left h = by_ending o.ends
   where
-    by_ending : (e : Ending) → EndsBy {A = Concept} way (elim e [
+    by_ending : (e : Ending) → Ends {A = Concept} (elim e [
       | self ↦ found (self_closed o.marker) left
-      | block ↦ elim (holds_children way tabs o.marker.name left) [
-        | true ↦ inner (deeper - 1) (room_in room o) tabs o.marker left
+      | block ↦ elim (in_mode Children m o.marker.name) [
+        | true ↦ inner (deeper - 1) (room_in room o) o.marker left
         | false ↦ content_of tabs (room_in room o) o.marker left
       ]
     ])
-    by_ending self = ends_so finds
+    by_ending self = finds
     by_ending block =
-        split (holds_children way tabs o.marker.name left) (λ e. rw e h) (λ e. rw e (ends_so (content_ends tabs (room_in room o) o.marker left)))
-
--- the tabs of a marker
-mark_ends : (will : ℕ → Bool) (s : List ℕ) → Ends (mark_tabs will s)
-unfolding misplaced
-mark_ends will s = split (will (length_in is_tab s)) (λ e. rw (e, mark_tabs) finds) (λ e. rw (e, mark_tabs) (go (behind is_tab s)))
-  where
-    go : (r : List ℕ) → Ends (misplaced r)
-    go [] = cut
-    go (b ∷ l) = other refl
+        split (in_mode Children m o.marker.name) (λ e. rw e h) (λ e. rw e (content_ends tabs (room_in room o) o.marker left))
 
 -- annotations and their Concept, and a piece of a body, where the Concept does
-module _ (way : Way) (will : ℕ → Bool) (read : ℕ → ℕ → List ℕ → Found Concept) (room : ℕ) (s : List ℕ)
-    (h : (room tabs : ℕ) (l : List ℕ) → length l ≤ length s → EndsBy way (read room tabs l)) where
-  annotated_ends : EndsBy way (annotated_by will read room s)
-  annotated_ends =
-      then_way_by s (λ notes line. ReadAnnotations will room s notes line) (annotations will room s) (annotations_reads will room s)
-      (ends_so (annotations_end will room s))
-      (λ notes line t a. then_way_by line (λ tabs mark. ReadTabs will line tabs mark) (mark_tabs will line) (mark_reads will line) (ends_so (mark_ends will line))
-      (λ tabs mark u b. then_way (read (room - length notes) tabs mark) (h (room - length notes) tabs mark (tail_length (tail_then t u))) (λ c left. ends_so finds)))
+annotated_ends : (read : ℕ → ℕ → List ℕ → Found Concept) (room : ℕ) (s : List ℕ)
+    → ((room tabs : ℕ) (l : List ℕ) → length l ≤ length s → Ends (read room tabs l)) → Ends (annotated_by read room s)
+annotated_ends read room s h =
+    then_by s (λ notes line. ReadAnnotations room s notes line) (annotations room s) (annotations_reads room s) (annotations_end room s)
+    (λ notes line t a.
+    let tabs = length_in is_tab line in
+    let mark = behind is_tab line in
+    then (read (room - length notes) tabs mark) (h (room - length notes) tabs mark (tail_length (tail_then t (tail_drop tabs line)))) (λ c left. finds))
 
-  piece_ends : EndsBy way (piece_by will read room s)
-  piece_ends =
-      split (is_blank_line s)
-      (λ e. rw (e, piece_by) (ends_so (then (line_rest s) (line_rest_lem s) (λ b left. finds))))
-      (λ e. rw (e, piece_by) (then_way (tabs_only s) (ends_so (tabs_only_lem s))
-      (λ tabs mark. then_way (annotated_by will read room s) annotated_ends (λ a left. ends_so (then (line_rest left) (line_rest_lem left) (λ rest end. finds))))))
+piece_ends : (read : ℕ → ℕ → List ℕ → Found Concept) (room : ℕ) (s : List ℕ)
+    → ((room tabs : ℕ) (l : List ℕ) → length l ≤ length s → Ends (read room tabs l)) → Ends (piece_by read room s)
+piece_ends read room s h =
+    split (is_blank_line s)
+    (λ e. rw (e, piece_by) (then (line_rest s) (line_rest_lem s) (λ b left. finds)))
+    (λ e. rw (e, piece_by) (then (tabs_only s) (tabs_only_lem s)
+    (λ tabs mark. then (annotated_by read room s) (annotated_ends read room s h) (λ a left. then (line_rest left) (line_rest_lem left) (λ rest end. finds)))))
 
 -- ---- Concepts, by their length
 
 mutual
-  concept_ends : (n : ℕ) (way : Way) (by : Bounds) (deeper room tabs : ℕ) (s : List ℕ) → length s < n → EndsBy way (concept_of way by deeper room tabs s)
-  concept_ends zero way by deeper room tabs s h = absurd (omega arith)
-  concept_ends (suc n) way by deeper room tabs s h =
-      rw (concept_of_lem way by deeper room tabs s)
-      (then_way_by s (λ o left. ReadOpening way by deeper room s o left) (opening way by deeper room s) (opening_reads way by deeper room s)
-      (opening_ends way by deeper room s)
+  concept_ends : (n : ℕ) (m : Modes) (by : Bounds) (deeper room tabs : ℕ) (s : List ℕ) → length s < n → Ends (concept_of m by deeper room tabs s)
+  concept_ends zero m by deeper room tabs s h = absurd (omega arith)
+  concept_ends (suc n) m by deeper room tabs s h =
+      rw (concept_of_lem m by deeper room tabs s)
+      (then_by s (λ o left. ReadOpening m by deeper room s o left) (opening m by deeper room s) (opening_reads m by deeper room s) (opening_ends m by deeper room s)
       (λ o left t p.
-      let short = marker_shorter way by deeper room s o left p in
-      inside_ends way (block_of way by) deeper room tabs o left (block_ends n way by (deeper - 1) (room_in room o) tabs o.marker left (omega arith))))
+      let short = marker_shorter m by deeper room s o left p in
+      inside_ends m (block_of m by) deeper room tabs o left (block_ends n m by (deeper - 1) (room_in room o) o.marker left (omega arith))))
 
-  block_ends : (n : ℕ) (way : Way) (by : Bounds) (deeper room outer : ℕ) (k : Marker) (s : List ℕ) → length s + 2 < n
-      → EndsBy way (block_of way by deeper room outer k s)
-  block_ends zero way by deeper room outer k s h = absurd (omega arith)
-  block_ends (suc n) way by deeper room outer k s h =
-      rw (block_of_lem way by deeper room outer k s)
-      (then_way_by s (λ b left. ReadBlank s b left) (line_rest s) (rest_reads s) (ends_so (line_rest_lem s))
-      (λ rest start t r. then_way (body_of way by deeper room outer start) (body_ends n way by deeper room outer start (omega (arith, r.shorter)))
-      (λ inner left. ends_so (then (closing k.name (behind is_tab left)) (closing_ends k.name (behind is_tab left)) (λ b end. finds)))))
+  block_ends : (n : ℕ) (m : Modes) (by : Bounds) (deeper room : ℕ) (k : Marker) (s : List ℕ) → length s + 2 < n → Ends (block_of m by deeper room k s)
+  block_ends zero m by deeper room k s h = absurd (omega arith)
+  block_ends (suc n) m by deeper room k s h =
+      rw (block_of_lem m by deeper room k s)
+      (then_by s (λ b left. ReadBlank s b left) (line_rest s) (rest_reads s) (line_rest_lem s)
+      (λ rest start t r. then (body_of m by deeper room start) (body_ends n m by deeper room start (omega (arith, r.shorter)))
+      (λ inner left. then (closing k.name (behind is_tab left)) (closing_ends k.name (behind is_tab left)) (λ b end. finds))))
 
-  body_ends : (n : ℕ) (way : Way) (by : Bounds) (deeper room outer : ℕ) (s : List ℕ) → length s + 1 < n → EndsBy way (body_of way by deeper room outer s)
-  body_ends zero way by deeper room outer s h = absurd (omega arith)
-  body_ends (suc n) way by deeper room outer s h =
-      let will = tabs_do way (suc outer) in
-      rw (body_of_lem way by deeper room outer s)
-      (split (closes_body way outer s)
-      (λ e. rw e (ends_so (then (mark_tabs (tabs_do way outer) s) (mark_ends (tabs_do way outer) s) (λ tabs mark. finds))))
-      (λ e. rw e (then_way_by s (λ p left. ReadPiece way by deeper room (suc outer) s p left) (piece_of way by will deeper room s)
-      (piece_reads way by deeper room (suc outer) s)
-      (piece_ends way will (concept_of way by deeper) room s (λ room tabs l k. concept_ends n way by deeper room tabs l (omega arith)))
+  body_ends : (n : ℕ) (m : Modes) (by : Bounds) (deeper room : ℕ) (s : List ℕ) → length s + 1 < n → Ends (body_of m by deeper room s)
+  body_ends zero m by deeper room s h = absurd (omega arith)
+  body_ends (suc n) m by deeper room s h =
+      rw (body_of_lem m by deeper room s)
+      (split (is_closing s) (λ e. rw e finds)
+      (λ e. rw e (then_by s (λ p left. ReadPiece m by deeper room s p left) (piece_of m by deeper room s) (piece_reads m by deeper room s)
+      (piece_ends (concept_of m by deeper) room s (λ room tabs l k. concept_ends n m by deeper room tabs l (omega arith)))
       (λ p next t r.
       let fewer = room - body_size (before p done) in
-      then_way (body_of way by deeper fewer outer next) (body_ends n way by deeper fewer outer next (omega (arith, r.shorter))) (λ inner end. ends_so finds)))))
+      then (body_of m by deeper fewer next) (body_ends n m by deeper fewer next (omega (arith, r.shorter))) (λ inner end. finds)))))
 
 -- ---- a whole sheet
 
@@ -563,32 +518,21 @@ unfolding last_blanks
 last_ends blanks [] = finds
 last_ends blanks (b ∷ l) = other refl
 
-pub sheet_ends : (way : Way) (by : Bounds) (deeper room : ℕ) (s : List ℕ) → EndsBy way (sheet_tree way by deeper room s)
+sheet_ends : (m : Modes) (by : Bounds) (deeper room : ℕ) (s : List ℕ) → Ends (sheet_tree m by deeper room s)
 unfolding sheet_tree
-sheet_ends way by deeper room s =
-    then_way (blank_lines s) (ends_so (blank_lines_lem s))
-    (λ before first. then_way (tabs_only first) (ends_so (tabs_only_lem first))
-    (λ tabs mark. then_way (annotated_of way by any_tabs deeper room first)
-    (annotated_ends way any_tabs (concept_of way by deeper) room first (λ room tabs l k. concept_ends (length l + 1) way by deeper room tabs l (omega arith)))
-    (λ a left. then_way (blank_lines left) (ends_so (blank_lines_lem left))
-    (λ after rest. ends_so (then (last_blanks (front is_blank rest) (behind is_blank rest)) (last_ends _ (behind is_blank rest)) (λ last end. finds))))))
+sheet_ends m by deeper room s =
+    then (blank_lines s) (blank_lines_lem s)
+    (λ before first. then (tabs_only first) (tabs_only_lem first)
+    (λ tabs mark. then (annotated_of m by deeper room first)
+    (annotated_ends (concept_of m by deeper) room first (λ room tabs l k. concept_ends (length l + 1) m by deeper room tabs l (omega arith)))
+    (λ a left. then (blank_lines left) (blank_lines_lem left)
+    (λ after rest. then (last_blanks (front is_blank rest) (behind is_blank rest)) (last_ends _ (behind is_blank rest)) (λ last end. finds)))))
 
 -- a 9 of a sheet leaves nothing
-pub cut_at_end : (way : Way) (by : Bounds) (deeper room : ℕ) (s left : List ℕ) → sheet_tree way by deeper room s ≡ fault 9 left → left ≡ []
-cut_at_end way by deeper room s left e = go (sheet_tree way by deeper room s) e (sheet_ends way by deeper room s)
+pub cut_at_end : (m : Modes) (by : Bounds) (deeper room : ℕ) (s left : List ℕ) → sheet_tree m by deeper room s ≡ fault 9 left → left ≡ []
+cut_at_end m by deeper room s left e = go (sheet_tree m by deeper room s) e (sheet_ends m by deeper room s)
   where
-    go : (x : Found Sheet) → x ≡ fault 9 left → EndsBy way x → left ≡ []
-    go (found t rest) e (ends_so finds) = cc
-    go (fault n rest) e (ends_so cut) = cc
-    go (fault n rest) e (ends_so (other f)) = let q : n ≡ 9 = cc in true_false (sym f ∙ ap plain q)
-    go (fault n rest) e (unlisted_so t) = let q : ◌≡◌ {A = ℕ} 5 9 = cc in absurd (omega arith)
-
--- and a 5 is given by a table only
-pub unlisted_by_table : (way : Way) (by : Bounds) (deeper room : ℕ) (s left : List ℕ) → sheet_tree way by deeper room s ≡ fault 5 left → HasTable way
-unlisted_by_table way by deeper room s left e = go (sheet_tree way by deeper room s) e (sheet_ends way by deeper room s)
-  where
-    go : (x : Found Sheet) → x ≡ fault 5 left → EndsBy way x → HasTable way
-    go (found t rest) e (ends_so finds) = let z : ◌≡◌ {A = ℕ} 0 1 = cc in absurd (omega arith)
-    go (fault n rest) e (ends_so cut) = let q : ◌≡◌ {A = ℕ} 9 5 = cc in absurd (omega arith)
-    go (fault n rest) e (ends_so (other f)) = let q : n ≡ 5 = cc in true_false (sym f ∙ ap plain q)
-    go (fault n rest) e (unlisted_so t) = t
+    go : (x : Found Sheet) → x ≡ fault 9 left → Ends x → left ≡ []
+    go (found t rest) e finds = cc
+    go (fault n rest) e cut = cc
+    go (fault n rest) e (other f) = let q : n ≡ 9 = cc in true_false (sym (eq-eqb n 9 q) ∙ f)

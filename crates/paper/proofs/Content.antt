@@ -49,7 +49,7 @@ not_closes tabs w s f = split (closes_line tabs w s) (λ e. absurd (f _ (closes_
 other_byte : (a b : ℕ) (l m : List ℕ) → eqb a b ≡ false → a ∷ l ≡ b ∷ m → ⊥
 other_byte a b l m e q = true_false (sym (eq-eqb a b (head-eq_of_cons-eq q)) ∙ e)
 
-pub blank_open : (tabs : ℕ) (w : List ℕ) (b : Blank) (next : List ℕ) → blank_rule b ≡ true → closes_line tabs w (blank_onto b next) ≡ false
+blank_open : (tabs : ℕ) (w : List ℕ) (b : Blank) (next : List ℕ) → blank_rule b ≡ true → closes_line tabs w (blank_onto b next) ≡ false
 unfolding starts_in is_blank
 blank_open tabs w b next r =
     not_closes tabs w (blank_onto b next)
@@ -60,7 +60,7 @@ blank_open tabs w b next r =
     go LF l q = other_byte lf (byte "<") next l refl q
     go CRLF l q = other_byte cr (byte "<") (lf ∷ next) l refl q
 
-pub text_open : (tabs : ℕ) (w next : List ℕ) → closes_line tabs w (tabs_onto (suc tabs) next) ≡ false
+text_open : (tabs : ℕ) (w next : List ℕ) → closes_line tabs w (tabs_onto (suc tabs) next) ≡ false
 text_open tabs w next =
     not_closes tabs w (tabs_onto (suc tabs) next) (λ l e. other_byte tab (byte "<") next l refl
     (append_cancel_left (replicate tabs tab) (tab ∷ next) (byte "<" ∷ l) (sym (tabs_more tabs next) ∙ e)))
@@ -123,7 +123,7 @@ blanks_line tabs t e next r =
     (blank_line_lem (record { blanks = replicate (suc tabs) tab ++ t; end = e }) next (all_append is_blank (replicate (suc tabs) tab) t (all_tabs (suc tabs)) r))
 
 -- tabs in front
-pub starts_tabs : (n : ℕ) (s : List ℕ) → starts_with (tabs_onto n []) s ≡ true → s ≡ tabs_onto n (drop n s)
+starts_tabs : (n : ℕ) (s : List ℕ) → starts_with (tabs_onto n []) s ≡ true → s ≡ tabs_onto n (drop n s)
 starts_tabs n s e = starts_is (tabs_onto n []) s e ∙ rw (append-nil (replicate n tab), length-replicate n tab)
 
 pub tabs_start : (n : ℕ) (next : List ℕ) → starts_with (tabs_onto n []) (tabs_onto n next) ≡ true
@@ -187,13 +187,13 @@ pub record Inked (t : List ℕ) : Type 0 where
   pub no_blank : is_blank first ≡ false
   pub no_end : is_line_end first ≡ false
 
-pub ink_found : (t : List ℕ) → all is_blank t ≡ false → all (λ b. not (is_line_end b)) t ≡ true → Inked t
+inked : (t : List ℕ) → all is_blank t ≡ false → all (λ b. not (is_line_end b)) t ≡ true → Inked t
 unfolding all
-ink_found [] e r = true_false e
-ink_found (b ∷ t) e r =
+inked [] e r = true_false e
+inked (b ∷ t) e r =
     let h = all_head (λ b. not (is_line_end b)) b t r in
     split (is_blank b)
-    (λ f. let k = ink_found t (rw f at e) h.1 in
+    (λ f. let k = inked t (rw f at e) h.1 in
     record {
       blanks = b ∷ k.blanks;
       first = k.first;
@@ -207,7 +207,7 @@ ink_found (b ∷ t) e r =
 
 -- a line of text: its first byte that is no blank, and its text behind the tabs
 module _ (tabs : ℕ) (t : List ℕ) (e : LineEnd) (next : List ℕ) (k : Inked t) where
-  pub ink_behind : behind is_blank (tabs_onto (suc tabs) (t ++ line_end_onto e next)) ≡ k.first ∷ (k.others ++ line_end_onto e next)
+  ink_behind : behind is_blank (tabs_onto (suc tabs) (t ++ line_end_onto e next)) ≡ k.first ∷ (k.others ++ line_end_onto e next)
   unfolding starts_in
   ink_behind =
       rw (
@@ -218,11 +218,11 @@ module _ (tabs : ℕ) (t : List ℕ) (e : LineEnd) (next : List ℕ) (k : Inked 
       (behind_of is_blank (replicate (suc tabs) tab ++ k.blanks) (k.first ∷ (k.others ++ line_end_onto e next))
       (all_append is_blank (replicate (suc tabs) tab) k.blanks (all_tabs (suc tabs)) k.blank_front) k.no_blank)
 
-  pub ink_line : is_blank_line (tabs_onto (suc tabs) (t ++ line_end_onto e next)) ≡ false
+  ink_line : is_blank_line (tabs_onto (suc tabs) (t ++ line_end_onto e next)) ≡ false
   unfolding starts_in
   ink_line = ap (starts_in is_line_end) ink_behind ∙ k.no_end
 
-pub drop_tabs : (n : ℕ) (next : List ℕ) → drop n (tabs_onto n next) ≡ next
+drop_tabs : (n : ℕ) (next : List ℕ) → drop n (tabs_onto n next) ≡ next
 drop_tabs n next = ap (λ (m : ℕ). drop m (tabs_onto n next)) (sym (length-replicate n tab)) ∙ drop-append_seam (replicate n tab) next
 
 other_complete : (tabs b : ℕ) (r t : List ℕ) (e : LineEnd) (next : List ℕ) → all (λ b. not (is_line_end b)) t ≡ true
@@ -236,7 +236,7 @@ unfolding line_turn
 line_complete tabs w room (blank b) next r = rw (blank_open tabs w b next r, line_turn, blank_line_lem b next r, rest_complete b next r)
 line_complete tabs w room (text t e) next r =
     let h = both (not (all is_blank t)) (all (λ b. not (is_line_end b)) t) r in
-    let k = ink_found t (not-true (all is_blank t) h.0) h.1 in
+    let k = inked t (not-true (all is_blank t) h.0) h.1 in
     rw (text_open tabs w (t ++ line_end_onto e next), line_turn, ink_line tabs t e next k, ink_behind tabs t e next k)
     (other_complete tabs k.first (k.others ++ line_end_onto e next) t e next h.1)
 
@@ -279,7 +279,6 @@ pub record ReadContent (tabs room : ℕ) (k : Marker) (s : List ℕ) (c : Concep
   pub covers : s ≡ blank_onto rest (lines_onto tabs lines (tabs_onto tabs (closing_onto k.name left)))
   pub rest_rule : blank_rule rest ≡ true
   pub lines_rule : all line_rule lines ≡ true
-  pub closed : closes_line tabs k.name (tabs_onto tabs (closing_onto k.name left)) ≡ true
   pub fits : 0 < room
 
 pub content_reads : (tabs room : ℕ) (k : Marker) (s : List ℕ) → Reads s (λ c left. ReadContent tabs room k s c left) (content_of tabs room k s)
@@ -298,7 +297,6 @@ content_reads tabs room k s =
         covers = r.covers ∙ ap (blank_onto b) (sym m.2 ∙ q.covers ∙ ap (lines_onto tabs lines) (closes_is tabs k.name left q.closed)) ∙ rw m.1;
         rest_rule = rw m.1 r.rule;
         lines_rule = q.rule;
-        closed = ap (closes_line tabs k.name) (sym (closes_is tabs k.name left q.closed)) ∙ q.closed;
         fits = m.0;
       },
     ))))

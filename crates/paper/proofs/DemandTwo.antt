@@ -8,7 +8,7 @@ use lib.ListN.{length, take}
 use lib.Seq.{take_at}
 use borrow.Author.Tests.{leb-true, le-leb}
 use Rattle.paper.specs.Answer.{Told, accepted}
-use Rattle.paper.specs.Ways.{Way, Given}
+use Rattle.paper.specs.Modes.{Modes}
 use Rattle.paper.specs.Tree.{Sheet}
 use Rattle.paper.specs.Grammar.{Derives}
 use Rattle.paper.specs.Limits.{sheet_limit}
@@ -29,44 +29,44 @@ use Rattle.paper.proofs.Telling.{AllTell, senses, entries_tell}
 
 -- The form of a tree t is read, in the same room, to a tree of the same meaning: the same Concepts with the same forms, names, traits, values, annotations and Content.
 -- It has as many entries.
-pub record ReadsBack (given : Given) (lent : ℕ) (t : Sheet) : Type 0 where
+pub record ReadsBack (table : List ℕ) (lent : ℕ) (t : Sheet) : Type 0 where
   pub it : Sheet
-  pub begins : begin given (canonical t) lent ≡ tree it
-  pub reads : reading given (canonical t) lent ≡ accepting (canonical t) lent (entries it)
+  pub begins : begin table (canonical t) lent ≡ tree it
+  pub reads : reading table (canonical t) lent ≡ accepting (canonical t) lent (entries it)
   pub means : meaning it ≡ meaning t
   pub many : length (entries it) ≡ length (entries t)
 
-sound_again : {given : Given} {s : List ℕ} {lent : ℕ} {t : Sheet} → Sound given s lent t → length (canonical t) ≤ sheet_limit → Sound given (canonical t) lent (again t)
-sound_again {given} {s} {lent} {t} h l = record { way = h.way; valid = h.valid; read = (tree_back h.way (room_of lent) s t h.read l).read }
+sound_again : {table s : List ℕ} {lent : ℕ} {t : Sheet} → Sound table s lent t → length (canonical t) ≤ sheet_limit → Sound table (canonical t) lent (again t)
+sound_again {table} {s} {lent} {t} h l = record { modes = h.modes; valid = h.valid; read = (tree_back h.modes (room_of lent) s t h.read l).read }
 
 -- where the form fits a sheet
-pub canonical_reads_back : (given : Given) (s : List ℕ) (lent : ℕ) (t : Sheet) → begin given s lent ≡ tree t → length (canonical t) ≤ sheet_limit → ReadsBack given lent t
-canonical_reads_back given s lent t e l =
-    let h : Sound given s lent t = subst (Begins given s lent) e (begins given s lent) in
+pub canonical_reads_back : (table s : List ℕ) (lent : ℕ) (t : Sheet) → begin table s lent ≡ tree t → length (canonical t) ≤ sheet_limit → ReadsBack table lent t
+canonical_reads_back table s lent t e l =
+    let h : Sound table s lent t = subst (Begins table s lent) e (begins table s lent) in
     let a = sound_again h l in
     record {
       it = again t;
       begins = begins_tree a;
       reads = reads_tree a;
       means = again_means t;
-      many = (tree_back h.way (room_of lent) s t h.read l).many;
+      many = (tree_back h.modes (room_of lent) s t h.read l).many;
     }
 
 -- ---- canonical-fixed: "and laying it out again changes no byte"
 
 -- what an accepted writing wrote: the form of the sheet's tree, which fits
-pub record Wrote (given : Given) (s : List ℕ) (lent : ℕ) (out : List ℕ) (n : ℕ) : Type 0 where
+pub record Wrote (table s : List ℕ) (lent : ℕ) (out : List ℕ) (n : ℕ) : Type 0 where
   pub it : Sheet
-  pub begins : begin given s lent ≡ tree it
+  pub begins : begin table s lent ≡ tree it
   pub fits : length (canonical it) ≤ min (length out) sheet_limit
-  pub is : writing given s lent out ≡ written_at lent out 0 (canonical it)
+  pub is : writing table s lent out ≡ written_at lent out 0 (canonical it)
   pub count : n ≡ length (canonical it)
 
-pub write_inverts : (given : Given) (s : List ℕ) (lent : ℕ) (out : List ℕ) (n : ℕ) → (writing given s lent out).answer ≡ accepted 0 n → Wrote given s lent out n
+pub write_inverts : (table s : List ℕ) (lent : ℕ) (out : List ℕ) (n : ℕ) → (writing table s lent out).answer ≡ accepted 0 n → Wrote table s lent out n
 unfolding writing write_form
-write_inverts given s lent out n h = by_tree (begin given s lent) refl (begins given s lent)
+write_inverts table s lent out n h = by_tree (begin table s lent) refl (begins table s lent)
   where
-    by_tree : (b : Begun) → begin given s lent ≡ b → Begins given s lent b → Wrote given s lent out n
+    by_tree : (b : Begun) → begin table s lent ≡ b → Begins table s lent b → Wrote table s lent out n
     by_tree (unread k at) e q = told_apart k at 0 n (omega (arith, q.least)) (rw (e, writing) at h)
     by_tree (tree t) e q =
         split (form_fits out (canonical t))
@@ -80,23 +80,23 @@ write_inverts given s lent out n h = by_tree (begin given s lent) refl (begins g
         (λ f. told_apart 12 0 0 n (omega arith) (rw (e, writing, write_form, f) at h))
 
 -- a tree whose form fits is written
-pub writes : (given : Given) (s : List ℕ) (lent : ℕ) (out : List ℕ) (t : Sheet) → begin given s lent ≡ tree t → length (canonical t) ≤ min (length out) sheet_limit
-    → writing given s lent out ≡ written_at lent out 0 (canonical t)
+pub writes : (table s : List ℕ) (lent : ℕ) (out : List ℕ) (t : Sheet) → begin table s lent ≡ tree t → length (canonical t) ≤ min (length out) sheet_limit
+    → writing table s lent out ≡ written_at lent out 0 (canonical t)
 unfolding writing write_form
-writes given s lent out t e l = rw (e, writing, write_form, le-leb (length (canonical t)) (min (length out) sheet_limit) l) refl
+writes table s lent out t e l = rw (e, writing, write_form, le-leb (length (canonical t)) (min (length out) sheet_limit) l) refl
 
 -- The n bytes that a writing wrote, written again under the same table and with as many entry cells, into any room of n bytes: the same bytes.
-pub canonical_fixed : (given : Given) (s : List ℕ) (lent : ℕ) (out : List ℕ) (n : ℕ) (other : List ℕ) → (writing given s lent out).answer ≡ accepted 0 n → n ≤ length other
-    → writing given (take n (writing given s lent out).out) lent other ≡ written_at lent other 0 (take n (writing given s lent out).out)
-canonical_fixed given s lent out n other h l =
-    let w = write_inverts given s lent out n h in
+pub canonical_fixed : (table s : List ℕ) (lent : ℕ) (out : List ℕ) (n : ℕ) (other : List ℕ) → (writing table s lent out).answer ≡ accepted 0 n → n ≤ length other
+    → writing table (take n (writing table s lent out).out) lent other ≡ written_at lent other 0 (take n (writing table s lent out).out)
+canonical_fixed table s lent out n other h l =
+    let w = write_inverts table s lent out n h in
     let t = w.it in
-    let b = canonical_reads_back given s lent t w.begins (omega (arith, w.fits)) in
-    let form : take n (writing given s lent out).out ≡ canonical t =
+    let b = canonical_reads_back table s lent t w.begins (omega (arith, w.fits)) in
+    let form : take n (writing table s lent out).out ≡ canonical t =
     ap (λ (x : Writing). take n x.out) w.is ∙ take_at (canonical t) _ n (sym w.count) in
     let same : canonical b.it ≡ canonical t = ap print b.means in
     rw form
-    (writes given (canonical t) lent other b.it b.begins (omega (arith, ap length same, w.count, w.fits)) ∙ ap (written_at lent other 0) same)
+    (writes table (canonical t) lent other b.it b.begins (omega (arith, ap length same, w.count, w.fits)) ∙ ap (written_at lent other 0) same)
 
 -- ---- only-offsets-change: "the same tree, values and Content", entry by entry
 
@@ -107,9 +107,9 @@ pub record OnlyOffsetsChange (s : List ℕ) (t : Sheet) : Type 0 where
   pub tell : AllTell s (entries t) (senses (meaning t))
   pub tell_again : AllTell (canonical t) (entries (again t)) (senses (meaning t))
 
-pub only_offsets_change : (way : Way) (s : List ℕ) (t : Sheet) → Derives way s t → OnlyOffsetsChange s t
-only_offsets_change way s t d =
-    let a = again_derives way s t d in
+pub only_offsets_change : (m : Modes) (s : List ℕ) (t : Sheet) → Derives m s t → OnlyOffsetsChange s t
+only_offsets_change m s t d =
+    let a = again_derives m s t d in
     record {
       shapes = same_shapes t;
       tell = subst (λ (l : List ℕ). AllTell l (entries t) (senses (meaning t))) d.covers (entries_tell t d.rule);

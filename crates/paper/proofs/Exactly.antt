@@ -1,7 +1,7 @@
 -- A sheet is accepted exactly when the grammar derives it within the limits and its entries fit; the derivation is the only one; everything else is refused.
 -- Demand 2's first half, about the definitions. Assumes nothing.
 use Prim.Native.Nat.{ℕ, ◌≤◌, ◌<◌}
-use mathlib.Core.Path.{◌≡◌, refl, sym, ap, subst, ◌∙◌}
+use mathlib.Core.Path.{◌≡◌, refl, sym, ap, ◌∙◌}
 use mathlib.Core.Bool.{true, ◌&&◌}
 use mathlib.Core.List.{List, []}
 use mathlib.Core.Logic.{◌⊎◌, inl, inr, ⊎_elim, ◌↔◌}
@@ -9,31 +9,32 @@ use native.Mathlib.Omega.{arith}
 use lib.ListN.{length, drop, length-drop}
 use lib.Dec.{leb, ltb}
 use borrow.Author.Tests.{leb-true, le-leb, ltb-true, ltb-false, le-ltb}
-use Rattle.paper.specs.Answer.{accepted}
+use Rattle.paper.specs.Answer.{accepted, refused}
 use Rattle.paper.specs.Found.{Found, found, fault, and_then, place_in}
 use Rattle.paper.specs.Bytes.{sheet_bytes}
 use Rattle.paper.specs.Names.{name_limit}
-use Rattle.paper.specs.Ways.{Way, by_layout, Given, guest, given_bytes, way_of, Valid}
+use Rattle.paper.specs.Modes.{Modes, ValidTable, mode_table, read_table}
 use Rattle.paper.specs.Tree.{Sheet}
 use Rattle.paper.specs.Grammar.{Derives}
 use Rattle.paper.specs.Limits.{sheet_limit, entry_limit, concept_limit, bracket_limit, concept_fits, concept_depth, within_limits}
 use Rattle.paper.specs.Entries.{Entry, entries, filled}
 use Rattle.paper.specs.Reading.{bounds, sheet_tree, room_of, sheet_of, Reading, refusal, reading}
-use Rattle.paper.proofs.Tests.{split, up_to}
+use Rattle.paper.proofs.Tests.{split}
 use Rattle.paper.proofs.Lists.{both, and}
 use Rattle.paper.proofs.Finds.{Tail, tail_place, AtMost, Reads}
 use Rattle.paper.proofs.Scalars.{sheet_made}
-use Rattle.paper.proofs.Before.{Only, bytes_only}
-use Rattle.paper.proofs.Givens.{given_back, given_whole, given_exactly, way_only, RefusedAt, given_refused}
+use Rattle.paper.proofs.Before.{Only, table_only, table_whole, bytes_only}
+use Rattle.paper.proofs.Tables.{table_exactly, table_back, table_invalid, fault_answer}
+use Rattle.paper.proofs.TableSizes.{table_small}
 use Rattle.paper.proofs.Sizes.{entries_size, filled_only}
-use Rattle.paper.proofs.AtEnd.{cut_at_end, HasTable, unlisted_by_table}
+use Rattle.paper.proofs.AtEnd.{cut_at_end}
 use Rattle.paper.proofs.Sheets.{ReadSheet, sheet_reads, sheet_complete}
 
--- ---- a sheet by a way
+-- ---- a sheet under a valid table
 
 -- what is found is derived, within the limits, and its entries fit
-pub record Accepts (way : Way) (room : ℕ) (s : List ℕ) (t : Sheet) : Type 0 where
-  pub derives : Derives way s t
+pub record Accepts (m : Modes) (room : ℕ) (s : List ℕ) (t : Sheet) : Type 0 where
+  pub derives : Derives m s t
   pub limits : within_limits s t ≡ true
   pub fit : length (entries t) ≤ room
 
@@ -46,17 +47,16 @@ pub record SheetOrder (s : List ℕ) (number place : ℕ) : Type 0 where
   pub cut_place : number ≡ 9 → place ≡ length s
 
 -- every other answer is a number from 2 to 11, or 18, at a place of the sheet
-pub record Rejects (way : Way) (s : List ℕ) (n : ℕ) (left : List ℕ) : Type 0 where
+pub record Rejects (s : List ℕ) (n : ℕ) (left : List ℕ) : Type 0 where
   pub least : 2 ≤ n
   pub most : AtMost n
   pub place : place_in s left ≤ length s
   pub short : place_in s left ≤ sheet_limit
   pub order : SheetOrder s n (place_in s left)
-  pub listed : n ≡ 5 → HasTable way
 
-abbrev pub Answers : Way → ℕ → List ℕ → Found Sheet → Type 0
-Answers way room s (found t left) = (left ≡ []) × Accepts way room s t
-Answers way room s (fault n left) = Rejects way s n left
+abbrev pub Answers : Modes → ℕ → List ℕ → Found Sheet → Type 0
+Answers m room s (found t left) = (left ≡ []) × Accepts m room s t
+Answers m room s (fault n left) = Rejects s n left
 
 -- each of the three sorts, at its place
 long_order : (s : List ℕ) → sheet_limit < length s → SheetOrder s 2 (place_in s (drop sheet_limit s))
@@ -91,37 +91,22 @@ tree_order s vs n left l e least end =
       cut_place = λ q. omega (arith, ap length (end q));
     }
 
-pub sheet_answers : (way : Way) (room : ℕ) (s : List ℕ) → Answers way room s (sheet_of way room s)
+pub sheet_answers : (m : Modes) (room : ℕ) (s : List ℕ) → Answers m room s (sheet_of m room s)
 unfolding sheet_of within_limits
-sheet_answers way room s =
+sheet_answers m room s =
     split (ltb sheet_limit (length s))
     (λ e. rw (e, sheet_of) (long (ltb-true sheet_limit (length s) e)))
     (λ e. rw (e, sheet_of) (bytes (ltb-false sheet_limit (length s) e) (sheet_bytes s) refl (bytes_only s)))
   where
-    long : sheet_limit < length s → Rejects way s 2 (drop sheet_limit s)
-    long l =
-        record {
-          least = omega arith;
-          most = inl (omega arith);
-          place = omega arith;
-          short = omega (arith, length-drop sheet_limit s);
-          order = long_order s l;
-          listed = λ q. absurd (omega arith);
-        }
+    long : sheet_limit < length s → Rejects s 2 (drop sheet_limit s)
+    long l = record { least = omega arith; most = inl (omega arith); place = omega arith; short = omega (arith, length-drop sheet_limit s); order = long_order s l }
 
-    tree : length s ≤ sheet_limit → (vs : List ℕ) → sheet_bytes s ≡ found vs [] → (x : Found Sheet) → sheet_tree way bounds concept_limit room s ≡ x
-        → Reads s (λ t left. ReadSheet way bounds concept_limit room s t left) x → Answers way room s x
+    tree : length s ≤ sheet_limit → (vs : List ℕ) → sheet_bytes s ≡ found vs [] → (x : Found Sheet) → sheet_tree m bounds concept_limit room s ≡ x
+        → Reads s (λ t left. ReadSheet m bounds concept_limit room s t left) x → Answers m room s x
     tree l vs e (fault n left) f h =
-        let end : n ≡ 9 → left ≡ [] = λ q. cut_at_end way bounds concept_limit room s left (f ∙ ap (λ (k : ℕ). fault k left) q) in
+        let end : n ≡ 9 → left ≡ [] = λ q. cut_at_end m bounds concept_limit room s left (f ∙ ap (λ (k : ℕ). fault k left) q) in
         let order = tree_order s vs n left l e h.least end in
-        record {
-          least = omega (arith, h.least);
-          most = h.most;
-          place = omega arith;
-          short = omega arith;
-          order = order;
-          listed = λ q. unlisted_by_table way bounds concept_limit room s left (f ∙ ap (λ (k : ℕ). fault k left) q);
-        }
+        record { least = omega (arith, h.least); most = h.most; place = omega arith; short = omega arith; order = order }
     tree l vs e (found t left) f h =
         let r = h.1 in (
           r.over,
@@ -133,29 +118,22 @@ sheet_answers way room s =
         )
 
     bytes : length s ≤ sheet_limit → (x : Found (List ℕ)) → sheet_bytes s ≡ x → Only 3 s x
-        → Answers way room s (and_then x (λ vs left. sheet_tree way bounds concept_limit room s))
+        → Answers m room s (and_then x (λ vs left. sheet_tree m bounds concept_limit room s))
     bytes l (fault n left) e h =
         let order = bytes_order s n left l e h.0 h.1 in
-        record {
-          least = omega (arith, h.0);
-          most = inl (omega (arith, h.0));
-          place = omega arith;
-          short = omega arith;
-          order = order;
-          listed = λ q. absurd (omega (arith, h.0));
-        }
+        record { least = omega (arith, h.0); most = inl (omega (arith, h.0)); place = omega arith; short = omega arith; order = order }
     bytes l (found vs left) e h =
-        tree l vs (e ∙ ap (found vs) (sheet_made s vs left e).empty) (sheet_tree way bounds concept_limit room s) refl (sheet_reads way bounds concept_limit room s)
+        tree l vs (e ∙ ap (found vs) (sheet_made s vs left e).empty) (sheet_tree m bounds concept_limit room s) refl (sheet_reads m bounds concept_limit room s)
 
-pub sheet_accepts : (way : Way) (room : ℕ) (s : List ℕ) (t : Sheet) → Accepts way room s t → sheet_of way room s ≡ found t []
+pub sheet_accepts : (m : Modes) (room : ℕ) (s : List ℕ) (t : Sheet) → Accepts m room s t → sheet_of m room s ≡ found t []
 unfolding sheet_of within_limits
-sheet_accepts way room s t a =
+sheet_accepts m room s t a =
     let d = a.derives in
     let p = both (leb (length s) sheet_limit && concept_fits name_limit bracket_limit t.root) (leb (concept_depth t.root) concept_limit) a.limits in
     let q = both (leb (length s) sheet_limit) (concept_fits name_limit bracket_limit t.root) p.0 in
     rw (le-ltb sheet_limit (length s) (leb-true (length s) sheet_limit q.0), sheet_of, d.bytes)
-    (ap (sheet_tree way bounds concept_limit room) (sym d.covers)
-    ∙ sheet_complete way bounds concept_limit room t
+    (ap (sheet_tree m bounds concept_limit room) (sym d.covers)
+    ∙ sheet_complete m bounds concept_limit room t
     (record {
       rule = d.rule;
       modes = d.modes;
@@ -166,11 +144,11 @@ sheet_accepts way room s t a =
 
 -- ---- accepted exactly
 
-pub record Exactly (given : Given) (s : List ℕ) (lent : ℕ) (es : List Entry) : Type 0 where
-  pub way : Way
+pub record Exactly (table s : List ℕ) (lent : ℕ) (es : List Entry) : Type 0 where
+  pub modes : Modes
   pub tree : Sheet
-  pub valid : Valid given way
-  pub derives : Derives way s tree
+  pub valid : ValidTable table modes
+  pub derives : Derives modes s tree
   pub limits : within_limits s tree ≡ true
   pub are : entries tree ≡ es
   pub fit : length es ≤ room_of lent
@@ -179,52 +157,51 @@ pub record Exactly (given : Given) (s : List ℕ) (lent : ℕ) (es : List Entry)
 abbrev pub accepting : List ℕ → ℕ → List Entry → Reading
 accepting s lent es = record { answer = accepted (length s) (length es); cells = filled lent es }
 
--- the order of all refusals: 1 exactly where a table is given that no modes yield by its rule, at the place that reading it gives; else those of the sheet
-pub record InOrder (given : Given) (s : List ℕ) (number place : ℕ) : Type 0 where
-  pub no_table : (number ≡ 1) ↔ ((way : Way) → Valid given way → ⊥)
-  pub table_place : number ≡ 1 → RefusedAt given place
+-- the order of all refusals: 1 exactly where no modes yield the table by its rule, at the place that reading it gives; else those of the sheet
+pub record InOrder (table s : List ℕ) (number place : ℕ) : Type 0 where
+  pub no_table : (number ≡ 1) ↔ ((m : Modes) → ValidTable table m → ⊥)
+  pub table_place : number ≡ 1 → read_table table ≡ refused 1 place
   pub of_sheet : 2 ≤ number → SheetOrder s number place
 
 -- every other reading refuses: a number from 1 to 11, or 18, at a place of the table for 1 and of the sheet for the others, none past the longest sheet
-pub record Refused (given : Given) (s : List ℕ) (lent : ℕ) : Type 0 where
+pub record Refused (table s : List ℕ) (lent : ℕ) : Type 0 where
   pub number : ℕ
   pub place : ℕ
-  pub is : reading given s lent ≡ refusal lent number place
+  pub is : reading table s lent ≡ refusal lent number place
   pub least : 1 ≤ number
   pub most : AtMost number
-  pub in_table : number ≡ 1 → place ≤ length (given_bytes given)
+  pub in_table : number ≡ 1 → place ≤ length table
   pub in_sheet : 2 ≤ number → place ≤ length s
   pub short : place ≤ sheet_limit
-  pub order : InOrder given s number place
-  pub listed : number ≡ 5 → (way : Way) → Valid given way → HasTable way
+  pub order : InOrder table s number place
 
 -- a reading is one or the other
-pub record Accepted (given : Given) (s : List ℕ) (lent : ℕ) : Type 0 where
+pub record Accepted (table s : List ℕ) (lent : ℕ) : Type 0 where
   pub list : List Entry
-  pub is : reading given s lent ≡ accepting s lent list
-  pub exactly : Exactly given s lent list
+  pub is : reading table s lent ≡ accepting s lent list
+  pub exactly : Exactly table s lent list
 
-pub refused_otherwise : (given : Given) (s : List ℕ) (lent : ℕ) → Accepted given s lent ⊎ Refused given s lent
-unfolding reading
-refused_otherwise given s lent = by_given (way_of given) refl
+pub refused_otherwise : (table s : List ℕ) (lent : ℕ) → Accepted table s lent ⊎ Refused table s lent
+unfolding reading read_table
+refused_otherwise table s lent = by_table (mode_table table) refl (table_only table)
   where
-    by_sheet : (way : Way) → way_of given ≡ found way [] → (x : Found Sheet) → sheet_of way (room_of lent) s ≡ x → Answers way (room_of lent) s x
-        → Accepted given s lent ⊎ Refused given s lent
-    by_sheet way v (found t left) e a =
+    by_sheet : (m : Modes) → mode_table table ≡ found m [] → (x : Found Sheet) → sheet_of m (room_of lent) s ≡ x → Answers m (room_of lent) s x
+        → Accepted table s lent ⊎ Refused table s lent
+    by_sheet m v (found t left) e a =
         inl (record {
           list = entries t;
           is = rw (v, reading, e);
           exactly = record {
-            way = way;
+            modes = m;
             tree = t;
-            valid = (given_exactly given way).0 v;
+            valid = (table_exactly table m).0 v;
             derives = a.1.derives;
             limits = a.1.limits;
             are = refl;
             fit = a.1.fit;
           };
         })
-    by_sheet way v (fault n left) e a =
+    by_sheet m v (fault n left) e a =
         inr (record {
           number = n;
           place = place_in s left;
@@ -235,68 +212,60 @@ refused_otherwise given s lent = by_given (way_of given) refl
           in_sheet = λ q. a.place;
           short = a.short;
           order = record {
-            no_table = (λ q. absurd (omega (arith, a.least)), λ no. absurd (no way ((given_exactly given way).0 v)));
+            no_table = (λ q. absurd (omega (arith, a.least)), λ no. absurd (no m ((table_exactly table m).0 v)));
             table_place = λ q. absurd (omega (arith, a.least));
             of_sheet = λ k. a.order;
           };
-          listed = λ q other u. subst HasTable (way_only given way other ((given_exactly given way).0 v) u) (a.listed q);
         })
 
-    by_given : (x : Found Way) → way_of given ≡ x → Accepted given s lent ⊎ Refused given s lent
-    by_given (found way left) e =
-        by_sheet way (e ∙ ap (found way) (given_whole given way left e)) (sheet_of way (room_of lent) s) refl (sheet_answers way (room_of lent) s)
-    by_given (fault n left) e =
-        let o = given_refused given n left e in
+    by_table : (x : Found Modes) → mode_table table ≡ x → Only 1 table x → Accepted table s lent ⊎ Refused table s lent
+    by_table (found m left) e o = by_sheet m (e ∙ ap (found m) (table_whole table m left e)) (sheet_of m (room_of lent) s) refl (sheet_answers m (room_of lent) s)
+    by_table (fault n left) e o =
         inr (record {
           number = n;
-          place = place_in (given_bytes given) left;
+          place = place_in table left;
           is = rw (e, reading);
-          least = omega (arith, o.one);
-          most = inl (omega (arith, o.one));
-          in_table = λ q. o.inside;
-          in_sheet = λ q. absurd (omega (arith, o.one));
-          short = o.small;
+          least = omega (arith, o.0);
+          most = inl (omega (arith, o.0));
+          in_table = λ q. omega arith;
+          in_sheet = λ q. absurd (omega (arith, o.0));
+          short = let k : (read_table table).place ≡ place_in table left = rw (e, read_table) in omega (arith, (table_small table).0);
           order = record {
-            no_table = (λ q. o.invalid, λ no. o.one);
-            table_place = λ q. o.at;
-            of_sheet = λ k. absurd (omega (arith, o.one));
+            no_table = (λ q. table_invalid table n left e, λ no. o.0);
+            table_place = λ q. fault_answer table n left e;
+            of_sheet = λ k. absurd (omega (arith, o.0));
           };
-          listed = λ q. absurd (omega (arith, o.one));
         })
 
 -- not both: an acceptance has number 0
-pub not_both : (given : Given) (s : List ℕ) (lent : ℕ) (es : List Entry) → reading given s lent ≡ accepting s lent es → Refused given s lent → ⊥
-not_both given s lent es e r = let z : 0 ≡ r.number = ap (λ (x : Reading). x.answer.number) (sym e ∙ r.is) in omega (arith, r.least)
+pub not_both : (table s : List ℕ) (lent : ℕ) (es : List Entry) → reading table s lent ≡ accepting s lent es → Refused table s lent → ⊥
+not_both table s lent es e r = let z : 0 ≡ r.number = ap (λ (x : Reading). x.answer.number) (sym e ∙ r.is) in omega (arith, r.least)
 
--- without a table neither 1 nor 5 is given
-pub spared : (s : List ℕ) (lent : ℕ) (r : Refused guest s lent) → (2 ≤ r.number) × (r.number ≡ 5 → ⊥)
-spared s lent r = (up_to r.number 1 (λ l. absurd (r.order.no_table.0 (omega (arith, l, r.least)) by_layout tt)) (λ l. omega (arith, l)), λ q. r.listed q by_layout tt)
-
--- what is given is valid with some way, a tree derives the sheet by it within the limits, and its entries are these and fit: exactly then
-pub accepted_exactly : (given : Given) (s : List ℕ) (lent : ℕ) (es : List Entry) → (reading given s lent ≡ accepting s lent es) ↔ Exactly given s lent es
+-- the table is valid with some modes, a tree derives the sheet under them within the limits, and its entries are these and fit: exactly then
+pub accepted_exactly : (table s : List ℕ) (lent : ℕ) (es : List Entry) → (reading table s lent ≡ accepting s lent es) ↔ Exactly table s lent es
 unfolding reading
-accepted_exactly given s lent es = (forth, back)
+accepted_exactly table s lent es = (forth, back)
   where
-    forth : reading given s lent ≡ accepting s lent es → Exactly given s lent es
-    forth e = ⊎_elim (λ a. same a) (λ r. absurd (not_both given s lent es e r)) (refused_otherwise given s lent)
+    forth : reading table s lent ≡ accepting s lent es → Exactly table s lent es
+    forth e = ⊎_elim (λ a. same a) (λ r. absurd (not_both table s lent es e r)) (refused_otherwise table s lent)
       where
-        same : Accepted given s lent → Exactly given s lent es
+        same : Accepted table s lent → Exactly table s lent es
         same a =
             let q : accepting s lent a.list ≡ accepting s lent es = sym a.is ∙ e in
             let l : length a.list ≡ length es = ap (λ (x : Reading). x.answer.count) q in
             let f : a.list ≡ es = filled_only lent a.list es l (ap (λ (x : Reading). x.cells) q) in
             let x = a.exactly in
-            record { way = x.way; tree = x.tree; valid = x.valid; derives = x.derives; limits = x.limits; are = x.are ∙ f; fit = omega (arith, x.fit) }
+            record { modes = x.modes; tree = x.tree; valid = x.valid; derives = x.derives; limits = x.limits; are = x.are ∙ f; fit = omega (arith, x.fit) }
 
-    back : Exactly given s lent es → reading given s lent ≡ accepting s lent es
+    back : Exactly table s lent es → reading table s lent ≡ accepting s lent es
     back x =
-        let a : Accepts x.way (room_of lent) s x.tree = record { derives = x.derives; limits = x.limits; fit = omega (arith, x.fit, ap length x.are) } in
-        rw (given_back given x.way x.valid, reading, sheet_accepts x.way (room_of lent) s x.tree a, x.are)
+        let a : Accepts x.modes (room_of lent) s x.tree = record { derives = x.derives; limits = x.limits; fit = omega (arith, x.fit, ap length x.are) } in
+        rw (table_back table x.modes x.valid, reading, sheet_accepts x.modes (room_of lent) s x.tree a, x.are)
 
 -- the numbers of every answer are small
-pub reading_small : (given : Given) (s : List ℕ) (lent : ℕ) → ((reading given s lent).answer.place ≤ sheet_limit) × ((reading given s lent).answer.count ≤ entry_limit)
+pub reading_small : (table s : List ℕ) (lent : ℕ) → ((reading table s lent).answer.place ≤ sheet_limit) × ((reading table s lent).answer.count ≤ entry_limit)
 unfolding within_limits
-reading_small given s lent =
+reading_small table s lent =
     ⊎_elim
     (λ a.
     let x = a.exactly in
@@ -304,4 +273,4 @@ reading_small given s lent =
     let q = both (leb (length s) sheet_limit) (concept_fits name_limit bracket_limit x.tree.root) p.0 in
     rw a.is (leb-true (length s) sheet_limit q.0, omega (arith, x.fit)))
     (λ r. rw r.is (r.short, omega arith))
-    (refused_otherwise given s lent)
+    (refused_otherwise table s lent)

@@ -17,8 +17,6 @@ pub mod Labels
 pub mod Lines
 pub mod Annotations
 pub mod Content
-pub mod Ahead
-pub mod Search
 pub mod ReadValues
 pub mod Faults
 pub mod Markers
@@ -32,16 +30,13 @@ pub mod Sizes
 pub mod Before
 pub mod Tables
 pub mod TableSizes
-pub mod Givens
 pub mod AtEnd
 pub mod Exactly
 pub mod OnlyOne
-pub mod Agree
 pub mod TimesMade
 pub mod TimesToTry
 pub mod Starred
 pub mod RollStarred
-pub mod GuestStarred
 pub mod Beginning
 pub mod Rolls
 pub mod Boundaries
@@ -62,5 +57,4 @@ pub mod DemandThree
 pub mod Shapes
 pub mod Telling
 pub mod DemandTwo
-pub mod BothWays
 pub mod AddedReads

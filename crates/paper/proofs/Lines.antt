@@ -14,8 +14,8 @@ use Rattle.paper.specs.Bytes.{is_name_byte, is_upper, is_letter, is_blank, is_li
 use Rattle.paper.specs.Names.{few_capitals, name_rule, run, past_run}
 use Rattle.paper.specs.Tree.{LineEnd, LF, CRLF, Blank}
 use Rattle.paper.specs.Grammar.{line_end_onto, blank_onto, blanks_onto, tabs_onto, blank_rule}
-use Rattle.paper.specs.Reading.{line_end, line_rest, is_blank_line, blank_turn, blank_lines, is_tab, no_space, tabs_only, misplaced, mark_tabs, name_of, name, due, makes}
-use Rattle.paper.proofs.Tests.{split, true_false, when_true}
+use Rattle.paper.specs.Reading.{line_end, line_rest, is_blank_line, blank_turn, blank_lines, is_tab, no_space, tabs_only, name_of, name, due, makes}
+use Rattle.paper.proofs.Tests.{split, true_false}
 use Rattle.paper.proofs.Lists.{both, and, all_head, front_all, front_behind, front_of, behind_of, front_length, length_in_lem, all_same, same_byte, starts_is}
 use Rattle.paper.proofs.Finds.{Tail, whole, past, tail_then, tail_drop, Fault, Reads, Turns, turns_of}
 use Rattle.paper.proofs.Runs.{Says, many_reads, Shorter, turns_shorter, run_more, run_over}
@@ -167,27 +167,6 @@ only_reads s = go (behind is_blank s) (tail_drop (length_in is_blank s) s)
     go : (r : List ℕ) → Tail s r → Reads s (λ tabs mark. mark ≡ behind is_tab s) (no_space s r)
     go [] t = fault_end s
     go (b ∷ l) t = no_space_lem s b l t
-
--- the tabs of the line of a marker, where they will do
-pub record ReadTabs (will : ℕ → Bool) (s : List ℕ) (tabs : ℕ) (mark : List ℕ) : Type 0 where
-  pub are : tabs ≡ length_in is_tab s
-  pub covers : s ≡ tabs_onto tabs mark
-  pub stands : will tabs ≡ true
-
-pub mark_reads : (will : ℕ → Bool) (s : List ℕ) → Reads s (λ tabs mark. ReadTabs will s tabs mark) (mark_tabs will s)
-unfolding misplaced
-mark_reads will s =
-    split (will (length_in is_tab s))
-    (λ e. rw (e, Reads) (tail_drop (length_in is_tab s) s, record { are = refl; covers = tabs_covers s; stands = e }))
-    (λ e. rw (e, Reads) (go (behind is_tab s) (tail_drop (length_in is_tab s) s)))
-  where
-    go : (r : List ℕ) → Tail s r → Reads s (λ tabs mark. ReadTabs will s tabs mark) (misplaced r)
-    go [] t = fault_end s
-    go (b ∷ l) t = record { least = omega arith; most = inl (omega arith); tail = t }
-
-pub mark_complete : (will : ℕ → Bool) (n : ℕ) (next : List ℕ) → starts_in is_tab next ≡ false → will n ≡ true → mark_tabs will (tabs_onto n next) ≡ found n next
-mark_complete will n next e w =
-    when_true (will (length_in is_tab (tabs_onto n next))) _ _ (ap will (tabs_length n next e) ∙ w) ∙ cc (tabs_length n next e, tabs_behind n next e)
 
 -- tabs, and then a byte that is neither blank nor a line end
 module _ (n b : ℕ) (l : List ℕ) (e : is_blank b ≡ false) where

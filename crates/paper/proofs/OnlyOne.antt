@@ -8,7 +8,7 @@ use lib.ListN.{length}
 use borrow.Author.Tests.{le-leb}
 use Rattle.paper.specs.Found.{found}
 use Rattle.paper.specs.Bytes.{all}
-use Rattle.paper.specs.Ways.{Way}
+use Rattle.paper.specs.Modes.{Modes}
 use Rattle.paper.specs.Values.{bracket_depth}
 use Rattle.paper.specs.Tree.{Trait, Marker, Concept, self_closed, children, content, Body, done, blank_line, element, Sheet}
 use Rattle.paper.specs.Grammar.{Derives}
@@ -63,14 +63,14 @@ mutual
 
 -- ---- reading by limits that two trees keep finds each of them
 
-pub only_one : (way : Way) (s : List ℕ) (t u : Sheet) → Derives way s t → Derives way s u → t ≡ u
-only_one way s t u d e =
+pub only_one : (m : Modes) (s : List ℕ) (t u : Sheet) → Derives m s t → Derives m s u → t ≡ u
+only_one m s t u d e =
     let n = max (concept_most t.root) (concept_most u.root) in
     let deeper = max (concept_depth t.root) (concept_depth u.root) in
     let room = max (sheet_size t) (sheet_size u) in
     let by : Bounds = record { names = n; brackets = n } in
     let a =
-    sheet_complete way by deeper room t (record {
+    sheet_complete m by deeper room t (record {
       rule = d.rule;
       modes = d.modes;
       within = concept_fits_lem n t.root (omega arith);
@@ -78,12 +78,12 @@ only_one way s t u d e =
       fits = omega arith;
     }) in
     let b =
-    sheet_complete way by deeper room u (record {
+    sheet_complete m by deeper room u (record {
       rule = e.rule;
       modes = e.modes;
       within = concept_fits_lem n u.root (omega arith);
       depth = omega arith;
       fits = omega arith;
     }) in
-    let same : found t [] ≡ found u [] = sym a ∙ ap (sheet_tree way by deeper room) (d.covers ∙ sym e.covers) ∙ b in
+    let same : found t [] ≡ found u [] = sym a ∙ ap (sheet_tree m by deeper room) (d.covers ∙ sym e.covers) ∙ b in
     cc

@@ -1,6 +1,6 @@
 -- Less room changes an answer only to 11: what a smaller room finds is what a larger one finds, or a fault 11. Assumes nothing.
 use Prim.Native.Nat.{ℕ, zero, suc, ◌+◌, ◌-◌, ◌≤◌}
-use mathlib.Core.Path.{◌≡◌, refl, sym, ap, subst, ◌∙◌}
+use mathlib.Core.Path.{◌≡◌, refl, ap, subst}
 use mathlib.Core.Bool.{Bool, true, false}
 use mathlib.Core.List.{List, [], ◌∷◌, ◌++◌, map}
 use mathlib.Core.Logic.{◌⊎◌, inl, inr, ⊎_elim}
@@ -8,18 +8,18 @@ use native.Mathlib.Omega.{arith}
 use lib.ListN.{length, drop, get_or}
 use lib.Dec.{leb, ltb}
 use borrow.Author.Tests.{leb-true, le-leb}
+use Rattle.paper.specs.declared.Mode.TheVariants.{Children, Absent}
 use Rattle.paper.specs.Found.{Found, found, fault, and_then, Turn, more, over, stop, turn_of, go_on, many, taking}
 use Rattle.paper.specs.Bytes.{byte, bytes, is_white, length_in, front, behind, elem, starts_with, sheet_bytes}
-use Rattle.paper.specs.Ways.{Way, tabs_do}
+use Rattle.paper.specs.Modes.{Modes}
 use Rattle.paper.specs.Tree.{Trait, Marker, Ending, block, self, Concept, done, before}
-use Rattle.paper.specs.Grammar.{unlisted}
+use Rattle.paper.specs.Grammar.{in_mode}
 use Rattle.paper.specs.Limits.{sheet_limit, concept_limit}
 use Rattle.paper.specs.Entries.{item_entries, trait_size, body_size}
 use Rattle.paper.specs.ReadingValues.{value_of}
 use Rattle.paper.specs.Reading.{Bounds, bounds, blank_lines, is_blank_line, is_tab, tabs_only, line_rest, name, due, makes, text_of, annotation, annotation_turn}
 use Rattle.paper.specs.Reading.{annotations, enters, Earlier, with_trait, trait_name, trait, trait_due, trait_turn, no_trait, Opened, opened, admitted, head, opening}
-use Rattle.paper.specs.Reading.{any_tabs, mark_tabs, content_of, holds_children, room_in, inside_by, annotated_by, piece_by, closes_body, concept, children_of}
-use Rattle.paper.specs.Reading.{body, concept_of, sheet_tree, sheet_of}
+use Rattle.paper.specs.Reading.{content_of, room_in, inside_by, annotated_by, piece_by, is_closing, concept, children_of, body, concept_of, sheet_tree, sheet_of}
 use Rattle.paper.proofs.Tests.{split}
 
 -- a reading that is out of room
@@ -57,13 +57,6 @@ within_if : {A : Type 0} (test : Bool) (a b c d : Found A) → Within a b → Wi
     → Within {A = A} (elim test [ true ↦ a | false ↦ c ]) (elim test [ true ↦ b | false ↦ d ])
 within_if true a b c d w v = w
 within_if false a b c d w v = v
-
--- two readings that go on alike behind what a larger room finds
-pub then_known : {A B : Type 0} (x y : Found A) (f g : A → List ℕ → Found B) (a : A) (left : List ℕ) → Within x y → y ≡ found a left → f a left ≡ g a left
-    → and_then x f ≡ and_then x g
-then_known {A} {B} x y f g a left w k e =
-    ⊎_elim (λ q. subst (λ (z : Found A). and_then z f ≡ and_then z g) (sym (q ∙ k)) e)
-    (λ q. subst (λ (z : Found A). and_then z f ≡ and_then z g) (sym q.is) refl) w
 
 -- ---- runs
 
@@ -109,22 +102,18 @@ within_makes zero wide at a left l = inr (record { left = at; is = refl })
 within_makes (suc room) zero at a left l = absurd (omega arith)
 within_makes (suc room) (suc wide) at a left l = inl refl
 
-pub within_annotation : (room wide tabs : ℕ) (s : List ℕ) → room ≤ wide → Within (annotation room tabs s) (annotation wide tabs s)
-unfolding annotation
-within_annotation room wide tabs s l = within_on (text_of s) _ _ (λ t left. within_map _ _ _ (within_makes room wide s t left l))
-
-pub within_annotations : (will : ℕ → Bool) (room wide : ℕ) (s : List ℕ) → room ≤ wide → Within (annotations will room s) (annotations will wide s)
+within_annotations : (room wide : ℕ) (s : List ℕ) → room ≤ wide → Within (annotations room s) (annotations wide s)
 unfolding annotation annotation_turn
-within_annotations will room wide s l =
-    within_many (taking (λ a. 1)) (annotation_turn will) (λ room wide. room ≤ wide) (λ room wide a l. omega arith) turn (suc (length s)) room wide s l
+within_annotations room wide s l =
+    within_many (taking (λ a. 1)) annotation_turn (λ room wide. room ≤ wide) (λ room wide a l. omega arith) turn (suc (length s)) room wide s l
   where
-    turn : (room wide : ℕ) (s : List ℕ) → room ≤ wide → Turns (annotation_turn will room s) (annotation_turn will wide s)
+    one : (room wide tabs : ℕ) (s : List ℕ) → room ≤ wide → Within (annotation room tabs s) (annotation wide tabs s)
+    one room wide tabs s l = within_on (text_of s) _ _ (λ t left. within_map _ _ _ (within_makes room wide s t left l))
+
+    turn : (room wide : ℕ) (s : List ℕ) → room ≤ wide → Turns (annotation_turn room s) (annotation_turn wide s)
     turn room wide s l =
         split (starts_with (bytes "[") (behind is_tab s))
-        (λ e. split (will (length_in is_tab s))
-        (λ f. rw (e, annotation_turn, f) (turns_of _ _ (within_annotation room wide (length_in is_tab s) (drop 1 (behind is_tab s)) l)))
-        (λ f. rw (e, annotation_turn, f) (inl refl)))
-        (λ e. rw (e, annotation_turn) (inl refl))
+        (λ e. rw (e, annotation_turn) (turns_of _ _ (one room wide (length_in is_tab s) (drop 1 (behind is_tab s)) l))) (λ e. rw (e, annotation_turn) (inl refl))
 
 within_enters : (room wide : ℕ) (at valued : List ℕ) (t : Trait) (left : List ℕ) → room ≤ wide
     → Within (enters room at valued t left) (enters wide at valued t left)
@@ -164,80 +153,77 @@ within_opened by room wide w s l =
 
 -- ---- Concepts
 
-pub within_opening : (way : Way) (by : Bounds) (deeper room wide : ℕ) (s : List ℕ) → room ≤ wide → Within (opening way by deeper room s) (opening way by deeper wide s)
+within_opening : (m : Modes) (by : Bounds) (deeper room wide : ℕ) (s : List ℕ) → room ≤ wide → Within (opening m by deeper room s) (opening m by deeper wide s)
 unfolding admitted
-within_opening way by deeper room wide s l =
+within_opening m by deeper room wide s l =
     within_on (head by s) _ _
     (λ w left. within_then _ _ _ _ (name_in deeper w left) (λ v start. within_opened by (room - 1) (wide - 1) v start (omega arith)))
   where
-    name_in : (deeper : ℕ) (w left : List ℕ) → Within (admitted way deeper room s w left) (admitted way deeper wide s w left)
+    name_in : (deeper : ℕ) (w left : List ℕ) → Within (admitted m deeper room s w left) (admitted m deeper wide s w left)
     name_in zero w left = inl refl
-    name_in (suc deeper) w left = within_if (unlisted way w) _ _ _ _ (inl refl) (within_makes room wide (drop 1 s) w left l)
+    name_in (suc deeper) w left = within_if (in_mode Absent m w) _ _ _ _ (inl refl) (within_makes room wide (drop 1 s) w left l)
 
 within_content : (tabs room wide : ℕ) (k : Marker) (s : List ℕ) → room ≤ wide → Within (content_of tabs room k s) (content_of tabs wide k s)
 unfolding content_of
 within_content tabs room wide k s l = within_on (line_rest s) _ _ (λ rest start. within_map _ _ _ (within_makes room wide start rest start l))
 
-within_inside : (way : Way) (inner : ℕ → ℕ → ℕ → Marker → List ℕ → Found Concept) (deeper room wide tabs : ℕ) (o : Opened) (left : List ℕ) → room ≤ wide
-    → ((deeper room wide tabs : ℕ) (k : Marker) (s : List ℕ) → room ≤ wide → Within (inner deeper room tabs k s) (inner deeper wide tabs k s))
-    → Within (inside_by way inner deeper room tabs o left) (inside_by way inner deeper wide tabs o left)
-within_inside way inner deeper room wide tabs o left l h = ends o.ends
+within_inside : (m : Modes) (inner : ℕ → ℕ → Marker → List ℕ → Found Concept) (deeper room wide tabs : ℕ) (o : Opened) (left : List ℕ) → room ≤ wide
+    → ((deeper room wide : ℕ) (k : Marker) (s : List ℕ) → room ≤ wide → Within (inner deeper room k s) (inner deeper wide k s))
+    → Within (inside_by m inner deeper room tabs o left) (inside_by m inner deeper wide tabs o left)
+within_inside m inner deeper room wide tabs o left l h = ends o.ends
   where
     k : Marker
     k = o.marker
 
-    ends : (e : Ending) → Within (inside_by way inner deeper room tabs (record { marker = k; ends = e }) left)
-        (inside_by way inner deeper wide tabs (record { marker = k; ends = e }) left)
+    ends : (e : Ending) → Within (inside_by m inner deeper room tabs (record { marker = k; ends = e }) left)
+        (inside_by m inner deeper wide tabs (record { marker = k; ends = e }) left)
     ends self = inl refl
     ends block =
-        within_if (holds_children way tabs k.name left) _ _ _ _ (h (deeper - 1) (room_in room o) (room_in wide o) tabs k left (omega arith))
+        within_if (in_mode Children m k.name) _ _ _ _ (h (deeper - 1) (room_in room o) (room_in wide o) k left (omega arith))
         (within_content tabs (room_in room o) (room_in wide o) k left (omega arith))
 
-module _ (will : ℕ → Bool) (read : ℕ → ℕ → List ℕ → Found Concept) (h : (room wide tabs : ℕ) (s : List ℕ) → room ≤ wide → Within (read room tabs s) (read wide tabs s))
+module _ (read : ℕ → ℕ → List ℕ → Found Concept) (h : (room wide tabs : ℕ) (s : List ℕ) → room ≤ wide → Within (read room tabs s) (read wide tabs s))
     (room wide : ℕ) (s : List ℕ) (l : room ≤ wide) where
-  within_annotated : Within (annotated_by will read room s) (annotated_by will read wide s)
+  within_annotated : Within (annotated_by read room s) (annotated_by read wide s)
   within_annotated =
-      within_then _ _ _ _ (within_annotations will room wide s l)
-      (λ notes line. within_on (mark_tabs will line) _ _
-      (λ tabs mark. within_map _ _ _ (h (room - length notes) (wide - length notes) tabs mark (omega arith))))
+      within_then _ _ _ _ (within_annotations room wide s l)
+      (λ notes line. within_map _ _ _ (h (room - length notes) (wide - length notes) (length_in is_tab line) (behind is_tab line) (omega arith)))
 
-  pub within_piece : Within (piece_by will read room s) (piece_by will read wide s)
+  within_piece : Within (piece_by read room s) (piece_by read wide s)
   within_piece = within_if (is_blank_line s) _ _ _ _ (inl refl) (within_on (tabs_only s) _ _ (λ tabs mark. within_map _ _ _ within_annotated))
 
 mutual
   unfolding concept
 
-  pub within_concept : (way : Way) (by : Bounds) (fuel deeper room wide tabs : ℕ) (s : List ℕ) → room ≤ wide
-      → Within (concept way by fuel deeper room tabs s) (concept way by fuel deeper wide tabs s)
-  within_concept way by zero deeper room wide tabs s l = inl refl
-  within_concept way by (suc fuel) deeper room wide tabs s l =
-      within_then _ _ _ _ (within_opening way by deeper room wide s l)
-      (λ o left. within_inside way (children_of way by fuel) deeper room wide tabs o left l
-      (λ deeper room wide tabs k s l. within_children way by fuel deeper room wide tabs k s l))
+  within_concept : (m : Modes) (by : Bounds) (fuel deeper room wide tabs : ℕ) (s : List ℕ) → room ≤ wide
+      → Within (concept m by fuel deeper room tabs s) (concept m by fuel deeper wide tabs s)
+  within_concept m by zero deeper room wide tabs s l = inl refl
+  within_concept m by (suc fuel) deeper room wide tabs s l =
+      within_then _ _ _ _ (within_opening m by deeper room wide s l)
+      (λ o left. within_inside m (children_of m by fuel) deeper room wide tabs o left l
+      (λ deeper room wide k s l. within_children m by fuel deeper room wide k s l))
 
-  within_children : (way : Way) (by : Bounds) (fuel deeper room wide outer : ℕ) (k : Marker) (s : List ℕ) → room ≤ wide
-      → Within (children_of way by fuel deeper room outer k s) (children_of way by fuel deeper wide outer k s)
-  within_children way by zero deeper room wide outer k s l = inl refl
-  within_children way by (suc fuel) deeper room wide outer k s l =
+  within_children : (m : Modes) (by : Bounds) (fuel deeper room wide : ℕ) (k : Marker) (s : List ℕ) → room ≤ wide
+      → Within (children_of m by fuel deeper room k s) (children_of m by fuel deeper wide k s)
+  within_children m by zero deeper room wide k s l = inl refl
+  within_children m by (suc fuel) deeper room wide k s l =
       within_on (line_rest s) _ _
-      (λ rest start. within_map _ _ _ (within_body way by fuel deeper room wide outer start l))
+      (λ rest start. within_map _ _ _ (within_body m by fuel deeper room wide start l))
 
-  within_body : (way : Way) (by : Bounds) (fuel deeper room wide outer : ℕ) (s : List ℕ) → room ≤ wide
-      → Within (body way by fuel deeper room outer s) (body way by fuel deeper wide outer s)
-  within_body way by zero deeper room wide outer s l = inl refl
-  within_body way by (suc fuel) deeper room wide outer s l =
-      within_if (closes_body way outer s) _ _ _ _ (inl refl)
-      (within_then _ _ _ _
-      (within_piece (tabs_do way (suc outer)) (concept way by fuel deeper) (λ room wide tabs s l. within_concept way by fuel deeper room wide tabs s l) room wide s l)
-      (λ p left. within_map _ _ _
-      (within_body way by fuel deeper (room - body_size (before p done)) (wide - body_size (before p done)) outer left (omega arith))))
+  within_body : (m : Modes) (by : Bounds) (fuel deeper room wide : ℕ) (s : List ℕ) → room ≤ wide
+      → Within (body m by fuel deeper room s) (body m by fuel deeper wide s)
+  within_body m by zero deeper room wide s l = inl refl
+  within_body m by (suc fuel) deeper room wide s l =
+      within_if (is_closing s) _ _ _ _ (inl refl)
+      (within_then _ _ _ _ (within_piece (concept m by fuel deeper) (λ room wide tabs s l. within_concept m by fuel deeper room wide tabs s l) room wide s l)
+      (λ p left. within_map _ _ _ (within_body m by fuel deeper (room - body_size (before p done)) (wide - body_size (before p done)) left (omega arith))))
 
 -- ---- a whole sheet
 
-pub less_room : (way : Way) (room wide : ℕ) (s : List ℕ) → room ≤ wide → Within (sheet_of way room s) (sheet_of way wide s)
+pub less_room : (m : Modes) (room wide : ℕ) (s : List ℕ) → room ≤ wide → Within (sheet_of m room s) (sheet_of m wide s)
 unfolding sheet_of sheet_tree
-less_room way room wide s l =
+less_room m room wide s l =
     within_if (ltb sheet_limit (length s)) _ _ _ _ (inl refl)
     (within_on (sheet_bytes s) _ _ (λ vs left. within_on (blank_lines s) _ _ (λ front first. within_on (tabs_only first) _ _ (λ tabs mark. within_map _ _ _
-    (within_annotated any_tabs (concept_of way bounds concept_limit)
-    (λ room wide tabs s l. within_concept way bounds (length s + 1) concept_limit room wide tabs s l) room wide first l)))))
+    (within_annotated (concept_of m bounds concept_limit)
+    (λ room wide tabs s l. within_concept m bounds (length s + 1) concept_limit room wide tabs s l) room wide first l)))))

@@ -8,24 +8,22 @@ use native.Mathlib.Omega.{arith}
 use lib.ListN.{length}
 use Rattle.paper.specs.Found.{found}
 use Rattle.paper.specs.Bytes.{is_blank, is_line_end, all, starts_in, length_in, front, behind}
-use Rattle.paper.specs.Ways.{Way}
+use Rattle.paper.specs.Modes.{Modes}
 use Rattle.paper.specs.Tree.{Blank, Sheet}
 use Rattle.paper.specs.Grammar.{blanks_onto, tabs_onto, annotations_onto, concept_onto, sheet_onto, blank_rule, annotation_rule, concept_rule, sheet_rule, sheet_modes}
 use Rattle.paper.specs.Limits.{concept_fits, concept_depth}
 use Rattle.paper.specs.Entries.{sheet_size}
-use Rattle.paper.specs.Reading.{Bounds, blank_lines, is_tab, tabs_only, any_tabs, concept_of, annotated_of, at_line_end, last_blanks, sheet_tree}
+use Rattle.paper.specs.Reading.{Bounds, blank_lines, is_tab, tabs_only, concept_of, annotated_of, at_line_end, last_blanks, sheet_tree}
 use Rattle.paper.proofs.Lists.{both, and, all_head, front_all, front_behind, front_of, behind_of}
 use Rattle.paper.proofs.Finds.{tail_drop, Reads, reads_on, reads_in}
 use Rattle.paper.proofs.Lines.{ReadBlanks, blanks_reads, blanks_complete, only_reads}
-use Rattle.paper.proofs.Annotations.{any_stand}
-use Rattle.paper.proofs.Ahead.{blank_ends}
-use Rattle.paper.proofs.Concepts.{ReadAnnotated, annotated_reads, annotated_complete, concept_complete, begins_element, element_parts}
+use Rattle.paper.proofs.Concepts.{ReadAnnotated, annotated_reads, annotated_complete, concept_complete, begins_element, blank_ends, element_parts}
 
-pub record ReadSheet (way : Way) (by : Bounds) (deeper room : ℕ) (s : List ℕ) (t : Sheet) (left : List ℕ) : Type 0 where
+pub record ReadSheet (m : Modes) (by : Bounds) (deeper room : ℕ) (s : List ℕ) (t : Sheet) (left : List ℕ) : Type 0 where
   pub over : left ≡ []
   pub covers : s ≡ sheet_onto t []
   pub rule : sheet_rule t ≡ true
-  pub modes : sheet_modes way t ≡ true
+  pub modes : sheet_modes m t ≡ true
   pub within : concept_fits by.names by.brackets t.root ≡ true
   pub depth : concept_depth t.root ≤ deeper
   pub fits : sheet_size t ≤ room
@@ -43,14 +41,14 @@ last_complete : (last : List ℕ) → all is_blank last ≡ true → last_blanks
 unfolding last_blanks starts_in
 last_complete last r = rw (behind_of is_blank last [] r refl, last_blanks, front_of is_blank last [] r refl)
 
-pub sheet_reads : (way : Way) (by : Bounds) (deeper room : ℕ) (s : List ℕ)
-    → Reads s (λ t left. ReadSheet way by deeper room s t left) (sheet_tree way by deeper room s)
+pub sheet_reads : (m : Modes) (by : Bounds) (deeper room : ℕ) (s : List ℕ)
+    → Reads s (λ t left. ReadSheet m by deeper room s t left) (sheet_tree m by deeper room s)
 unfolding sheet_tree sheet_onto sheet_rule sheet_size
-sheet_reads way by deeper room s =
+sheet_reads m by deeper room s =
     reads_on s (λ bs left. ReadBlanks s bs left) _ _ (blank_lines s) (blanks_reads s)
     (λ before first t b. reads_on s (λ tabs mark. mark ≡ behind is_tab first) _ _ (tabs_only first) (reads_in t _ (tabs_only first) (only_reads first))
-    (λ tabs mark u l. reads_on s (λ a left. ReadAnnotated way by any_tabs deeper room first a left) _ _ (annotated_of way by any_tabs deeper room first)
-    (reads_in t _ (annotated_of way by any_tabs deeper room first) (annotated_reads way by any_tabs deeper room first))
+    (λ tabs mark u l. reads_on s (λ a left. ReadAnnotated m by deeper room first a left) _ _ (annotated_of m by deeper room first)
+    (reads_in t _ (annotated_of m by deeper room first) (annotated_reads m by deeper room first))
     (λ a left u k. reads_on s (λ bs end. ReadBlanks left bs end) _ _ (blank_lines left) (reads_in u _ (blank_lines left) (blanks_reads left))
     (λ after rest u q. reads_on s (λ last end. (end ≡ []) × (rest ≡ last ++ []) × (all is_blank last ≡ true)) _ _ (last_blanks (front is_blank rest) (behind is_blank rest))
     (reads_in u _ (last_blanks (front is_blank rest) (behind is_blank rest)) (last_reads rest))
@@ -70,23 +68,23 @@ sheet_reads way by deeper room s =
     ))))))
 
 -- behind the root stands the end of its line
-pub ends_root : (after : List Blank) (last : List ℕ) → all blank_rule after ≡ true → all is_blank last ≡ true
+ends_root : (after : List Blank) (last : List ℕ) → all blank_rule after ≡ true → all is_blank last ≡ true
     → at_line_end (behind is_blank (blanks_onto after (last ++ []))) ≡ true
 unfolding blanks_onto at_line_end starts_in
 ends_root [] last r e = ap at_line_end (behind_of is_blank last [] e refl)
 ends_root (b ∷ after) last r e = blank_ends b (blanks_onto after (last ++ [])) (all_head blank_rule b after r).0
 
-pub record Keeps (way : Way) (by : Bounds) (deeper room : ℕ) (t : Sheet) : Type 0 where
+pub record Keeps (m : Modes) (by : Bounds) (deeper room : ℕ) (t : Sheet) : Type 0 where
   pub rule : sheet_rule t ≡ true
-  pub modes : sheet_modes way t ≡ true
+  pub modes : sheet_modes m t ≡ true
   pub within : concept_fits by.names by.brackets t.root ≡ true
   pub depth : concept_depth t.root ≤ deeper
   pub fits : sheet_size t ≤ room
 
-pub sheet_complete : (way : Way) (by : Bounds) (deeper room : ℕ) (t : Sheet) → Keeps way by deeper room t
-    → sheet_tree way by deeper room (sheet_onto t []) ≡ found t []
+pub sheet_complete : (m : Modes) (by : Bounds) (deeper room : ℕ) (t : Sheet) → Keeps m by deeper room t
+    → sheet_tree m by deeper room (sheet_onto t []) ≡ found t []
 unfolding sheet_tree sheet_onto sheet_rule sheet_size starts_in
-sheet_complete way by deeper room t k =
+sheet_complete m by deeper room t k =
     let p = both _ (all is_blank t.last) k.rule in
     let q = element_parts (all blank_rule t.before) (all annotation_rule t.annotations) (concept_rule t.root) (all blank_rule t.after) p.0 in
     let end = t.last ++ [] in
@@ -97,9 +95,8 @@ sheet_complete way by deeper room t k =
     rw (
       blanks_complete t.before first q.0 g.filled,
       g.only,
-      annotated_complete any_tabs (concept_of way by deeper) room t.annotations t.tabs t.root left q.1 q.2 (and (any_stand t.annotations) refl)
-          (omega (arith, k.fits))
-          (concept_complete way by t.root (length s + 1) deeper (room - length t.annotations) t.tabs left q.2 k.modes k.within k.depth
+      annotated_complete (concept_of m by deeper) room t.annotations t.tabs t.root left q.1 q.2 (omega (arith, k.fits))
+          (concept_complete m by t.root (length s + 1) deeper (room - length t.annotations) t.tabs left q.2 k.modes k.within k.depth
           (omega (arith, k.fits)) (ends_root t.after t.last q.3 p.1) (omega arith)),
       blanks_complete t.after end q.3 (ap (starts_in is_line_end) (behind_of is_blank t.last [] p.1 refl)),
       last_complete t.last p.1,

@@ -12,7 +12,6 @@ use Rattle.paper.specs.Found.{found, fault, many}
 use Rattle.paper.specs.Bytes
 use Rattle.paper.specs.Names
 use Rattle.paper.specs.Modes
-use Rattle.paper.specs.Ways.{Given, tabled, way_of}
 use Rattle.paper.specs.Times
 use Rattle.paper.specs.Values
 use Rattle.paper.specs.Grammar
@@ -20,7 +19,7 @@ use Rattle.paper.specs.Entries
 use Rattle.paper.specs.ReadingValues
 use Rattle.paper.specs.Reading
 use Rattle.paper.specs.Canonical
-use Rattle.paper.proofs.Givens.{given_back}
+use Rattle.paper.proofs.Tables.{table_back}
 use Rattle.paper.proofs.Exactly.{Accepts, Exactly, Accepted, refused_otherwise, accepted_exactly, sheet_accepts}
 
 -- Lab in children mode, Steps in content mode
@@ -44,18 +43,18 @@ pub record Case : Type 0 where
   pub entries : List ℕ
   pub form : String
 
-unfoldable pub form_of : Given → ℕ → List ℕ → List ℕ
-form_of given lent s =
-    elim (way_of given) [
+unfoldable pub form_of : ℕ → List ℕ → List ℕ
+form_of lent s =
+    elim (Modes.mode_table table) [
       | fault n left ↦ []
-      | found way left ↦
-          elim (Reading.sheet_of way (Reading.room_of lent) s) [ fault n left ↦ [] | found t left ↦ Canonical.canonical t ]
+      | found m left ↦
+          elim (Reading.sheet_of m (Reading.room_of lent) s) [ fault n left ↦ [] | found t left ↦ Canonical.canonical t ]
     ]
 
-unfoldable pub seen : Given → Case → Seen
-seen given k =
+unfoldable pub seen : Case → Seen
+seen k =
     let s = utf8 k.sheet in
-    record { answer = (Reading.reading given s k.lent).answer; cells = (Reading.reading given s k.lent).cells; form = form_of given k.lent s }
+    record { answer = (Reading.reading table s k.lent).answer; cells = (Reading.reading table s k.lent).cells; form = form_of k.lent s }
 
 abbrev pub due : Case → Seen
 due k = record { answer = k.answer; cells = k.entries ++ replicate (k.lent - length k.entries) 0; form = utf8 k.form }
@@ -167,7 +166,7 @@ cases =
     }
     ∷ []
 
-pub starred : map (seen (tabled table)) cases ≡ map due cases
+pub starred : map seen cases ≡ map due cases
 unfolding table cases form_of seen many
     Bytes.is_upper Bytes.is_lower Bytes.is_digit Bytes.is_letter Bytes.is_name_byte Bytes.is_hex Bytes.is_blank
     Bytes.is_line_end Bytes.is_white Bytes.all Bytes.starts_in Bytes.elem Bytes.length_in Bytes.same Bytes.starts_with
@@ -197,7 +196,7 @@ unfolding table cases form_of seen many
     ReadingValues.leaf_of ReadingValues.opens_with ReadingValues.key_word ReadingValues.key_of ReadingValues.colon ReadingValues.label_of
     ReadingValues.value
     Reading.line_end Reading.blank_turn Reading.no_space Reading.name_of Reading.due Reading.makes Reading.text_of
-    Reading.annotation Reading.annotation_turn Reading.misplaced Reading.enters Reading.fresh Reading.trait Reading.trait_due Reading.trait_turn
+    Reading.annotation Reading.annotation_turn Reading.enters Reading.fresh Reading.trait Reading.trait_due Reading.trait_turn
     Reading.ending Reading.opened Reading.admitted Reading.closing Reading.at_line_end Reading.closes_line
     Reading.text_line Reading.other_line Reading.line_turn Reading.content_of Reading.concept Reading.last_blanks
     Reading.sheet_tree Reading.sheet_of Reading.reading
@@ -210,30 +209,30 @@ starred = refl
 -- ---- the same about the grammar itself
 
 -- an accepted case: a tree derives the sheet within the limits and the room; its entries, laid into the lent cells, and its form are those due
-pub record Derived (given : Given) (k : Case) : Type 0 where
+pub record Derived (k : Case) : Type 0 where
   pub list : List Entries.Entry
-  pub exactly : Exactly given (utf8 k.sheet) k.lent list
+  pub exactly : Exactly table (utf8 k.sheet) k.lent list
   pub count : length list ≡ k.answer.count
   pub cells : Entries.filled k.lent list ≡ (due k).cells
   pub form : Canonical.canonical exactly.tree ≡ utf8 k.form
 
 -- a refused case: no tree does
-abbrev pub Underived : Given → Case → Type 0
-Underived given k = (es : List Entries.Entry) → Exactly given (utf8 k.sheet) k.lent es → ⊥
+abbrev pub Underived : Case → Type 0
+Underived k = (es : List Entries.Entry) → Exactly table (utf8 k.sheet) k.lent es → ⊥
 
 -- one or the other, by the number due
-abbrev pub Judged : Given → ℕ → Case → Type 0
-Judged given zero k = Derived given k
-Judged given (suc n) k = Underived given k
+abbrev pub Judged : ℕ → Case → Type 0
+Judged zero k = Derived k
+Judged (suc n) k = Underived k
 
-abbrev pub Stands : Given → Case → Type 0
-Stands given k = Judged given k.answer.number k
+abbrev pub Stands : Case → Type 0
+Stands k = Judged k.answer.number k
 
 abbrev pub Each : (Case → Type 0) → List Case → Type 0
 Each P [] = Unit {0}
 Each P (k ∷ ks) = P k × Each P ks
 
-pub each_of : (f g : Case → Seen) (P : Case → Type 0) → ((k : Case) → f k ≡ g k → P k) → (ks : List Case) → map f ks ≡ map g ks → Each P ks
+each_of : (f g : Case → Seen) (P : Case → Type 0) → ((k : Case) → f k ≡ g k → P k) → (ks : List Case) → map f ks ≡ map g ks → Each P ks
 each_of f g P h [] e = tt
 each_of f g P h (k ∷ ks) e =
     let first : f k ≡ g k = cc in
@@ -241,42 +240,42 @@ each_of f g P h (k ∷ ks) e =
     (h k first, each_of f g P h ks others)
 
 -- the form of what is accepted is that of its tree
-form_is : (given : Given) (k : Case) (es : List Entries.Entry) (x : Exactly given (utf8 k.sheet) k.lent es) → (seen given k).form ≡ Canonical.canonical x.tree
+form_is : (k : Case) (es : List Entries.Entry) (x : Exactly table (utf8 k.sheet) k.lent es) → (seen k).form ≡ Canonical.canonical x.tree
 unfolding seen form_of
-form_is given k es x =
+form_is k es x =
     let room = Reading.room_of k.lent in
     let s = utf8 k.sheet in
-    let a : Accepts x.way room s x.tree = record { derives = x.derives; limits = x.limits; fit = omega (arith, x.fit, ap length x.are) } in
-    rw (given_back given x.way x.valid, form_of, sheet_accepts x.way room s x.tree a)
+    let a : Accepts x.modes room s x.tree = record { derives = x.derives; limits = x.limits; fit = omega (arith, x.fit, ap length x.are) } in
+    rw (table_back table x.modes x.valid, form_of, sheet_accepts x.modes room s x.tree a)
 
 -- what is seen to be due is so of the grammar
-pub case_stands : (given : Given) (k : Case) → seen given k ≡ due k → Stands given k
+case_stands : (k : Case) → seen k ≡ due k → Stands k
 unfolding seen
-case_stands given k e = go k.answer.number refl
+case_stands k e = go k.answer.number refl
   where
     s : List ℕ
     s = utf8 k.sheet
 
-    number : (Reading.reading given s k.lent).answer.number ≡ k.answer.number
+    number : (Reading.reading table s k.lent).answer.number ≡ k.answer.number
     number = ap (λ (x : Seen). x.answer.number) e
 
-    derived : Accepted given s k.lent → Derived given k
+    derived : Accepted table s k.lent → Derived k
     derived a =
         record {
           list = a.list;
           exactly = a.exactly;
           count = sym (ap (λ (x : Reading.Reading). x.answer.count) a.is) ∙ ap (λ (x : Seen). x.answer.count) e;
           cells = sym (ap (λ (x : Reading.Reading). x.cells) a.is) ∙ ap (λ (x : Seen). x.cells) e;
-          form = sym (form_is given k a.list a.exactly) ∙ ap (λ (x : Seen). x.form) e;
+          form = sym (form_is k a.list a.exactly) ∙ ap (λ (x : Seen). x.form) e;
         }
 
-    go : (n : ℕ) → k.answer.number ≡ n → Judged given n k
+    go : (n : ℕ) → k.answer.number ≡ n → Judged n k
     go zero z =
         ⊎_elim derived
         (λ r. absurd (omega (arith, number, r.least, ap (λ (x : Reading.Reading). x.answer.number) r.is)))
-        (refused_otherwise given s k.lent)
-    go (suc m) z = λ es x. omega (arith, number, ap (λ (x : Reading.Reading). x.answer.number) ((accepted_exactly given s k.lent es).1 x))
+        (refused_otherwise table s k.lent)
+    go (suc m) z = λ es x. omega (arith, number, ap (λ (x : Reading.Reading). x.answer.number) ((accepted_exactly table s k.lent es).1 x))
 
 -- for each of the sheets: accepted, it is derived, with these entries and this form; refused, it is not
-pub starred_derived : Each (Stands (tabled table)) cases
-starred_derived = each_of (seen (tabled table)) due (Stands (tabled table)) (case_stands (tabled table)) cases starred
+pub starred_derived : Each Stands cases
+starred_derived = each_of seen due Stands case_stands cases starred

@@ -1,13 +1,12 @@
--- The derivations: the bytes that a tree covers, and the rules that it keeps by a way of reading.
--- Document 01, "The grammar", sentence by sentence as docs/GRAMMAR.md lists them; document 02, request Seven.
+-- The derivations: the bytes that a tree covers, and the rules that it keeps under a mode table.
+-- Document 01, "The grammar", sentence by sentence as docs/GRAMMAR.md lists them.
 use Rattle.std.specs.Prelude.{ℕ, suc, ◌≡◌, Bool, true, false, not, ◌&&◌, ◌||◌, List, [], ◌∷◌, ◌++◌, map, length, replicate, leb, eqb}
 use Rattle.paper.specs.declared.Mode.{Mode}
 use Rattle.paper.specs.declared.Mode.TheVariants.{Children, Content, Absent}
 use Rattle.paper.specs.Found.{found}
-use Rattle.paper.specs.Bytes.{byte, bytes, is_upper, is_lower, is_blank, is_white, is_line_end, all, elem, starts_in, sheet_bytes, lf, cr, tab}
+use Rattle.paper.specs.Bytes.{byte, bytes, is_upper, is_lower, is_blank, is_white, is_line_end, all, elem, sheet_bytes, lf, cr, tab}
 use Rattle.paper.specs.Names.{name_rule, distinct}
 use Rattle.paper.specs.Modes.{Modes, mode_of}
-use Rattle.paper.specs.Ways.{Way, by_table, by_layout, tabs_do}
 use Rattle.paper.specs.Values.{value_onto, value_rule, value_in_slash}
 use Rattle.paper.specs.Tree.{LineEnd, LF, CRLF, Blank, Trait, Marker, Annotation, Line, blank, text, Concept, self_closed, children, content, Body, done, blank_line}
 use Rattle.paper.specs.Tree.{element, Sheet, Ending, block, self}
@@ -135,64 +134,34 @@ unfoldable mutual
 unfoldable pub sheet_rule : Sheet → Bool
 sheet_rule t = all blank_rule t.before && all annotation_rule t.annotations && concept_rule t.root && all blank_rule t.after && all is_blank t.last
 
--- ---- the modes of a tree, and where its elements stand: here the two ways part
+-- ---- the modes of a tree
 
 unfoldable pub in_mode : Mode → Modes → List ℕ → Bool
 in_mode Children m w = elim (mode_of m w) [ Children ↦ true | Content ↦ false | Absent ↦ false ]
 in_mode Content m w = elim (mode_of m w) [ Children ↦ false | Content ↦ true | Absent ↦ false ]
 in_mode Absent m w = elim (mode_of m w) [ Children ↦ false | Content ↦ false | Absent ↦ true ]
 
--- a name that the table does not list; without a table every name may stand
-abbrev pub unlisted : Way → List ℕ → Bool
-unlisted (by_table m) w = in_mode Absent m w
-unlisted by_layout w = false
-
--- a children body behind a marker of so many tabs, and the tabs of its closing marker: its name is in children mode.
--- By layout its elements' tabs show it, and where it has none, the closing marker's do
-abbrev pub children_mode : Way → ℕ → List ℕ → ℕ → Bool
-children_mode (by_table m) tabs w back = in_mode Children m w
-children_mode by_layout tabs w back = eqb back tabs
-
--- a line of Content that is not blank; one that begins as an element would
-abbrev pub inked : Line → Bool
-inked (blank b) = false
-inked (text t end) = true
-
-abbrev pub childlike : Line → Bool
-childlike (blank b) = false
-childlike (text t end) = starts_in (λ b. elem b (bytes "<[")) t
-
--- Content: its name is in content mode. By layout some line is not blank, and none begins as an element would
-abbrev pub content_mode : Way → List ℕ → List Line → Bool
-content_mode (by_table m) w lines = in_mode Content m w
-content_mode by_layout w lines = not (all (λ l. not (inked l)) lines) && all (λ l. not (childlike l)) lines
-
--- annotations and the Concept behind them stand where they are due
-abbrev pub placed_at : (ℕ → Bool) → List Annotation → ℕ → Bool
-placed_at will notes tabs = all (λ a. will a.tabs) notes && will tabs
-
--- a Concept's body holds Concepts with their annotations, or Content, each by its mode. One without a body has a name that may stand.
--- By layout an element of a body stands one tab deeper than the marker around it
+-- a Concept's body holds Concepts with their annotations, if its name is in children mode, and Content, if it is in content mode.
+-- One without a body has a name that the table lists
 unfoldable mutual
-  pub concept_modes : Way → ℕ → Concept → Bool
-  concept_modes way tabs (self_closed k) = not (unlisted way k.name)
-  concept_modes way tabs (children k rest body back) = children_mode way tabs k.name back && body_modes way (suc tabs) body
-  concept_modes way tabs (content k rest lines) = content_mode way k.name lines
+  pub concept_modes : Modes → Concept → Bool
+  concept_modes m (self_closed k) = not (in_mode Absent m k.name)
+  concept_modes m (children k rest body back) = in_mode Children m k.name && body_modes m body
+  concept_modes m (content k rest lines) = in_mode Content m k.name
 
-  pub body_modes : Way → ℕ → Body → Bool
-  body_modes way due done = true
-  body_modes way due (blank_line b body) = body_modes way due body
-  body_modes way due (element notes tabs c rest body) = placed_at (tabs_do way due) notes tabs && concept_modes way tabs c && body_modes way due body
+  pub body_modes : Modes → Body → Bool
+  body_modes m done = true
+  body_modes m (blank_line b body) = body_modes m body
+  body_modes m (element notes tabs c rest body) = concept_modes m c && body_modes m body
 
--- the root and its annotations stand at any tabs
-abbrev pub sheet_modes : Way → Sheet → Bool
-sheet_modes way t = concept_modes way t.tabs t.root
+abbrev pub sheet_modes : Modes → Sheet → Bool
+sheet_modes m t = concept_modes m t.root
 
--- ---- a derivation of a sheet by a way
+-- ---- a derivation of a sheet under a mode table's modes
 
-pub record Derives (way : Way) (s : List ℕ) (t : Sheet) : Type 0 where
+pub record Derives (m : Modes) (s : List ℕ) (t : Sheet) : Type 0 where
   pub scalars : List ℕ
   pub bytes : sheet_bytes s ≡ found scalars []
   pub covers : sheet_onto t [] ≡ s
   pub rule : sheet_rule t ≡ true
-  pub modes : sheet_modes way t ≡ true
+  pub modes : sheet_modes m t ≡ true

@@ -4,7 +4,6 @@ pub mod Found
 pub mod Bytes
 pub mod Names
 pub mod Modes
-pub mod Ways
 pub mod Times
 pub mod Values
 pub mod Tree
@@ -13,7 +12,6 @@ pub mod Limits
 pub mod Entries
 pub mod ReadingValues
 pub mod Reading
-pub mod Shown
 pub mod Canonical
 pub mod View
 pub mod Writing

@@ -1,16 +1,16 @@
--- Reading a sheet: for every table or none, sheet and number of cells lent, the answer and every cell at exit.
--- Document 01, "Refusal numbers" and "Order"; the fault met first from left to right. Document 02, request Seven, for reading without a table.
-use Rattle.std.specs.Prelude.{ℕ, zero, suc, ◌+◌, ◌-◌, ◌/◌, min, Bool, true, false, not, ◌&&◌, ◌||◌, List, [], ◌∷◌, ◌++◌, map, length, drop, get_or, replicate, leb, ltb, eqb}
-use Rattle.paper.specs.declared.Mode.TheVariants.{Children}
+-- Reading a sheet: for every table, sheet and number of cells lent, the answer and every cell at exit.
+-- Document 01, "Refusal numbers" and "Order"; the fault met first from left to right.
+use Rattle.std.specs.Prelude.{ℕ, zero, suc, ◌+◌, ◌-◌, ◌/◌, min, Bool, true, false, ◌&&◌, List, [], ◌∷◌, ◌++◌, map, length, drop, get_or, replicate, leb, ltb, eqb}
+use Rattle.paper.specs.declared.Mode.TheVariants.{Children, Absent}
 use Rattle.paper.specs.Answer.{Told, accepted, refused}
 use Rattle.paper.specs.Found.{Found, found, fault, and_then, Turn, over, stop, turn_of, run_of, many_of, place_in}
 use Rattle.paper.specs.Bytes.{byte, bytes, is_upper, is_lower, is_blank, is_white, is_line_end, length_in, front, behind, elem, same, starts_in, starts_with, sheet_bytes, lf}
 use Rattle.paper.specs.Bytes.{cr, tab, space, is, up_to, onward}
 use Rattle.paper.specs.Names.{name_limit, run, past_run, is_name, among}
-use Rattle.paper.specs.Ways.{Way, by_table, by_layout, Given, given_bytes, way_of, tabs_do}
+use Rattle.paper.specs.Modes.{Modes, mode_table}
 use Rattle.paper.specs.Tree.{LF, CRLF, Blank, Trait, Marker, Annotation, Line, blank, text, Concept, self_closed, children, content, Body, done, Annotated}
 use Rattle.paper.specs.Tree.{BodyPiece, blank_piece, element_piece, before, Sheet, Ending, block, self}
-use Rattle.paper.specs.Grammar.{tabs_onto, closing_onto, in_mode, unlisted}
+use Rattle.paper.specs.Grammar.{tabs_onto, closing_onto, in_mode}
 use Rattle.paper.specs.Limits.{sheet_limit, entry_limit, concept_limit, bracket_limit}
 use Rattle.paper.specs.Entries.{entry_cells, item_entries, trait_size, traits_size, body_size, entries, filled}
 use Rattle.paper.specs.ReadingValues.{value_of}
@@ -107,31 +107,12 @@ annotation room tabs s =
       rest = rest;
     }) end)))
 
--- one that begins a line whose tabs will do
-unfoldable pub annotation_turn : (ℕ → Bool) → ℕ → List ℕ → Turn Annotation
-annotation_turn will room s =
-    elim (starts_with (bytes "[") (behind is_tab s)) [
-      | true ↦ elim (will (length_in is_tab s)) [
-        | true ↦ turn_of (annotation room (length_in is_tab s) (drop 1 (behind is_tab s)))
-        | false ↦ stop 7 (behind is_tab s)
-      ]
-      | false ↦ over s
-    ]
+unfoldable pub annotation_turn : ℕ → List ℕ → Turn Annotation
+annotation_turn room s =
+    elim (starts_with (bytes "[") (behind is_tab s)) [ true ↦ turn_of (annotation room (length_in is_tab s) (drop 1 (behind is_tab s))) | false ↦ over s ]
 
-abbrev pub annotations : (ℕ → Bool) → ℕ → List ℕ → Found (List Annotation)
-annotations will room s = many_of (λ a. 1) (annotation_turn will) room s
-
--- where nothing is asked of the tabs
-abbrev pub any_tabs : ℕ → Bool
-any_tabs tabs = true
-
--- the tabs of the line of a marker, where they will do; else what stands behind them is at fault
-unfoldable pub misplaced : List ℕ → Found ℕ
-misplaced [] = fault 9 []
-misplaced (b ∷ l) = fault 7 (b ∷ l)
-
-abbrev pub mark_tabs : (ℕ → Bool) → List ℕ → Found ℕ
-mark_tabs will s = elim (will (length_in is_tab s)) [ true ↦ found (length_in is_tab s) (behind is_tab s) | false ↦ misplaced (behind is_tab s) ]
+abbrev pub annotations : ℕ → List ℕ → Found (List Annotation)
+annotations room s = many_of (λ a. 1) annotation_turn room s
 
 -- ---- markers
 
@@ -198,22 +179,22 @@ opened by room w s =
     found (record { marker = record { name = w; traits = ts; white = front is_white left }; ends = e }) end))
 
 -- a Concept's name is judged in this order: the rule, the nesting, the table, the room. s is the list from its "<" on
-unfoldable pub admitted : Way → ℕ → ℕ → List ℕ → List ℕ → List ℕ → Found (List ℕ)
-admitted way deeper room s w left =
+unfoldable pub admitted : Modes → ℕ → ℕ → List ℕ → List ℕ → List ℕ → Found (List ℕ)
+admitted m deeper room s w left =
     elim deeper [
       | zero ↦ fault 10 s
-      | suc fewer ↦ elim (unlisted way w) [ true ↦ fault 5 (drop 1 s) | false ↦ makes room (drop 1 s) w left ]
+      | suc fewer ↦ elim (in_mode Absent m w) [ true ↦ fault 5 (drop 1 s) | false ↦ makes room (drop 1 s) w left ]
     ]
 
 -- "<" and the name; what stands behind a name; and the whole opening marker
 abbrev pub head : Bounds → List ℕ → Found (List ℕ)
 head by s = and_then (due (byte "<") s) (λ b named. name (is_name is_upper by.names) named)
 
-abbrev pub named : Way → Bounds → ℕ → ℕ → List ℕ → List ℕ → List ℕ → Found Opened
-named way by deeper room s w left = and_then (admitted way deeper room s w left) (opened by (room - 1))
+abbrev pub named : Modes → Bounds → ℕ → ℕ → List ℕ → List ℕ → List ℕ → Found Opened
+named m by deeper room s w left = and_then (admitted m deeper room s w left) (opened by (room - 1))
 
-abbrev pub opening : Way → Bounds → ℕ → ℕ → List ℕ → Found Opened
-opening way by deeper room s = and_then (head by s) (named way by deeper room s)
+abbrev pub opening : Modes → Bounds → ℕ → ℕ → List ℕ → Found Opened
+opening m by deeper room s = and_then (head by s) (named m by deeper room s)
 
 -- a closing marker behind its tabs: a closing name is only compared
 unfoldable pub closing : List ℕ → List ℕ → Found ℕ
@@ -258,61 +239,36 @@ content_of tabs room k s =
     and_then (many_of (λ l. 0) (line_turn tabs k.name) 0 start) (λ lines left.
     found (content k rest lines) (drop (length (closing_mark tabs k.name)) left))))
 
--- ---- the mode that a body shows
-
--- a line that shows something stands before the one that closes Content, by raw lines, and before the end of input;
--- `fresh` is whether a line starts here
-unfoldable pub ahead : (List ℕ → Bool) → ℕ → List ℕ → Bool → List ℕ → Bool
-ahead shows tabs w fresh [] = false
-ahead shows tabs w fresh (b ∷ l) =
-    elim (fresh && closes_line tabs w (b ∷ l)) [ true ↦ false | false ↦ fresh && shows (b ∷ l) || ahead shows tabs w (eqb b lf) l ]
-
--- a line that is not blank; one that has so many tabs and then directly "<" or "["
-abbrev pub inked_line : List ℕ → Bool
-inked_line s = not (at_line_end (behind is_blank s))
-
-abbrev pub child_line : ℕ → List ℕ → Bool
-child_line tabs s = starts_with (tabs_onto tabs []) s && starts_in (λ b. elem b (bytes "<[")) (drop tabs s)
-
--- the body of a marker with these tabs and this name shows children: a line is an element's, or all are blank. s stands behind its ">"
-unfoldable pub shows_children : ℕ → List ℕ → List ℕ → Bool
-shows_children tabs w s = ahead (child_line (suc tabs)) tabs w false s || not (ahead inked_line tabs w false s)
-
--- a block holds children, and else Content
-abbrev pub holds_children : Way → ℕ → List ℕ → List ℕ → Bool
-holds_children (by_table m) tabs w s = in_mode Children m w
-holds_children by_layout tabs w s = shows_children tabs w s
-
 -- ---- Concepts
 
 -- what an opening marker leaves of the room
 abbrev pub room_in : ℕ → Opened → ℕ
 room_in room o = room - 1 - traits_size o.marker.traits
 
--- what follows an opening marker on a line of so many tabs: nothing, children, or else Content
-abbrev pub inside_by : Way → (ℕ → ℕ → ℕ → Marker → List ℕ → Found Concept) → ℕ → ℕ → ℕ → Opened → List ℕ → Found Concept
-inside_by way inner deeper room tabs o left =
+-- what follows an opening marker: nothing, children if its name is in children mode, or else Content
+abbrev pub inside_by : Modes → (ℕ → ℕ → Marker → List ℕ → Found Concept) → ℕ → ℕ → ℕ → Opened → List ℕ → Found Concept
+inside_by m inner deeper room tabs o left =
     elim o.ends [
       | self ↦ found (self_closed o.marker) left
-      | block ↦ elim (holds_children way tabs o.marker.name left) [
-        | true ↦ inner (deeper - 1) (room_in room o) tabs o.marker left
+      | block ↦ elim (in_mode Children m o.marker.name) [
+        | true ↦ inner (deeper - 1) (room_in room o) o.marker left
         | false ↦ content_of tabs (room_in room o) o.marker left
       ]
     ]
 
--- annotations and their Concept on lines whose tabs will do, by how a Concept is read in a room on a line of so many tabs
-abbrev pub annotated_by : (ℕ → Bool) → (ℕ → ℕ → List ℕ → Found Concept) → ℕ → List ℕ → Found Annotated
-annotated_by will read room s =
-    and_then (annotations will room s) (λ notes line. and_then (mark_tabs will line) (λ tabs mark.
-    and_then (read (room - length notes) tabs mark) (λ c left.
-    found (record { notes = notes; tabs = tabs; concept = c }) left)))
+-- annotations and their Concept, by how a Concept is read in a room on a line of so many tabs
+abbrev pub annotated_by : (ℕ → ℕ → List ℕ → Found Concept) → ℕ → List ℕ → Found Annotated
+annotated_by read room s =
+    and_then (annotations room s) (λ notes line.
+    and_then (read (room - length notes) (length_in is_tab line) (behind is_tab line)) (λ c left.
+    found (record { notes = notes; tabs = length_in is_tab line; concept = c }) left))
 
 -- a blank line, or a Concept with its annotations and the rest of its line
-abbrev pub piece_by : (ℕ → Bool) → (ℕ → ℕ → List ℕ → Found Concept) → ℕ → List ℕ → Found BodyPiece
-piece_by will read room s =
+abbrev pub piece_by : (ℕ → ℕ → List ℕ → Found Concept) → ℕ → List ℕ → Found BodyPiece
+piece_by read room s =
     elim (is_blank_line s) [
       | true ↦ and_then (line_rest s) (λ b left. found (blank_piece b) left)
-      | false ↦ and_then (tabs_only s) (λ tabs mark. and_then (annotated_by will read room s) (λ a left.
+      | false ↦ and_then (tabs_only s) (λ tabs mark. and_then (annotated_by read room s) (λ a left.
           and_then (line_rest left) (λ rest end. found (element_piece a rest) end)))
     ]
 
@@ -320,49 +276,44 @@ piece_by will read room s =
 abbrev pub is_closing : List ℕ → Bool
 is_closing s = starts_with (bytes "</") (behind is_tab s)
 
--- a line closes the body of a marker of so many tabs. By layout "<" at these tabs and the end of input is a closing marker that is cut
-abbrev pub closes_body : Way → ℕ → List ℕ → Bool
-closes_body (by_table m) outer s = is_closing s
-closes_body by_layout outer s = is_closing s || eqb (length_in is_tab s) outer && same (bytes "<") (behind is_tab s)
-
--- a Concept whose "<" is due, on a line of so many tabs, where so many may still be opened; the children of one whose marker has so many tabs,
--- with its closing marker; and the pieces of its body. Only these and what reads a whole sheet ask for the way. The fuel is above the length
+-- a Concept whose "<" is due, on a line of so many tabs, where so many may still be opened; the children of one with its closing marker;
+-- and the pieces of its body. Only these and what reads a whole sheet ask for modes. The fuel is above the length
 unfoldable mutual
-  pub concept : Way → Bounds → ℕ → ℕ → ℕ → ℕ → List ℕ → Found Concept
-  concept way by zero deeper room tabs s = fault 9 s
-  concept way by (suc fuel) deeper room tabs s =
-      and_then (opening way by deeper room s) (inside_by way (λ deeper room tabs k left. children_of way by fuel deeper room tabs k left) deeper room tabs)
+  pub concept : Modes → Bounds → ℕ → ℕ → ℕ → ℕ → List ℕ → Found Concept
+  concept m by zero deeper room tabs s = fault 9 s
+  concept m by (suc fuel) deeper room tabs s =
+      and_then (opening m by deeper room s) (inside_by m (λ deeper room k left. children_of m by fuel deeper room k left) deeper room tabs)
 
-  pub children_of : Way → Bounds → ℕ → ℕ → ℕ → ℕ → Marker → List ℕ → Found Concept
-  children_of way by zero deeper room outer k s = fault 9 s
-  children_of way by (suc fuel) deeper room outer k s =
-      and_then (line_rest s) (λ rest start. and_then (body way by fuel deeper room outer start) (λ inner left.
+  pub children_of : Modes → Bounds → ℕ → ℕ → ℕ → Marker → List ℕ → Found Concept
+  children_of m by zero deeper room k s = fault 9 s
+  children_of m by (suc fuel) deeper room k s =
+      and_then (line_rest s) (λ rest start. and_then (body m by fuel deeper room start) (λ inner left.
       and_then (closing k.name (behind is_tab left)) (λ b end. found (children k rest inner (length_in is_tab left)) end)))
 
-  pub body : Way → Bounds → ℕ → ℕ → ℕ → ℕ → List ℕ → Found Body
-  body way by zero deeper room outer s = fault 9 s
-  body way by (suc fuel) deeper room outer s =
-      elim (closes_body way outer s) [
-        | true ↦ and_then (mark_tabs (tabs_do way outer) s) (λ tabs mark. found done s)
-        | false ↦ and_then (piece_by (tabs_do way (suc outer)) (λ room tabs line. concept way by fuel deeper room tabs line) room s) (λ p left.
-            and_then (body way by fuel deeper (room - body_size (before p done)) outer left) (λ inner end. found (before p inner) end))
+  pub body : Modes → Bounds → ℕ → ℕ → ℕ → List ℕ → Found Body
+  body m by zero deeper room s = fault 9 s
+  body m by (suc fuel) deeper room s =
+      elim (is_closing s) [
+        | true ↦ found done s
+        | false ↦ and_then (piece_by (λ room tabs line. concept m by fuel deeper room tabs line) room s) (λ p left.
+            and_then (body m by fuel deeper (room - body_size (before p done)) left) (λ inner end. found (before p inner) end))
       ]
 
 -- the same with fuel that is enough
-abbrev pub concept_of : Way → Bounds → ℕ → ℕ → ℕ → List ℕ → Found Concept
-concept_of way by deeper room tabs s = concept way by (length s + 1) deeper room tabs s
+abbrev pub concept_of : Modes → Bounds → ℕ → ℕ → ℕ → List ℕ → Found Concept
+concept_of m by deeper room tabs s = concept m by (length s + 1) deeper room tabs s
 
-abbrev pub block_of : Way → Bounds → ℕ → ℕ → ℕ → Marker → List ℕ → Found Concept
-block_of way by deeper room outer k s = children_of way by (length s + 3) deeper room outer k s
+abbrev pub block_of : Modes → Bounds → ℕ → ℕ → Marker → List ℕ → Found Concept
+block_of m by deeper room k s = children_of m by (length s + 3) deeper room k s
 
-abbrev pub body_of : Way → Bounds → ℕ → ℕ → ℕ → List ℕ → Found Body
-body_of way by deeper room outer s = body way by (length s + 2) deeper room outer s
+abbrev pub body_of : Modes → Bounds → ℕ → ℕ → List ℕ → Found Body
+body_of m by deeper room s = body m by (length s + 2) deeper room s
 
-abbrev pub annotated_of : Way → Bounds → (ℕ → Bool) → ℕ → ℕ → List ℕ → Found Annotated
-annotated_of way by will deeper room s = annotated_by will (concept_of way by deeper) room s
+abbrev pub annotated_of : Modes → Bounds → ℕ → ℕ → List ℕ → Found Annotated
+annotated_of m by deeper room s = annotated_by (concept_of m by deeper) room s
 
-abbrev pub piece_of : Way → Bounds → (ℕ → Bool) → ℕ → ℕ → List ℕ → Found BodyPiece
-piece_of way by will deeper room s = piece_by will (concept_of way by deeper) room s
+abbrev pub piece_of : Modes → Bounds → ℕ → ℕ → List ℕ → Found BodyPiece
+piece_of m by deeper room s = piece_by (concept_of m by deeper) room s
 
 -- ---- a whole sheet
 
@@ -371,9 +322,9 @@ unfoldable pub last_blanks : List ℕ → List ℕ → Found (List ℕ)
 last_blanks blanks [] = found blanks []
 last_blanks blanks (b ∷ l) = fault 7 (b ∷ l)
 
-unfoldable pub sheet_tree : Way → Bounds → ℕ → ℕ → List ℕ → Found Sheet
-sheet_tree way by deeper room s =
-    and_then (blank_lines s) (λ before first. and_then (tabs_only first) (λ tabs mark. and_then (annotated_of way by any_tabs deeper room first) (λ a left.
+unfoldable pub sheet_tree : Modes → Bounds → ℕ → ℕ → List ℕ → Found Sheet
+sheet_tree m by deeper room s =
+    and_then (blank_lines s) (λ before first. and_then (tabs_only first) (λ tabs mark. and_then (annotated_of m by deeper room first) (λ a left.
     and_then (blank_lines left) (λ after left. and_then (last_blanks (front is_blank left) (behind is_blank left)) (λ last end.
     found (record { before = before; annotations = a.notes; tabs = a.tabs; root = a.concept; after = after; last = last }) end)))))
 
@@ -381,12 +332,12 @@ sheet_tree way by deeper room s =
 abbrev pub room_of : ℕ → ℕ
 room_of lent = min (lent / entry_cells) entry_limit
 
--- the faults of a sheet by a way, in the paper's order: 2, 3, then 4 to 11 and 18
-unfoldable pub sheet_of : Way → ℕ → List ℕ → Found Sheet
-sheet_of way room s =
+-- the faults of a sheet under a valid table, in the paper's order: 2, 3, then 4 to 11 and 18
+unfoldable pub sheet_of : Modes → ℕ → List ℕ → Found Sheet
+sheet_of m room s =
     elim (ltb sheet_limit (length s)) [
       | true ↦ fault 2 (drop sheet_limit s)
-      | false ↦ and_then (sheet_bytes s) (λ vs left. sheet_tree way bounds concept_limit room s)
+      | false ↦ and_then (sheet_bytes s) (λ vs left. sheet_tree m bounds concept_limit room s)
     ]
 
 -- the answer, and every lent cell at exit: a refusal leaves all of them zero
@@ -397,11 +348,11 @@ pub record Reading : Type 0 where
 abbrev pub refusal : ℕ → ℕ → ℕ → Reading
 refusal lent n at = record { answer = refused n at; cells = replicate lent 0 }
 
-unfoldable pub reading : Given → List ℕ → ℕ → Reading
-reading given s lent =
-    elim (way_of given) [
-      | fault n left ↦ refusal lent n (place_in (given_bytes given) left)
-      | found way left ↦ elim (sheet_of way (room_of lent) s) [
+unfoldable pub reading : List ℕ → List ℕ → ℕ → Reading
+reading table s lent =
+    elim (mode_table table) [
+      | fault n left ↦ refusal lent n (place_in table left)
+      | found m left ↦ elim (sheet_of m (room_of lent) s) [
         | fault n left ↦ refusal lent n (place_in s left)
         | found t left ↦ record { answer = accepted (length s) (length (entries t)); cells = filled lent (entries t) }
       ]

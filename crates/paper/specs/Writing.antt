@@ -1,9 +1,9 @@
--- Writing the canonical form: for every table or none, sheet, number of entry cells and output lent, the answer, every byte and every cell at exit.
+-- Writing the canonical form: for every table, sheet, number of entry cells and output lent, the answer, every byte and every cell at exit.
 -- Document 01, "Canonical form", refusal 12, and the answers of "Order".
 use Rattle.std.specs.Prelude.{ℕ, ◌+◌, min, Bool, true, false, List, ◌++◌, length, take, drop, replicate, leb}
 use Rattle.paper.specs.Answer.{Told, accepted, refused}
 use Rattle.paper.specs.Found.{Found, found, fault, place_in}
-use Rattle.paper.specs.Ways.{Given, given_bytes, way_of}
+use Rattle.paper.specs.Modes.{mode_table}
 use Rattle.paper.specs.Tree.{Sheet}
 use Rattle.paper.specs.Limits.{sheet_limit}
 use Rattle.paper.specs.Reading.{room_of, sheet_of}
@@ -20,9 +20,8 @@ abbrev pub begun_by : List ℕ → Found Sheet → Begun
 begun_by s (found t left) = tree t
 begun_by s (fault n left) = unread n (place_in s left)
 
-unfoldable pub begin : Given → List ℕ → ℕ → Begun
-begin given s lent =
-    elim (way_of given) [ fault n left ↦ unread n (place_in (given_bytes given) left) | found way left ↦ begun_by s (sheet_of way (room_of lent) s) ]
+unfoldable pub begin : List ℕ → List ℕ → ℕ → Begun
+begin table s lent = elim (mode_table table) [ fault n left ↦ unread n (place_in table left) | found m left ↦ begun_by s (sheet_of m (room_of lent) s) ]
 
 -- ---- what it leaves
 
@@ -54,5 +53,5 @@ form_fits out form = leb (length form) (min (length out) sheet_limit)
 unfoldable pub write_form : ℕ → List ℕ → List ℕ → Writing
 write_form lent out form = elim (form_fits out form) [ true ↦ written_at lent out 0 form | false ↦ not_written lent out 12 0 ]
 
-unfoldable pub writing : Given → List ℕ → ℕ → List ℕ → Writing
-writing given s lent out = elim (begin given s lent) [ unread n at ↦ not_written lent out n at | tree t ↦ write_form lent out (canonical t) ]
+unfoldable pub writing : List ℕ → List ℕ → ℕ → List ℕ → Writing
+writing table s lent out = elim (begin table s lent) [ unread n at ↦ not_written lent out n at | tree t ↦ write_form lent out (canonical t) ]

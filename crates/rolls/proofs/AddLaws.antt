@@ -15,7 +15,6 @@ use Rattle.paper.specs.declared.Answer.TheVariants.{Accepted, Refused}
 use Rattle.paper.specs.declared.Refusal.{Refusal}
 use Rattle.paper.specs.Answer.{Told, accepted, refused, told}
 use Rattle.paper.specs.Bytes.{lf}
-use Rattle.paper.specs.Ways.{Given}
 use Rattle.paper.specs.Tree.{Annotation, Sheet}
 use Rattle.paper.specs.Grammar.{blanks_onto}
 use Rattle.paper.specs.Limits.{sheet_limit}
@@ -228,14 +227,14 @@ module _ (roll form after : List ℕ) (n room : ℕ) (r : Answer) (is : room ≡
 -- ---- adding, from the table on
 
 -- a refused reading is passed through
-pub refused_added : (given : Given) (s roll : List ℕ) (n lent : ℕ) (answer : Told) (after : List ℕ) → Passed given s lent answer after
-    → record { answer = answer; out = roll; cells = after } ≡ adding given s roll n lent
+pub refused_added : (table s roll : List ℕ) (n lent : ℕ) (answer : Told) (after : List ℕ) → Passed table s lent answer after
+    → record { answer = answer; out = roll; cells = after } ≡ adding table s roll n lent
 unfolding adding
-refused_added given s roll n lent answer after p =
+refused_added table s roll n lent answer after p =
     rw (p.begins, adding) (ap (λ (x : Reading). record { answer = x.answer; out = roll; cells = x.cells }) p.is)
 
-pub sheet_added : (given : Given) (s roll held after cells : List ℕ) (n lent : ℕ) (answer : Told) → Read given s lent held
+pub sheet_added : (table s roll held after cells : List ℕ) (n lent : ℕ) (answer : Told) → Read table s lent held
     → SheetAdded s held roll n answer after → cells ≡ replicate lent 0
-    → record { answer = answer; out = after; cells = cells } ≡ adding given s roll n lent
+    → record { answer = answer; out = after; cells = cells } ≡ adding table s roll n lent
 unfolding adding
-sheet_added given s roll held after cells n lent answer read f z = rw (read.begins, adding, z) (f read.it lent read.of)
+sheet_added table s roll held after cells n lent answer read f z = rw (read.begins, adding, z) (f read.it lent read.of)

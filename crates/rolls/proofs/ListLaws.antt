@@ -14,7 +14,7 @@ use Rattle.paper.specs.declared.Refusal.{Refusal}
 use Rattle.paper.specs.Answer.{Told, accepted, refused, number_of, told}
 use Rattle.paper.specs.Found.{Found, found, fault, and_then}
 use Rattle.paper.specs.Bytes.{is_blank, front, behind}
-use Rattle.paper.specs.Ways.{Way, Given, way_of}
+use Rattle.paper.specs.Modes.{Modes, mode_table, read_table}
 use Rattle.paper.specs.Tree.{Blank}
 use Rattle.paper.specs.Reading.{blank_lines, last_blanks}
 use Rattle.paper.specs.Roll.{roll_limit, record_cells, Parts, parts, parts_of, Record, all_records, filled_records}
@@ -24,7 +24,7 @@ use Rattle.paper.proofs.Tests.{split}
 use Rattle.paper.proofs.Finds.{Reads}
 use Rattle.paper.proofs.Lines.{ReadBlanks, blanks_reads}
 use Rattle.paper.proofs.Rolls.{records_many}
-use Rattle.modes.specs.Ways.{RefusedGiven}
+use Rattle.modes.specs.Table.{Valid}
 use Rattle.modes.proofs.Answered.{number_told, count_told}
 use Rattle.lines.specs.Parts.{Seen, seen, passed}
 use Rattle.lines.specs.declared.part.Part.{Part}
@@ -55,62 +55,63 @@ blanks_number s n left = go (blank_lines s) (blanks_reads s)
     go (fault k rest) h e = let z : k ≡ n = cc in omega (arith, h.least)
 
 -- there are as many records as sheets
-records_in_lem : (given : Given) (lent : ℕ) (q : Parts) → length (records_in given lent q) ≡ length (sheets_in q)
-records_in_lem given lent (parts lead sheets) = records_many given lent (length lead) sheets
+records_in_lem : (table : List ℕ) (lent : ℕ) (q : Parts) → length (records_in table lent q) ≡ length (sheets_in q)
+records_in_lem table lent (parts lead sheets) = records_many table lent (length lead) sheets
 
 -- ---- the faults, in their order
 
-abbrev faults : Given → List ℕ → List ℕ → Told
-faults given r records = roll_faults given (roll_room (length records)) r (parts_of r)
+abbrev faults : List ℕ → List ℕ → List ℕ → Told
+faults table r records = roll_faults table (roll_room (length records)) r (parts_of r)
 
-module _ (given : Given) (r : List ℕ) (lent : ℕ) (records : List ℕ) where
+module _ (table r : List ℕ) (lent : ℕ) (records : List ℕ) where
   -- a refusal says nothing of the cells
-  refuses : {answer : Told} {after : List ℕ} → answer ≡ faults given r records → (answer.number ≡ 0 → ⊥) → Lists given r lent records answer after
+  refuses : {answer : Told} {after : List ℕ} → answer ≡ faults table r records → (answer.number ≡ 0 → ⊥) → Lists table r lent records answer after
   refuses e h = record { says = e; counts = λ z. absurd (h z); laid = λ z. absurd (h z) }
 
-  pub roll_long : {after : List ℕ} → roll_limit < length r → Lists given r lent records (refused 13 roll_limit) after
+  pub roll_long : {after : List ℕ} → roll_limit < length r → Lists table r lent records (refused 13 roll_limit) after
   unfolding roll_faults
   roll_long h = refuses (go (parts_of r)) (λ z. omega arith)
     where
-      go : (q : Parts) → refused 13 roll_limit ≡ roll_faults given (roll_room (length records)) r q
+      go : (q : Parts) → refused 13 roll_limit ≡ roll_faults table (roll_room (length records)) r q
       go (parts lead sheets) = rw (lt-ltb roll_limit (length r) h, roll_faults)
 
-  pub given_bad : length r ≤ roll_limit → {after : List ℕ} (a : Answer) (why : Refusal) (p : ℕ) → RefusedGiven given (number_of why) p → a ≡ Refused why p
-      → Lists given r lent records (told a) after
-  unfolding roll_faults
-  given_bad h a why p bad q = refuses (go (parts_of r)) (not_accepted a why p q)
-    where
-      go : (s : Parts) → told a ≡ roll_faults given (roll_room (length records)) r s
-      go (parts lead sheets) = rw (le-ltb roll_limit (length r) h, roll_faults, bad.is) (ap told q ∙ ap (refused (number_of why)) bad.at)
+  module _ (h : length r ≤ roll_limit) where
+    pub table_bad : {after : List ℕ} (a : Answer) (why : Refusal) (p : ℕ) → told a ≡ read_table table → a ≡ Refused why p → Lists table r lent records (told a) after
+    unfolding roll_faults read_table
+    table_bad a why p e q = refuses (go (mode_table table) refl (parts_of r)) (not_accepted a why p q)
+      where
+        go : (x : Found Modes) → mode_table table ≡ x → (s : Parts) → told a ≡ roll_faults table (roll_room (length records)) r s
+        go (found m left) f s = absurd (number_positive why (number_told (rw (q, read_table, f) at e)))
+        go (fault n left) f (parts lead sheets) = rw (le-ltb roll_limit (length r) h, roll_faults, f) (rw (read_table, f) at e)
 
 -- the first boundary stands at a place, and it is left to count the sheets from there on
-pub record Led (given : Given) (r records : List ℕ) (first : ℕ) : Type 0 where
+pub record Led (table r records : List ℕ) (first : ℕ) : Type 0 where
   pub boundary : BoundaryFrom r 0 first
-  pub counted : counted_from (roll_room (length records)) r first (sheets_from r first) ≡ faults given r records
+  pub counted : counted_from (roll_room (length records)) r first (sheets_from r first) ≡ faults table r records
 
 -- how long what stands before it is
 lead_long : {r : List ℕ} {first : ℕ} → BoundaryFrom r 0 first → length (take first r) ≡ first
 lead_long {r} {first} b = length-take-le first r b.begins.inside
 
 -- what stands before the first boundary
-module _ (given : Given) (r records : List ℕ) (h : length r ≤ roll_limit) {way : Way} (v : way_of given ≡ found way []) {first : ℕ} (b : BoundaryFrom r 0 first) (lead : Part)
+module _ (table r records : List ℕ) (h : length r ≤ roll_limit) (v : Valid table) {first : ℕ} (b : BoundaryFrom r 0 first) (lead : Part)
     (e : seen lead ≡ passed (take first r) (only_blanks (take first r))) where
-  pub lead_bad : (lent : ℕ) {after : List ℕ} (why : Refusal) (place : ℕ) → lead ≡ NotRead why place → Lists given r lent records (refused 14 place) after
+  pub lead_bad : (lent : ℕ) {after : List ℕ} (why : Refusal) (place : ℕ) → lead ≡ NotRead why place → Lists table r lent records (refused 14 place) after
   unfolding roll_faults
-  lead_bad lent why place q = refuses given r lent records (go (only_blanks (take first r)) refl (sym (ap seen q) ∙ e)) (λ z. omega arith)
+  lead_bad lent why place q = refuses table r lent records (go (only_blanks (take first r)) refl (sym (ap seen q) ∙ e)) (λ z. omega arith)
     where
       go : (x : Found (List ℕ)) → only_blanks (take first r) ≡ x → seen (NotRead why place) ≡ passed (take first r) x
-          → refused 14 place ≡ faults given r records
+          → refused 14 place ≡ faults table r records
       go (found bs left) f g = absurd (number_positive why (ap (λ (s : Seen). s.number) g))
       go (fault n left) f g =
           rw (roll_parts b, le-ltb roll_limit (length r) h, roll_faults, v, f) (ap (refused 14) (ap (λ (s : Seen). s.place) g))
 
-  pub lead_good : (end made own : ℕ) → lead ≡ Read end made own → Led given r records first
+  pub lead_good : (end made own : ℕ) → lead ≡ Read end made own → Led table r records first
   unfolding roll_faults
   lead_good end made own q = record { boundary = b; counted = go (only_blanks (take first r)) refl (sym (ap seen q) ∙ e) }
     where
       go : (x : Found (List ℕ)) → only_blanks (take first r) ≡ x → seen (Read end made own) ≡ passed (take first r) x
-          → counted_from (roll_room (length records)) r first (sheets_from r first) ≡ faults given r records
+          → counted_from (roll_room (length records)) r first (sheets_from r first) ≡ faults table r records
       go (found bs left) f g =
           ap (λ (n : ℕ). counted_from (roll_room (length records)) r n (sheets_from r first)) (sym (lead_long b))
           ∙ rw (roll_parts b, le-ltb roll_limit (length r) h, roll_faults, v, f)
@@ -118,9 +119,9 @@ module _ (given : Given) (r records : List ℕ) (h : length r ≤ roll_limit) {w
 
 -- ---- the sheets are found, or one is over
 
-module _ {given : Given} {r records : List ℕ} {first : ℕ} (l : Led given r records first) (a : Answer) {mid : List ℕ} (g : FindsSheets r first records (told a) mid) where
-  pub sheets_bad : (lent : ℕ) (why : Refusal) (p : ℕ) → a ≡ Refused why p → Lists given r lent records (told a) mid
-  sheets_bad lent why p k = refuses given r lent records (g.says ∙ l.counted) (not_accepted a why p k)
+module _ {table r records : List ℕ} {first : ℕ} (l : Led table r records first) (a : Answer) {mid : List ℕ} (g : FindsSheets r first records (told a) mid) where
+  pub sheets_bad : (lent : ℕ) (why : Refusal) (p : ℕ) → a ≡ Refused why p → Lists table r lent records (told a) mid
+  sheets_bad lent why p k = refuses table r lent records (g.says ∙ l.counted) (not_accepted a why p k)
 
   module _ (place count : ℕ) (k : a ≡ Accepted place count) where
     abbrev sheets : List (List ℕ)
@@ -155,11 +156,11 @@ module _ {given : Given} {r records : List ℕ} {first : ℕ} (l : Led given r r
         }
 
     -- and they are read
-    pub roll_listed : (lent : ℕ) {after : List ℕ} → after ≡ lay_records mid 0 (records_in given lent (parts_of r))
-        → Lists given r lent records (accepted place count) after
+    pub roll_listed : (lent : ℕ) {after : List ℕ} → after ≡ lay_records mid 0 (records_in table lent (parts_of r))
+        → Lists table r lent records (accepted place count) after
     roll_listed lent laid =
-        let es : List Record = records_in given lent (parts_of r) in
-        let as_many : length es ≡ count = records_in_lem given lent (parts_of r) ∙ sym all_found.many in
+        let es : List Record = records_in table lent (parts_of r) in
+        let as_many : length es ≡ count = records_in_lem table lent (parts_of r) ∙ sym all_found.many in
         record {
           says = accepts ∙ l.counted;
           counts = λ z. (all_found.many, all_there.1);
@@ -171,36 +172,36 @@ module _ {given : Given} {r records : List ℕ} {first : ℕ} (l : Led given r r
 
 -- ---- the whole reading
 
-module _ (given : Given) (r : List ℕ) (lent : ℕ) (records : List ℕ) where
+module _ (table r : List ℕ) (lent : ℕ) (records : List ℕ) where
   -- the records fit their cells
-  pub records_fit : (a : Answer) {mid : List ℕ} → Lists given r lent records (told a) mid → (n : ℕ) → n ≡ (told a).count → n * record_cells ≤ length records
+  pub records_fit : (a : Answer) {mid : List ℕ} → Lists table r lent records (told a) mid → (n : ℕ) → n ≡ (told a).count → n * record_cells ≤ length records
   records_fit (Accepted p c) g n e = omega (arith, (g.counts refl).1)
   records_fit (Refused why p) g n e = omega arith
 
   -- the records of an acceptance, and none of a refusal
-  made : (p c : ℕ) (q : Parts) → roll_records given lent (accepted p c) q ≡ records_in given lent q
+  made : (p c : ℕ) (q : Parts) → roll_records table lent (accepted p c) q ≡ records_in table lent q
   unfolding roll_records
   made p c (parts lead sheets) = refl
 
-  none_made : (why : Refusal) (p : ℕ) (q : Parts) → roll_records given lent (refused (number_of why) p) q ≡ []
+  none_made : (why : Refusal) (p : ℕ) (q : Parts) → roll_records table lent (refused (number_of why) p) q ≡ []
   unfolding roll_records
   none_made why p (parts lead sheets) = rw (ne_eqb (number_of why) 0 (number_positive why), roll_records)
 
-  zeroed : (a : Answer) (mid : List ℕ) → Lists given r lent records (told a) mid → length mid ≡ length records → (n : ℕ) → n ≡ (told a).count
-      → sets mid (n * record_cells) (replicate (length mid - n * record_cells) 0) ≡ filled_records (length records) (roll_records given lent (told a) (parts_of r))
+  zeroed : (a : Answer) (mid : List ℕ) → Lists table r lent records (told a) mid → length mid ≡ length records → (n : ℕ) → n ≡ (told a).count
+      → sets mid (n * record_cells) (replicate (length mid - n * record_cells) 0) ≡ filled_records (length records) (roll_records table lent (told a) (parts_of r))
   unfolding filled_records all_records
   zeroed (Accepted p c) mid g same n e =
-      let es : List Record = records_in given lent (parts_of r) in
-      let as_many : length es ≡ n = records_in_lem given lent (parts_of r) ∙ sym (g.counts refl).0 ∙ sym e in
+      let es : List Record = records_in table lent (parts_of r) in
+      let as_many : length es ≡ n = records_in_lem table lent (parts_of r) ∙ sym (g.counts refl).0 ∙ sym e in
       rw (same, g.laid refl, ← as_many, made p c (parts_of r)) (lay_filled records es (omega (arith, as_many, (g.counts refl).1)))
   zeroed (Refused why p) mid g same n e =
       let all : length mid ≡ length records - record_cells * 0 = omega arith in
       rw (none_made why p (parts_of r), e) (all_zero mid ∙ ap (λ (k : ℕ). replicate k 0) all)
 
-  pub roll_done : (a : Answer) (mid : List ℕ) → Lists given r lent records (told a) mid → length mid ≡ length records → (n : ℕ) → n ≡ (told a).count
+  pub roll_done : (a : Answer) (mid : List ℕ) → Lists table r lent records (told a) mid → length mid ≡ length records → (n : ℕ) → n ≡ (told a).count
       → (after cells : List ℕ) → after ≡ sets mid (n * record_cells) (replicate (length mid - n * record_cells) 0) → cells ≡ replicate lent 0
-      → ◌≡◌ {A = RollReading} (record { answer = told a; records = after; cells = cells }) (roll_reading given r (length records) lent)
+      → ◌≡◌ {A = RollReading} (record { answer = told a; records = after; cells = cells }) (roll_reading table r (length records) lent)
   unfolding roll_reading
   roll_done a mid g same n e after cells k z =
       rw (k, z, zeroed a mid g same n e)
-      (ap (λ (t : Told). record { answer = t; records = filled_records (length records) (roll_records given lent t (parts_of r)); cells = replicate lent 0 }) g.says)
+      (ap (λ (t : Told). record { answer = t; records = filled_records (length records) (roll_records table lent t (parts_of r)); cells = replicate lent 0 }) g.says)

@@ -3,24 +3,23 @@
 use Prim.Native.Nat.{ℕ}
 use mathlib.Core.Path.{◌≡◌, sym, ap, ◌∙◌}
 use mathlib.Core.List.{List}
-use Rattle.paper.specs.Ways.{Given}
 use Rattle.paper.specs.Roll.{RollReading}
 use Rattle.paper.specs.Writing.{Writing}
 use Rattle.paper.specs.declared.Answer.{Answer}
 use Rattle.paper.proofs.Told.{told_injective}
 use Rattle.rolls.specs.Promises.{ReadsRoll, AddsSheet}
 
-pub one_answer_rolls_read : (given : Given) (roll : List ℕ) (records lent : ℕ) (r r' : Answer) (kept kept' cells cells' : List ℕ) → ReadsRoll given roll records lent r kept cells
-    → ReadsRoll given roll records lent r' kept' cells' → (r ≡ r') × (kept ≡ kept') × (cells ≡ cells')
-one_answer_rolls_read given roll records lent r r' kept kept' cells cells' e e' =
+pub one_answer_rolls_read : (table roll : List ℕ) (records lent : ℕ) (r r' : Answer) (kept kept' cells cells' : List ℕ) → ReadsRoll table roll records lent r kept cells
+    → ReadsRoll table roll records lent r' kept' cells' → (r ≡ r') × (kept ≡ kept') × (cells ≡ cells')
+one_answer_rolls_read table roll records lent r r' kept kept' cells cells' e e' =
     let q = e ∙ sym e' in (
       told_injective r r' (ap (λ (x : RollReading). x.answer) q),
       ap (λ (x : RollReading). x.records) q,
       ap (λ (x : RollReading). x.cells) q,
     )
 
-pub one_answer_rolls_add : (given : Given) (sheet roll : List ℕ) (n lent : ℕ) (r r' : Answer) (after after' cells cells' : List ℕ)
-    → AddsSheet given sheet roll n lent r after cells → AddsSheet given sheet roll n lent r' after' cells' → (r ≡ r') × (after ≡ after') × (cells ≡ cells')
-one_answer_rolls_add given sheet roll n lent r r' after after' cells cells' e e' =
+pub one_answer_rolls_add : (table sheet roll : List ℕ) (n lent : ℕ) (r r' : Answer) (after after' cells cells' : List ℕ)
+    → AddsSheet table sheet roll n lent r after cells → AddsSheet table sheet roll n lent r' after' cells' → (r ≡ r') × (after ≡ after') × (cells ≡ cells')
+one_answer_rolls_add table sheet roll n lent r r' after after' cells cells' e e' =
     let q = e ∙ sym e' in
     (told_injective r r' (ap (λ (x : Writing). x.answer) q), ap (λ (x : Writing). x.out) q, ap (λ (x : Writing). x.cells) q)

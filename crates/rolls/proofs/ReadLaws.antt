@@ -9,15 +9,15 @@ use lib.ListN.{length, drop, length-append, length-drop}
 use lib.Seq.{drop-drop, take-append_seam, drop-append_seam}
 use Rattle.paper.specs.Answer.{Told}
 use Rattle.paper.specs.Found.{Found, found, fault}
-use Rattle.paper.specs.Ways.{Way, Given, way_of}
 use Rattle.paper.specs.Tree.{Sheet}
 use Rattle.paper.specs.Limits.{sheet_limit, entry_limit}
 use Rattle.paper.specs.Reading.{room_of, sheet_of, reading}
 use Rattle.paper.specs.Roll.{Parts, parts, parts_of, together, Record, record_of, records_of, record_cells, all_records}
 use Rattle.paper.proofs.Rolls.{whole, nothing_lost}
 use Rattle.paper.proofs.Exactly.{reading_small}
+use Rattle.modes.specs.Table.{Valid, modes_of}
 use Rattle.lines.specs.Parts.{part}
-use Rattle.sheets.specs.Sheets.{answer_of, ReadsBy}
+use Rattle.sheets.specs.Sheets.{answer_of, ReadsUnder}
 use Rattle.rolls.specs.Boundaries.{sheets_in}
 use Rattle.rolls.specs.Records.{lay_records, record_with, unread, start_at, end_at, unread_in, records_in}
 use Rattle.rolls.specs.Listing.{Spans, ReadsRecord, AllFound}
@@ -25,32 +25,32 @@ use Rattle.rolls.proofs.RecordLaws.{lay_none, lay_long, lay_more, lay_behind, un
 
 -- ---- one sheet by itself
 
-module _ (given : Given) (way : Way) (s cells : List ℕ) (answer : Told) (after : List ℕ) (v : way_of given ≡ found way []) (g : ReadsBy way s cells answer after) where
+module _ (table s cells : List ℕ) (answer : Told) (after : List ℕ) (v : Valid table) (g : ReadsUnder table s cells answer after) where
   -- whatever the cells hold, the answer is that of reading its bytes alone
-  pub alone : answer ≡ (reading given s (length cells)).answer
+  pub alone : answer ≡ (reading table s (length cells)).answer
   unfolding reading
-  alone = go (sheet_of way (room_of (length cells)) s) refl g.says
+  alone = go (sheet_of (modes_of table) (room_of (length cells)) s) refl g.says
     where
-      go : (x : Found Sheet) → sheet_of way (room_of (length cells)) s ≡ x → answer ≡ answer_of s x → answer ≡ (reading given s (length cells)).answer
+      go : (x : Found Sheet) → sheet_of (modes_of table) (room_of (length cells)) s ≡ x → answer ≡ answer_of s x → answer ≡ (reading table s (length cells)).answer
       go (found t left) f e = rw (v, reading, f) e
       go (fault n left) f e = rw (v, reading, f) e
 
   -- its numbers are small
   pub small_place : answer.place ≤ sheet_limit
-  small_place = omega (arith, ap (λ (a : Told). a.place) alone, (reading_small given s (length cells)).0)
+  small_place = omega (arith, ap (λ (a : Told). a.place) alone, (reading_small table s (length cells)).0)
 
   pub small_count : answer.count ≤ entry_limit
-  small_count = omega (arith, ap (λ (a : Told). a.count) alone, (reading_small given s (length cells)).1)
+  small_count = omega (arith, ap (λ (a : Told). a.count) alone, (reading_small table s (length cells)).1)
 
   -- the record that has its three numbers
   pub record_read : (start end number place count : ℕ) → number ≡ answer.number → place ≡ answer.place → count ≡ answer.count
-      → record_with start end (record { number = number; place = place; count = count }) ≡ record_with start end (reading given s (length cells)).answer
+      → record_with start end (record { number = number; place = place; count = count }) ≡ record_with start end (reading table s (length cells)).answer
   record_read start end number place count e f g = rw (e, f, g) (ap (record_with start end) alone)
 
 -- ---- the sheets from a number on
 
 -- so many sheets are read, and the others start at `at`: what is left to write is what was at first
-pub record ReadTo (given : Given) (r : List ℕ) (lent : ℕ) (first records : List ℕ) (count n : ℕ) : Type 0 where
+pub record ReadTo (table r : List ℕ) (lent : ℕ) (first records : List ℕ) (count n : ℕ) : Type 0 where
   pub at : ℕ
   pub sheets : List (List ℕ)
   pub rest : List ℕ
@@ -59,13 +59,13 @@ pub record ReadTo (given : Given) (r : List ℕ) (lent : ℕ) (first records : L
   pub many : n + length sheets ≡ count
   pub there : drop at r ≡ together sheets
   pub stand : drop (n * record_cells) records ≡ all_records (unread at sheets) ++ rest
-  pub same : lay_records records n (records_of given lent at sheets) ≡ lay_records first 0 (records_in given lent (parts_of r))
+  pub same : lay_records records n (records_of table lent at sheets) ≡ lay_records first 0 (records_in table lent (parts_of r))
 
-pub none_read : (given : Given) (r : List ℕ) (lent : ℕ) (records : List ℕ) (count : ℕ) → AllFound r records count → ReadTo given r lent records records count 0
-none_read given r lent records count a = go (parts_of r) refl (nothing_lost true r) a.many a.stand
+pub none_read : (table r : List ℕ) (lent : ℕ) (records : List ℕ) (count : ℕ) → AllFound r records count → ReadTo table r lent records records count 0
+none_read table r lent records count a = go (parts_of r) refl (nothing_lost true r) a.many a.stand
   where
     go : (q : Parts) → parts_of r ≡ q → whole q ≡ r → count ≡ length (sheets_in q) → records ≡ all_records (unread_in q) ++ drop (count * record_cells) records
-        → ReadTo given r lent records records count 0
+        → ReadTo table r lent records records count 0
     go (parts lead sheets) e w many stand =
         record {
           at = length lead;
@@ -103,13 +103,13 @@ module _ (r records : List ℕ) (n at : ℕ) (p : List ℕ) (ps : List (List ℕ
   spanned : Spans r records n
   spanned = record { held = unread_held records n at p ps rest stand; forward = rw (starts, ends) (omega arith); inside = rw ends reaches }
 
-  its_record : (given : Given) (lent : ℕ)
-      → record_with (start_at records n) (end_at records n) (reading given (part r (start_at records n) (end_at records n)) lent).answer ≡ record_of given lent at p
-  its_record given lent = rw (starts, ends, its_bytes)
+  its_record : (table : List ℕ) (lent : ℕ)
+      → record_with (start_at records n) (end_at records n) (reading table (part r (start_at records n) (end_at records n)) lent).answer ≡ record_of table lent at p
+  its_record table lent = rw (starts, ends, its_bytes)
 
-module _ {given : Given} {r : List ℕ} {lent : ℕ} {first records : List ℕ} {count n : ℕ} where
+module _ {table r : List ℕ} {lent : ℕ} {first records : List ℕ} {count n : ℕ} where
   -- the next record lies in the cells, and its sheet in the roll
-  pub read_spans : ReadTo given r lent first records count n → n < count → Spans r records n
+  pub read_spans : ReadTo table r lent first records count n → n < count → Spans r records n
   read_spans t h = go t.sheets t.many t.there t.stand
     where
       go : (ps : List (List ℕ)) → n + length ps ≡ count → drop t.at r ≡ together ps
@@ -118,45 +118,45 @@ module _ {given : Given} {r : List ℕ} {lent : ℕ} {first records : List ℕ} 
       go (p ∷ ps) many there stand = spanned r records n t.at p ps t.rest t.inside there stand
 
   -- one sheet more
-  pub read_turn : {after : List ℕ} → ReadTo given r lent first records count n → n < count → (lends : ℕ) → lends ≡ lent → ReadsRecord given r lends records n after
-      → ReadTo given r lent first after count (n + 1)
+  pub read_turn : {after : List ℕ} → ReadTo table r lent first records count n → n < count → (lends : ℕ) → lends ≡ lent → ReadsRecord table r lends records n after
+      → ReadTo table r lent first after count (n + 1)
   unfolding records_of
   read_turn {after} t h lends Lent-is laid = go t.sheets t.many t.there t.stand t.same
     where
       go : (ps : List (List ℕ)) → n + length ps ≡ count → drop t.at r ≡ together ps
           → drop (n * record_cells) records ≡ all_records (unread t.at ps) ++ t.rest
-          → lay_records records n (records_of given lent t.at ps) ≡ lay_records first 0 (records_in given lent (parts_of r))
-          → ReadTo given r lent first after count (n + 1)
+          → lay_records records n (records_of table lent t.at ps) ≡ lay_records first 0 (records_in table lent (parts_of r))
+          → ReadTo table r lent first after count (n + 1)
       go [] many there stand same = absurd (omega arith)
       go (p ∷ ps) many there stand same =
-          let own : after ≡ lay_records records n (record_of given lent t.at p ∷ []) =
+          let own : after ≡ lay_records records n (record_of table lent t.at p ∷ []) =
           laid
           ∙ ap (λ (e : Record). lay_records records n (e ∷ []))
-          (its_record r records n t.at p ps t.rest t.inside there stand given lends ∙ ap (λ (k : ℕ). record_of given k t.at p) Lent-is) in
+          (its_record r records n t.at p ps t.rest t.inside there stand table lends ∙ ap (λ (k : ℕ). record_of table k t.at p) Lent-is) in
           record {
             at = t.at + length p;
             sheets = ps;
             rest = t.rest;
             inside = reaches r records n t.at p ps t.rest t.inside there stand;
-            long = ap length own ∙ lay_long records n (record_of given lent t.at p ∷ []) ∙ t.long;
+            long = ap length own ∙ lay_long records n (record_of table lent t.at p ∷ []) ∙ t.long;
             many = omega arith;
             there = behind_it_lem r records n t.at p ps t.rest t.inside there stand;
             stand =
                 ap (drop ((n + 1) * record_cells)) own
-                ∙ lay_behind records n (record_of given lent t.at p ∷ []) (n + 1) (omega arith)
+                ∙ lay_behind records n (record_of table lent t.at p ∷ []) (n + 1) (omega arith)
                 ∙ unread_next records n t.at p ps t.rest stand;
             same =
-                ap (λ (l : List ℕ). lay_records l (n + 1) (records_of given lent (t.at + length p) ps)) own
-                ∙ sym (lay_more records n (record_of given lent t.at p) (records_of given lent (t.at + length p) ps))
+                ap (λ (l : List ℕ). lay_records l (n + 1) (records_of table lent (t.at + length p) ps)) own
+                ∙ sym (lay_more records n (record_of table lent t.at p) (records_of table lent (t.at + length p) ps))
                 ∙ same;
           }
 
   -- all are read
-  pub all_read : ReadTo given r lent first records count n → count ≤ n → records ≡ lay_records first 0 (records_in given lent (parts_of r))
+  pub all_read : ReadTo table r lent first records count n → count ≤ n → records ≡ lay_records first 0 (records_in table lent (parts_of r))
   unfolding records_of
   all_read t h = go t.sheets t.many t.same
     where
-      go : (ps : List (List ℕ)) → n + length ps ≡ count → lay_records records n (records_of given lent t.at ps) ≡ lay_records first 0 (records_in given lent (parts_of r))
-          → records ≡ lay_records first 0 (records_in given lent (parts_of r))
+      go : (ps : List (List ℕ)) → n + length ps ≡ count → lay_records records n (records_of table lent t.at ps) ≡ lay_records first 0 (records_in table lent (parts_of r))
+          → records ≡ lay_records first 0 (records_in table lent (parts_of r))
       go [] many same = sym (lay_none records n) ∙ same
       go (p ∷ ps) many same = absurd (omega arith)

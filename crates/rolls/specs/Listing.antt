@@ -2,7 +2,6 @@
 -- Document 01, "Rolls" and "Order".
 use Rattle.std.specs.Prelude.{ℕ, suc, ◌+◌, ◌*◌, ◌≤◌, ◌≡◌, true, false, List, [], ◌∷◌, ◌++◌, length, take, drop, ltb}
 use Rattle.paper.specs.Answer.{Told, accepted, refused}
-use Rattle.paper.specs.Ways.{Given}
 use Rattle.paper.specs.Reading.{reading}
 use Rattle.paper.specs.Roll.{record_cells, parts_of, together, all_records, roll_room, roll_faults}
 use Rattle.lines.specs.Parts.{part}
@@ -29,11 +28,11 @@ pub record Spans (r records : List ℕ) (n : ℕ) : Type 0 where
   pub inside : end_at records n ≤ length r
 
 -- its sheet is read by itself
-abbrev pub ReadsRecord : Given → List ℕ → ℕ → List ℕ → ℕ → List ℕ → Type 0
-ReadsRecord given r lent records n after =
+abbrev pub ReadsRecord : List ℕ → List ℕ → ℕ → List ℕ → ℕ → List ℕ → Type 0
+ReadsRecord table r lent records n after =
     after
     ≡ lay_records records n
-    (record_with (start_at records n) (end_at records n) (reading given (part r (start_at records n) (end_at records n)) lent).answer ∷ [])
+    (record_with (start_at records n) (end_at records n) (reading table (part r (start_at records n) (end_at records n)) lent).answer ∷ [])
 
 -- so many sheets are found, all that the roll has
 pub record AllFound (r records : List ℕ) (count : ℕ) : Type 0 where
@@ -41,7 +40,7 @@ pub record AllFound (r records : List ℕ) (count : ℕ) : Type 0 where
   pub stand : records ≡ all_records (unread_in (parts_of r)) ++ drop (count * record_cells) records
 
 -- a roll is listed: the answer, and where it is an acceptance how many sheets there are, for each of which there is room, and the cells
-pub record Lists (given : Given) (r : List ℕ) (lent : ℕ) (records : List ℕ) (answer : Told) (after : List ℕ) : Type 0 where
-  pub says : answer ≡ roll_faults given (roll_room (length records)) r (parts_of r)
+pub record Lists (table r : List ℕ) (lent : ℕ) (records : List ℕ) (answer : Told) (after : List ℕ) : Type 0 where
+  pub says : answer ≡ roll_faults table (roll_room (length records)) r (parts_of r)
   pub counts : answer.number ≡ 0 → (answer.count ≡ length (sheets_in (parts_of r))) × (answer.count ≤ roll_room (length records))
-  pub laid : answer.number ≡ 0 → after ≡ lay_records records 0 (records_in given lent (parts_of r))
+  pub laid : answer.number ≡ 0 → after ≡ lay_records records 0 (records_in table lent (parts_of r))

@@ -2,15 +2,14 @@
 -- Document 01, "Rolls", "Order" and "One answer only".
 use Rattle.std.specs.Prelude.{ℕ, ◌≡◌, List}
 use Rattle.paper.specs.Answer.{told}
-use Rattle.paper.specs.Ways.{Given}
 use Rattle.paper.specs.Roll.{roll_reading, adding}
 use Rattle.paper.specs.declared.Answer.{Answer}
 
--- `read` answers r for what is given, a table or nothing, a roll and so many lent cells for records and for entries, which are these at exit
-abbrev pub ReadsRoll : Given → List ℕ → ℕ → ℕ → Answer → List ℕ → List ℕ → Type 0
-ReadsRoll given roll records lent r recordsAfter cellsAfter =
-    record { answer = told r; records = recordsAfter; cells = cellsAfter } ≡ roll_reading given roll records lent
+-- `read` answers r for a table, a roll and so many lent cells for records and for entries, which are these at exit
+abbrev pub ReadsRoll : List ℕ → List ℕ → ℕ → ℕ → Answer → List ℕ → List ℕ → Type 0
+ReadsRoll table roll records lent r recordsAfter cellsAfter =
+    record { answer = told r; records = recordsAfter; cells = cellsAfter } ≡ roll_reading table roll records lent
 
--- `add` answers r for what is given, a sheet, a roll, its first n bytes and so many lent cells; roll and cells are these at exit
-abbrev pub AddsSheet : Given → List ℕ → List ℕ → ℕ → ℕ → Answer → List ℕ → List ℕ → Type 0
-AddsSheet given sheet roll n lent r after cells = record { answer = told r; out = after; cells = cells } ≡ adding given sheet roll n lent
+-- `add` answers r for a table, a sheet, a roll, its first n bytes and so many lent cells; roll and cells are these at exit
+abbrev pub AddsSheet : List ℕ → List ℕ → List ℕ → ℕ → ℕ → Answer → List ℕ → List ℕ → Type 0
+AddsSheet table sheet roll n lent r after cells = record { answer = told r; out = after; cells = cells } ≡ adding table sheet roll n lent

@@ -3,7 +3,6 @@
 use Rattle.std.specs.Prelude.{ℕ, ◌+◌, ◌*◌, List, [], ◌∷◌, length, get_or}
 use Rattle.std.proofs.lemmas.List.Edits.{sets}
 use Rattle.paper.specs.Answer.{Told, accepted}
-use Rattle.paper.specs.Ways.{Given}
 use Rattle.paper.specs.Roll.{Record, record_cells, all_records, records_of, Parts, parts}
 use Rattle.rolls.specs.declared.records.Record.{Record as InCode}
 
@@ -38,5 +37,5 @@ end_at records n = get_or records (n * record_cells + 1) 0
 abbrev pub unread_in : Parts → List Record
 unread_in (parts lead sheets) = unread (length lead) sheets
 
-abbrev pub records_in : Given → ℕ → Parts → List Record
-records_in given lent (parts lead sheets) = records_of given lent (length lead) sheets
+abbrev pub records_in : List ℕ → ℕ → Parts → List Record
+records_in table lent (parts lead sheets) = records_of table lent (length lead) sheets

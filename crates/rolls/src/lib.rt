@@ -1,21 +1,18 @@
 // Rolls: the record of each sheet that one holds, and a sheet added to one.
-// Document 01, "Rolls", refusals 12 to 16, and the answers of "Order"; document 02, Seven.
+// Document 01, "Rolls", refusals 12 to 16, and the answers of "Order".
 mod adding;
 mod boundaries;
 mod listing;
 mod records;
 
 ghost use Rattle.std.specs.Prelude.{length};
-ghost use Rattle.paper.specs.Ways.{tabled, guest};
-ghost use Rattle.modes.specs.Ways.{given_by};
 ghost use Rattle.rolls.specs.Promises.{ReadsRoll, AddsSheet};
 
 use adding::add_sheet;
 use entries::{CELLS, zero_from};
 use listing::list;
-use modes::way::{Way, ready};
 use paper::Answer;
-use sheets::read_by;
+use sheets::read_under;
 
 // A roll has at most so many bytes.
 pub const LIMIT: usize = 65536;
@@ -23,26 +20,10 @@ pub const LIMIT: usize = 65536;
 // Reads a roll. An acceptance has its length and how many records it made; the cells behind them are zero. A refusal leaves every
 // record cell zero. The entry cells are lent to the reading of each sheet, and zero after every answer.
 pub fn read(table: &[u8], roll: &[u8], records: &mut [u32], cells: &mut [u32]) -> Answer
-    ensures { ReadsRoll (tabled table.now) roll.now (length records.old) (length cells.old)
+    ensures { ReadsRoll table.now roll.now (length records.old) (length cells.old)
         result records.new cells.new }
 {
-    read_given(Way::Table, table, roll, records, cells)
-}
-
-// Reads a roll of guests' sheets, each without a table.
-pub fn read_guest(roll: &[u8], records: &mut [u32], cells: &mut [u32]) -> Answer
-    ensures { ReadsRoll guest roll.now (length records.old) (length cells.old)
-        result records.new cells.new }
-{
-    read_given(Way::Layout, &[], roll, records, cells)
-}
-
-// Reads a roll whose sheets are read by this way.
-fn read_given(way: Way, table: &[u8], roll: &[u8], records: &mut [u32], cells: &mut [u32]) -> Answer
-    ensures { ReadsRoll (given_by way table.now) roll.now (length records.old) (length cells.old)
-        result records.new cells.new }
-{
-    let answer = list(way, table, roll, records, cells);
+    let answer = list(table, roll, records, cells);
     zero_from(records, answer.count() * records::CELLS);
     zero_from(cells, 0);
     answer
@@ -51,39 +32,16 @@ fn read_given(way: Way, table: &[u8], roll: &[u8], records: &mut [u32], cells: &
 // Adds the canonical form of a sheet that reads without refusal, and one further LF, behind the first n bytes of the roll. The cells are
 // lent to the reading, and zero after every answer. A refusal leaves the roll as it came.
 pub fn add(table: &[u8], sheet: &[u8], roll: &mut [u8], n: usize, cells: &mut [u32]) -> Answer
-    ensures { AddsSheet (tabled table.now) sheet.now roll.old n (length cells.old) result
-        roll.new cells.new }
-{
-    add_given(Way::Table, table, sheet, roll, n, cells)
-}
-
-// Adds the canonical form of a guest's sheet, which is read without a table.
-pub fn add_guest(sheet: &[u8], roll: &mut [u8], n: usize, cells: &mut [u32]) -> Answer
-    ensures { AddsSheet guest sheet.now roll.old n (length cells.old) result
-        roll.new cells.new }
-{
-    add_given(Way::Layout, &[], sheet, roll, n, cells)
-}
-
-// Adds the canonical form of a sheet that is read by this way.
-fn add_given(
-    way: Way,
-    table: &[u8],
-    sheet: &[u8],
-    roll: &mut [u8],
-    n: usize,
-    cells: &mut [u32],
-) -> Answer
-    ensures { AddsSheet (given_by way table.now) sheet.now roll.old n (length cells.old) result
+    ensures { AddsSheet table.now sheet.now roll.old n (length cells.old) result
         roll.new cells.new }
 {
     let mut index = [0; modes::index::CELLS];
-    let given = ready(way, table, &mut index);
-    let Answer::Accepted { place: _, count: _ } = given else {
+    let modes = modes::read_into(table, &mut index);
+    let Answer::Accepted { place: _, count: _ } = modes else {
         zero_from(cells, 0);
-        return given;
+        return modes;
     };
-    let reading = read_by(way, table, sheet, cells, &index);
+    let reading = read_under(table, sheet, cells, &index);
     let Answer::Accepted { place: _, count } = reading else {
         zero_from(cells, 0);
         return reading;

@@ -3,7 +3,7 @@
 ghost use Rattle.std.specs.Prelude.{◌≡◌, ◌^◌, ◌≤◌, ◌<◌, length};
 ghost use Rattle.paper.specs.Answer.{told};
 ghost use Rattle.paper.specs.Roll.{roll_limit, parts_of};
-ghost use Rattle.modes.specs.Ways.{given_by, IndexedBy};
+ghost use Rattle.modes.specs.Index.{Indexed};
 ghost use Rattle.rolls.specs.Boundaries.{Begins};
 ghost use Rattle.rolls.specs.Records.{record_in, lay_records, unread_of, records_in};
 ghost use Rattle.rolls.specs.Listing.{FindsSheets, Spans, ReadsRecord, AllFound, Lists};
@@ -13,14 +13,13 @@ use crate::boundaries::{next_boundary, sheet_end};
 use crate::records::{CELLS, Record, put, room};
 use lines::part::Part;
 use modes::index::Index;
-use modes::way::{Way, ready};
 use paper::{Answer, Refusal};
-use sheets::{read_by, read_rest};
+use sheets::{read_rest, read_under};
 
 // Makes the records of a roll. An acceptance has the roll's length and how many they are; it zeroes no cell, and what a refusal
 // leaves is not told.
-pub fn list(way: Way, table: &[u8], roll: &[u8], records: &mut [u32], cells: &mut [u32]) -> Answer
-    ensures { Lists (given_by way table.now) roll.now (length cells.old) records.old (told result)
+pub fn list(table: &[u8], roll: &[u8], records: &mut [u32], cells: &mut [u32]) -> Answer
+    ensures { Lists table.now roll.now (length cells.old) records.old (told result)
         records.new }
 {
     if LIMIT < roll.len() {
@@ -30,9 +29,9 @@ pub fn list(way: Way, table: &[u8], roll: &[u8], records: &mut [u32], cells: &mu
         };
     }
     let mut index = [0; modes::index::CELLS];
-    let given = ready(way, table, &mut index);
-    let Answer::Accepted { .. } = given else {
-        return given;
+    let modes = modes::read_into(table, &mut index);
+    let Answer::Accepted { .. } = modes else {
+        return modes;
     };
     let first = next_boundary(roll, 0);
     if let Part::Refused { place, .. } = read_rest(&roll[..first], 0) {
@@ -45,7 +44,7 @@ pub fn list(way: Way, table: &[u8], roll: &[u8], records: &mut [u32], cells: &mu
     let Answer::Accepted { count, .. } = found else {
         return found;
     };
-    read_sheets(way, table, roll, records, count, cells, &index);
+    read_sheets(table, roll, records, count, cells, &index);
     found
 }
 
@@ -88,7 +87,6 @@ fn found_at(start: usize, end: usize) -> Record
 
 // Reads each sheet that was found, in order.
 fn read_sheets(
-    way: Way,
     table: &[u8],
     roll: &[u8],
     records: &mut [u32],
@@ -96,20 +94,19 @@ fn read_sheets(
     cells: &mut [u32],
     index: &Index,
 )
-    requires { IndexedBy way table.now index.now × AllFound roll.now records.old count }
+    requires { Indexed table.now index.now × AllFound roll.now records.old count }
     ensures { records.new ≡ lay_records records.old 0
-        (records_in (given_by way table.now) (length cells.old) (parts_of roll.now)) }
+        (records_in table.now (length cells.old) (parts_of roll.now)) }
 {
     let mut n = 0;
     while n < count {
-        read_sheet(way, table, roll, records, n, cells, index);
+        read_sheet(table, roll, records, n, cells, index);
         n += 1;
     }
 }
 
 // Reads the sheet of record number `n` by itself, and puts its answer into the record.
 fn read_sheet(
-    way: Way,
     table: &[u8],
     roll: &[u8],
     records: &mut [u32],
@@ -117,8 +114,8 @@ fn read_sheet(
     cells: &mut [u32],
     index: &Index,
 )
-    requires { IndexedBy way table.now index.now × Spans roll.now records.old n }
-    ensures { ReadsRecord (given_by way table.now) roll.now (length cells.old) records.old n
+    requires { Indexed table.now index.now × Spans roll.now records.old n }
+    ensures { ReadsRecord table.now roll.now (length cells.old) records.old n
         records.new }
 {
     let at = n * CELLS;
@@ -126,7 +123,7 @@ fn read_sheet(
     let end = records[at + 1];
     let from = start as usize;
     let to = end as usize;
-    let answer = read_by(way, table, &roll[from..to], cells, index);
+    let answer = read_under(table, &roll[from..to], cells, index);
     put(
         records,
         n,

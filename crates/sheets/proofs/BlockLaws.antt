@@ -8,7 +8,7 @@ use lib.ListN.{length, drop, length-drop}
 use Rattle.paper.specs.declared.Refusal.{Refusal}
 use Rattle.paper.specs.Found.{Found, found, fault, and_then}
 use Rattle.paper.specs.Bytes.{length_in, behind}
-use Rattle.paper.specs.Ways.{Way}
+use Rattle.paper.specs.Modes.{Modes}
 use Rattle.paper.specs.Tree.{Blank, Marker, Concept, children, Body}
 use Rattle.paper.specs.Grammar.{blank_onto, closing_onto}
 use Rattle.paper.specs.Entries.{body_size, body_count, body_entries}
@@ -25,14 +25,14 @@ use Rattle.lines.specs.declared.part.Part.TheVariants.{Read, Refused}
 use Rattle.lines.proofs.Crossing.{found_at_lem, fault_at, makes_passed, makes_read}
 use Rattle.lines.proofs.Ends.{RestAt}
 use Rattle.lines.proofs.Lengths.{blank_long}
-use Rattle.sheets.specs.Concepts.{InsideAt, up_to_mark}
+use Rattle.sheets.specs.Concepts.{Ready, InsideAt, up_to_mark}
 
 -- what is read behind the lines of a body, and with them
 abbrev closed : Marker → Blank → Body → List ℕ → Found Concept
 closed k rest inner left = and_then (closing k.name (behind is_tab left)) (λ b end. found (children k rest inner (length_in is_tab left)) end)
 
-abbrev bodied : Way → ℕ → ℕ → ℕ → Marker → Blank → List ℕ → Found Concept
-bodied way deeper room tabs k rest start = and_then (body_of way bounds deeper room tabs start) (closed k rest)
+abbrev bodied : Modes → ℕ → ℕ → Marker → Blank → List ℕ → Found Concept
+bodied m deeper room k rest start = and_then (body_of m bounds deeper room start) (closed k rest)
 
 -- a body that is found before the line whose tabs end in front of these bytes
 record Lined (x : Found Body) (inner : Body) (left : List ℕ) : Type 0 where
@@ -55,45 +55,45 @@ fault_unmarked s (found b line) r {why} {place} e q =
 fault_unmarked s (fault n left) r e q = e
 
 -- children that are read up to the mark behind the tabs of the closing line, and entered
-pub record BodyAt (s : List ℕ) (at : ℕ) (cells : List ℕ) (slot : Slot) (way : Way) (deeper tabs : ℕ) (after : List ℕ) (mark made own : ℕ) : Type 0 where
+pub record BodyAt (s : List ℕ) (at : ℕ) (cells : List ℕ) (slot : Slot) (m : Modes) (deeper : ℕ) (after : List ℕ) (mark made own : ℕ) : Type 0 where
   pub rest : Blank
   pub it : Body
   pub line : List ℕ
-  pub finds : (k : Marker) → block_of way bounds deeper (slot.room - slot.next) tabs k (drop at s) ≡ closed k rest it line
+  pub finds : (k : Marker) → block_of m bounds deeper (slot.room - slot.next) k (drop at s) ≡ closed k rest it line
   pub marks : behind is_tab line ≡ drop mark s
   pub many : body_size it ≡ made
   pub owned : body_count it ≡ own
   pub inside : mark ≤ length s
   pub laid : after ≡ lay cells slot.next (body_entries slot.parent slot.next (at + length (blank_onto rest [])) it)
 
-module _ (way : Way) (s : List ℕ) (at : ℕ) (cells : List ℕ) (slot : Slot) (deeper tabs : ℕ) where
+module _ {table index s : List ℕ} {at : ℕ} {cells : List ℕ} {slot : Slot} (h : Ready table index s at cells slot) (m : Modes) (deeper : ℕ) where
   abbrev room : ℕ
   room = slot.room - slot.next
 
-  pub rest_refused : (k : Marker) (r : Part) → seen r ≡ passed s (line_rest (drop at s)) → {why : Refusal} {place : ℕ} → r ≡ Refused why place
-      → InsideAt s at tabs cells slot (block_of way bounds deeper (slot.room - slot.next) tabs k (drop at s)) r cells
-  rest_refused k r e {why} {place} q =
-      makes_passed _ _ _ _ _ _ _ r cells (λ b. 0) (λ b. 0) (λ x. and_then x (bodied way deeper room tabs k)) (λ n left. refl) (line_rest (drop at s)) why place e q
-      (block_of_lem way bounds deeper room tabs k (drop at s))
+  pub rest_refused : (k : Marker) (tabs : ℕ) (r : Part) → seen r ≡ passed s (line_rest (drop at s)) → {why : Refusal} {place : ℕ} → r ≡ Refused why place
+      → InsideAt s at tabs cells slot (block_of m bounds deeper (slot.room - slot.next) k (drop at s)) r cells
+  rest_refused k tabs r e {why} {place} q =
+      makes_passed _ _ _ _ _ _ _ r cells (λ b. 0) (λ b. 0) (λ x. and_then x (bodied m deeper room k)) (λ n left. refl) (line_rest (drop at s)) why place e q
+      (block_of_lem m bounds deeper room k (drop at s))
 
   module _ {start : ℕ} (rest : RestAt s at start) {body : Part} {after : List ℕ}
       (b : Makes body_size body_count (body_entries slot.parent slot.next start) s cells slot.next
-      (up_to_mark (body_of way bounds deeper room tabs (drop start s))) body after) where
-    by_rest : (k : Marker) → block_of way bounds deeper room tabs k (drop at s) ≡ bodied way deeper room tabs k rest.it (drop start s)
-    by_rest k = block_of_lem way bounds deeper room tabs k (drop at s) ∙ ap (λ (x : Found Blank). and_then x (bodied way deeper room tabs k)) rest.finds
+      (up_to_mark (body_of m bounds deeper room (drop start s))) body after) where
+    by_rest : (k : Marker) → block_of m bounds deeper room k (drop at s) ≡ bodied m deeper room k rest.it (drop start s)
+    by_rest k = block_of_lem m bounds deeper room k (drop at s) ∙ ap (λ (x : Found Blank). and_then x (bodied m deeper room k)) rest.finds
 
-    pub body_refused : (k : Marker) {why : Refusal} {place : ℕ} → body ≡ Refused why place
-        → InsideAt s at tabs cells slot (block_of way bounds deeper (slot.room - slot.next) tabs k (drop at s)) body after
-    body_refused k {why} {place} q =
-        let inner = body_of way bounds deeper room tabs (drop start s) in
+    pub body_refused : (k : Marker) (tabs : ℕ) {why : Refusal} {place : ℕ} → body ≡ Refused why place
+        → InsideAt s at tabs cells slot (block_of m bounds deeper (slot.room - slot.next) k (drop at s)) body after
+    body_refused k tabs {why} {place} q =
+        let inner = body_of m bounds deeper room (drop start s) in
         makes_passed _ _ _ _ _ _ _ body after body_size body_count (λ x. and_then x (closed k rest.it)) (λ n left. refl) inner why place
         (fault_unmarked s inner body b.says q) q (by_rest k)
 
-    pub body_at : {mark made own : ℕ} → body ≡ Read mark made own → BodyAt s at cells slot way deeper tabs after mark made own
+    pub body_at : {mark made own : ℕ} → body ≡ Read mark made own → BodyAt s at cells slot m deeper after mark made own
     body_at {mark} {made} {own} q =
-        let inner = body_of way bounds deeper room tabs (drop start s) in
+        let inner = body_of m bounds deeper room (drop start s) in
         let f = found_at_lem body_size body_count s body (Lined inner) start (up_to_mark inner) mark made own b.says
-        (lined_reads (drop start s) _ inner (body_reads way bounds (length (drop start s) + 2) deeper room tabs (drop start s))) rest.inside q in
+        (lined_reads (drop start s) _ inner (body_reads m bounds (length (drop start s) + 2) deeper room (drop start s))) rest.inside q in
         let starts : start ≡ at + length (blank_onto rest.it []) =
         omega (arith, ap length rest.covers, blank_long rest.it (drop start s), length-drop at s, length-drop start s, rest.ahead, rest.inside) in
         record {
@@ -109,22 +109,22 @@ module _ (way : Way) (s : List ℕ) (at : ℕ) (cells : List ℕ) (slot : Slot) 
         }
 
 -- the closing marker of a Concept of this name, due at the mark
-module _ {s : List ℕ} {at : ℕ} {cells : List ℕ} {slot : Slot} {way : Way} {deeper tabs : ℕ} {after : List ℕ} {mark made own : ℕ}
-    (body : BodyAt s at cells slot way deeper tabs after mark made own) (k : Marker) {w : List ℕ} (named : k.name ≡ w) (last : Part)
+module _ {s : List ℕ} {at : ℕ} {cells : List ℕ} {slot : Slot} {m : Modes} {deeper : ℕ} {after : List ℕ} {mark made own : ℕ}
+    (body : BodyAt s at cells slot m deeper after mark made own) (k : Marker) {w : List ℕ} (named : k.name ≡ w) (tabs : ℕ) (last : Part)
     (e : seen last ≡ passed s (closing w (drop mark s))) where
   abbrev whole : Concept
   whole = children k body.rest body.it (length_in is_tab body.line)
 
-  by_body : block_of way bounds deeper (slot.room - slot.next) tabs k (drop at s) ≡ and_then (closing w (drop mark s)) (λ b end. found whole end)
+  by_body : block_of m bounds deeper (slot.room - slot.next) k (drop at s) ≡ and_then (closing w (drop mark s)) (λ b end. found whole end)
   by_body = body.finds k ∙ rw (named, body.marks)
 
   pub closing_refused : {why : Refusal} {place : ℕ} → last ≡ Refused why place
-      → InsideAt s at tabs cells slot (block_of way bounds deeper (slot.room - slot.next) tabs k (drop at s)) last after
+      → InsideAt s at tabs cells slot (block_of m bounds deeper (slot.room - slot.next) k (drop at s)) last after
   closing_refused {why} {place} q =
       makes_passed _ _ _ _ _ _ _ last after (λ b. 0) (λ b. 0) (λ x. and_then x (λ b end. found whole end)) (λ n left. refl) (closing w (drop mark s)) why place e q by_body
 
   pub block_read : {end none few : ℕ} → last ≡ Read end none few
-      → InsideAt s at tabs cells slot (block_of way bounds deeper (slot.room - slot.next) tabs k (drop at s)) (Read end made own) after
+      → InsideAt s at tabs cells slot (block_of m bounds deeper (slot.room - slot.next) k (drop at s)) (Read end made own) after
   block_read {end} {none} {few} q =
       let f =
       found_at_lem (λ b. 0) (λ b. 0) s last (λ b left. drop mark s ≡ closing_onto w left) mark (closing w (drop mark s)) end none few e (closing_reads w (drop mark s))

@@ -1,20 +1,18 @@
 -- A body as a piece and what follows it: its size, its entries, and its reading. Over plain lists. Assumes nothing.
-use Prim.Native.Nat.{ℕ, suc, ◌+◌, ◌-◌}
-use mathlib.Core.Path.{◌≡◌, refl, sym, ap, ◌∙◌}
-use mathlib.Core.Bool.{Bool, true, false, ◌&&◌}
+use Prim.Native.Nat.{ℕ, ◌+◌, ◌-◌}
+use mathlib.Core.Path.{◌≡◌, sym, ◌∙◌}
+use mathlib.Core.Bool.{true, false}
 use mathlib.Core.List.{List, [], ◌∷◌, ◌++◌, append_assoc, append-nil}
 use native.Mathlib.Nat.{add-zero}
 use native.Mathlib.Omega.{arith}
 use lib.ListN.{length}
-use lib.Dec.{eqb}
-use Rattle.paper.specs.Found.{Found, found, fault, and_then}
-use Rattle.paper.specs.Bytes.{bytes, length_in, behind, same, starts_with}
-use Rattle.paper.specs.Ways.{Way, by_table, by_layout, tabs_do}
+use Rattle.paper.specs.Found.{Found, found, and_then}
+use Rattle.paper.specs.Modes.{Modes}
 use Rattle.paper.specs.Tree.{Blank, Annotation, Concept, Body, done, BodyPiece, blank_piece, element_piece, before}
 use Rattle.paper.specs.Grammar.{blank_onto, tabs_onto, annotations_onto, concept_onto, body_onto}
 use Rattle.paper.specs.Entries.{annotation_entries, concept_size, body_size, body_count, concept_width, concept_entry, inside_entries, body_entries}
-use Rattle.paper.specs.Reading.{is_tab, closes_body, misplaced, mark_tabs, body_of, piece_of, bounds}
-use Rattle.paper.proofs.Tests.{when_true, when_false, true_false}
+use Rattle.paper.specs.Reading.{is_closing, body_of, piece_of, bounds}
+use Rattle.paper.proofs.Tests.{when_true, when_false}
 use Rattle.paper.proofs.Fuel.{body_of_lem}
 use Rattle.lines.proofs.Lengths.{tabs_long, notes_long}
 use Rattle.sheets.specs.Concepts.{piece_size, piece_count, piece_entries}
@@ -54,40 +52,14 @@ before_entries (element_piece a rest) inner parent next at =
     let others = body_entries parent (next + piece_size (element_piece a rest)) (at + length (body_onto (before (element_piece a rest) done) [])) inner in
     rw (place, size, append-nil) (sym (append_assoc own (entry ∷ inside) others))
 
--- what follows a piece, in the body of a marker of so many tabs
-abbrev pub onward : Way → ℕ → ℕ → ℕ → BodyPiece → List ℕ → Found Body
-onward way deeper room tabs p left = and_then (body_of way bounds deeper (room - piece_size p) tabs left) (λ inner end. found (before p inner) end)
+-- what follows a piece
+abbrev pub onward : Modes → ℕ → ℕ → BodyPiece → List ℕ → Found Body
+onward m deeper room p left = and_then (body_of m bounds deeper (room - piece_size p) left) (λ inner end. found (before p inner) end)
 
--- something stands behind the tabs of a line that closes a body
-closing_stands : (way : Way) (tabs : ℕ) (s : List ℕ) → closes_body way tabs s ≡ true → misplaced (behind is_tab s) ≡ fault 7 (behind is_tab s)
-unfolding misplaced starts_with same
-closing_stands way tabs s e = go (behind is_tab s) refl
-  where
-    nothing : (way : Way) → behind is_tab s ≡ [] → closes_body way tabs s ≡ false
-    nothing (by_table m) z = rw z
-    nothing by_layout z = rw z (and_none (eqb (length_in is_tab s) tabs))
-      where
-        and_none : (b : Bool) → (b && same (bytes "<") []) ≡ false
-        and_none true = refl
-        and_none false = refl
+-- the line of a closing marker ends a body, and any other goes on with a piece
+module _ (m : Modes) (deeper room : ℕ) (s : List ℕ) where
+  pub body_over : is_closing s ≡ true → body_of m bounds deeper room s ≡ found done s
+  body_over e = body_of_lem m bounds deeper room s ∙ when_true (is_closing s) _ _ e
 
-    go : (l : List ℕ) → behind is_tab s ≡ l → misplaced l ≡ fault 7 l
-    go [] z = true_false (sym e ∙ nothing way z)
-    go (b ∷ l) z = refl
-
--- the line of a closing marker at the tabs that will do ends a body, one at others is at fault, and any other line goes on with a piece
-module _ (way : Way) (deeper room tabs : ℕ) (s : List ℕ) where
-  at_closing : closes_body way tabs s ≡ true → body_of way bounds deeper room tabs s ≡ and_then (mark_tabs (tabs_do way tabs) s) (λ n mark. found done s)
-  at_closing e = body_of_lem way bounds deeper room tabs s ∙ when_true (closes_body way tabs s) _ _ e
-
-  pub body_over : closes_body way tabs s ≡ true → tabs_do way tabs (length_in is_tab s) ≡ true → body_of way bounds deeper room tabs s ≡ found done s
-  body_over e w =
-      at_closing e ∙ ap (λ (x : Found ℕ). and_then x (λ n mark. found done s)) (when_true (tabs_do way tabs (length_in is_tab s)) _ _ w)
-
-  pub body_misplaced : closes_body way tabs s ≡ true → tabs_do way tabs (length_in is_tab s) ≡ false → body_of way bounds deeper room tabs s ≡ fault 7 (behind is_tab s)
-  body_misplaced e w =
-      at_closing e ∙ ap (λ (x : Found ℕ). and_then x (λ n mark. found done s)) (when_false (tabs_do way tabs (length_in is_tab s)) _ _ w ∙ closing_stands way tabs s e)
-
-  pub body_on : closes_body way tabs s ≡ false
-      → body_of way bounds deeper room tabs s ≡ and_then (piece_of way bounds (tabs_do way (suc tabs)) deeper room s) (onward way deeper room tabs)
-  body_on e = body_of_lem way bounds deeper room tabs s ∙ when_false (closes_body way tabs s) _ _ e
+  pub body_on : is_closing s ≡ false → body_of m bounds deeper room s ≡ and_then (piece_of m bounds deeper room s) (onward m deeper room)
+  body_on e = body_of_lem m bounds deeper room s ∙ when_false (is_closing s) _ _ e

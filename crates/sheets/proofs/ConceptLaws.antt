@@ -1,89 +1,69 @@
 -- Concepts at their places: a law for each way out of reading one, and of reading what follows its marker. Assumes nothing.
 use Prim.Native.Nat.{ℕ, suc, ◌+◌, ◌-◌, ◌≤◌, ◌<◌}
-use mathlib.Core.Path.{◌≡◌, refl, sym, ap, ap₂, subst, ◌∙◌}
-use mathlib.Core.Bool.{Bool, true, false, ◌&&◌}
+use mathlib.Core.Path.{◌≡◌, refl, sym, ap, ap₂, ◌∙◌}
 use mathlib.Core.List.{List, [], ◌∷◌, ◌++◌, append-nil}
 use native.Mathlib.Omega.{arith}
 use lib.ListN.{length, drop, length-drop}
 use lib.Seq.{drop-drop}
-use lib.Dec.{eqb}
-use borrow.Author.Tests.{ne_eqb}
+use borrow.Author.Tests.{eq-eqb, ne_eqb}
 use Rattle.paper.specs.declared.Refusal.{Refusal}
+use Rattle.paper.specs.declared.Mode.TheVariants.{Children}
 use Rattle.paper.specs.Found.{Found, found, fault, and_then}
-use Rattle.paper.specs.Bytes.{byte, is_upper, is_name_byte, all}
+use Rattle.paper.specs.Bytes.{byte}
 use Rattle.paper.specs.Modes.{Modes}
-use Rattle.paper.specs.Ways.{Way}
 use Rattle.paper.specs.Tree.{Trait, Marker, Ending, block, self, Concept, self_closed, children, content}
-use Rattle.paper.specs.Grammar.{blank_onto, traits_onto, marker_onto, ending_onto, lines_onto}
+use Rattle.paper.specs.Grammar.{blank_onto, traits_onto, marker_onto, ending_onto, lines_onto, in_mode}
 use Rattle.paper.specs.Entries.{Entry, unnamed, traits_size, trait_entries, concept_size, concept_count, marker_of, concept_form, concept_width, marker_name, concept_entry}
 use Rattle.paper.specs.Entries.{body_start, inside_entries, body_entries}
-use Rattle.paper.specs.Reading.{Opened as Marked, opening, content_of, shows_children, room_in, concept_of, bounds}
-use Rattle.paper.proofs.Tests.{when_true, when_false}
+use Rattle.paper.specs.Reading.{Opened as Marked, opening, content_of, room_in, concept_of, block_of, bounds}
 use Rattle.paper.proofs.Finds.{Reads}
 use Rattle.paper.proofs.Widths.{marker_wide}
 use Rattle.paper.proofs.Sizes.{traits_size_lem}
 use Rattle.paper.proofs.Content.{ReadContent, content_reads}
-use Rattle.paper.proofs.Lines.{rule_name}
-use Rattle.paper.proofs.Concepts.{ReadOpening, opening_reads, ReadConcept, concept_reads, marker_parts}
+use Rattle.paper.proofs.Concepts.{ReadOpening, opening_reads, ReadConcept, concept_reads}
 use Rattle.modes.specs.Table.{modes_of}
-use Rattle.modes.specs.Ways.{way_by, looks_by}
-use Rattle.modes.specs.declared.way.Way.{Way as Said}
-use Rattle.modes.specs.declared.way.Way.TheVariants.{Table, Layout}
 use Rattle.entries.specs.Laid.{lay, slot_after, slot_under}
 use Rattle.entries.specs.declared.Slot.{Slot}
 use Rattle.entries.proofs.Laying.{lay_none, lay_append, lay_before}
 use Rattle.entries.proofs.Slots.{fits_on}
 use Rattle.text.specs.declared.nesting.Nesting.{Nesting}
-use Rattle.lines.specs.Parts.{seen, Makes, In, part, NameStands, content_entries, ReadsContent}
+use Rattle.lines.specs.Parts.{seen, Makes, part, content_entries}
 use Rattle.lines.specs.declared.part.Part.{Part}
-use Rattle.lines.specs.declared.shown.Shown.{Shown}
 use Rattle.lines.proofs.Crossing.{FoundAt, found_at_lem, makes_passed, makes_read}
 use Rattle.lines.proofs.ReadAt.{part_is}
 use Rattle.sheets.specs.declared.opening.Opening.{Opening}
 use Rattle.sheets.specs.declared.opening.Opening.TheVariants.{Opened, Refused}
 use Rattle.sheets.specs.Opening.{part_of, made_by, traits_in, entered_by, ReadsOpening}
-use Rattle.sheets.specs.Concepts.{Ready, ReadsConcept, ended_by, cells_ended, Ends, children_follow, childless, inside_of, form_shown, inside_size, inside_count}
-use Rattle.sheets.specs.Concepts.{body_of_concept, InsideAt, ReadsShown, ReadsBlock}
-use Rattle.sheets.specs.Traits.{NamesBefore, NamesOnward}
+use Rattle.sheets.specs.Concepts.{Ready, ReadsConcept, ended_by, cells_ended, Ends, inside_of, inside_size, inside_count, body_of_concept, InsideAt, ReadsInside}
 use Rattle.sheets.proofs.Slots.{stands_on}
-use Rattle.sheets.proofs.NameIndex.{names_end}
 use Rattle.sheets.proofs.Lengths.{marker_long, concept_long, body_few}
 use Rattle.sheets.proofs.Marked.{form_of, after, concept_marked, ending_of, Formed, inside_reads}
 
 -- ---- what follows a marker of a form that ends at a place
 
--- whatever the marker holds beside the name that stands from `from` to `to`
-abbrev ReadsInside : Way → List ℕ → ℕ → ℕ → ℕ → ℕ → ℕ → ℕ → List ℕ → Slot → Part → List ℕ → Type 0
-ReadsInside way s at form tabs from to deeper cells slot r after =
-    (k : Marker) → k.name ≡ part s from to
-    → InsideAt s at tabs cells slot (inside_of form way deeper (slot.room - slot.next) tabs k (drop at s)) r after
+module _ {table index s : List ℕ} {at : ℕ} {cells : List ℕ} {slot : Slot} (h : Ready table index s at cells slot) (deeper tabs form : ℕ) (k : Marker) where
+  abbrev Inside : Part → List ℕ → Type 0
+  Inside r last = InsideAt s at tabs cells slot (inside_of form (modes_of table) deeper (slot.room - slot.next) tabs k (drop at s)) r last
 
--- children are read, or nothing and Content; then the form is that of the marker
-module _ (way : Way) (s : List ℕ) (at form tabs from to : ℕ) (cells : List ℕ) (slot : Slot) where
-  inside_children : children_follow way form tabs (part s from to) (drop at s) ≡ true → (deeper : ℕ) {r : Part} {last : List ℕ}
-      → ReadsBlock way s at tabs from to deeper cells slot r last → ReadsInside way s at form tabs from to deeper cells slot r last
+  pub inside_closed : form ≡ 1 → {r : Part} → r ≡ Part.Read at 0 0 → Inside r cells
   unfolding inside_of
-  inside_children f deeper b = λ k named. rw (named, inside_of, f) (b k named)
+  inside_closed f {r} e = makes_read _ _ _ _ _ _ _ r cells (self_closed k) at 0 0 e h.in_sheet.inside (rw (f, inside_of)) refl refl (sym (lay_none cells slot.next))
 
-  inside_childless : children_follow way form tabs (part s from to) (drop at s) ≡ false → (deeper : ℕ) {r : Part} {last : List ℕ}
-      → ((k : Marker) → k.name ≡ part s from to → InsideAt s at tabs cells slot (childless form (slot.room - slot.next) tabs k (drop at s)) r last)
-      → ReadsInside way s at form tabs from to deeper cells slot r last
+  pub inside_block : form ≡ 2 → {r : Part} {last : List ℕ}
+      → InsideAt s at tabs cells slot (block_of (modes_of table) bounds deeper (slot.room - slot.next) k (drop at s)) r last → Inside r last
   unfolding inside_of
-  inside_childless f deeper b = λ k named. rw (named, inside_of, f) (b k named)
+  inside_block f b = rw (ne_eqb form 1 (λ e. omega arith), inside_of, eq-eqb form 2 f) b
 
-module _ {s : List ℕ} {at : ℕ} (place : In s at) (cells : List ℕ) (slot : Slot) (tabs form : ℕ) (k : Marker) where
-  abbrev Childless : Part → List ℕ → Type 0
-  Childless r last = InsideAt s at tabs cells slot (childless form (slot.room - slot.next) tabs k (drop at s)) r last
-
-  inside_closed : form ≡ 1 → {r : Part} → r ≡ Part.Read at 0 0 → Childless r cells
-  inside_closed f {r} e = makes_read _ _ _ _ _ _ _ r cells (self_closed k) at 0 0 e place.inside (rw f) refl refl (sym (lay_none cells slot.next))
-
-  inside_content : (form ≡ 1 → ⊥) → {r : Part} {last : List ℕ}
+  pub inside_content : (form ≡ 1 → ⊥) → (form ≡ 2 → ⊥) → {r : Part} {last : List ℕ}
       → Makes (λ c. 1) (λ c. 1) (content_entries slot.parent tabs at) s cells slot.next (content_of tabs (slot.room - slot.next) k (drop at s)) r last
-      → Childless r last
-  inside_content f {r} {last} b =
-      subst (λ x. InsideAt s at tabs cells slot x r last) (sym (when_false (eqb form 1) _ _ (ne_eqb form 1 f)))
-      (go (content_of tabs (slot.room - slot.next) k (drop at s)) (content_reads tabs (slot.room - slot.next) k (drop at s)) b)
+      → Inside r last
+  unfolding inside_of
+  inside_content f g {r} {last} b =
+      rw (
+        ne_eqb form 1 f,
+        inside_of,
+        ne_eqb form 2 g,
+      ) (go (content_of tabs (slot.room - slot.next) k (drop at s)) (content_reads tabs (slot.room - slot.next) k (drop at s)) b)
     where
       go : (x : Found Concept) → Reads (drop at s) (λ c left. ReadContent tabs (slot.room - slot.next) k (drop at s) c left) x
           → Makes (λ c. 1) (λ c. 1) (content_entries slot.parent tabs at) s cells slot.next x r last → InsideAt s at tabs cells slot x r last
@@ -94,46 +74,6 @@ module _ {s : List ℕ} {at : ℕ} (place : In s at) (cells : List ℕ) (slot : 
             says = b.says ∙ rw q;
             laid = λ d end e. let p : content k h.1.rest h.1.lines ≡ d = cc in b.laid d end e ∙ ap (lay cells slot.next) (rw (← p));
           }
-
--- ---- a law for each way out of reading what follows, unless children do
-
-module _ (way : Said) {s : List ℕ} {at : ℕ} (place : In s at) (cells : List ℕ) (slot : Slot) (form tabs from to : ℕ) where
-  abbrev Shows : Shown → List ℕ → Type 0
-  Shows r last = ReadsShown way s at form tabs from to cells slot r last
-
-  pub shown_closed : form ≡ 1 → {p : Part} → p ≡ Part.Read at 0 0 → {r : Shown} → r ≡ Shown.Content p → Shows r cells
-  shown_closed f {p} q {r} e = record {
-    children = λ h. let z : ◌≡◌ {A = ℕ} 0 1 = cc in absurd (omega arith);
-    childless = λ other h m.
-        let same : p ≡ other = cc in
-        (none_follow way m f, λ k named. inside_closed place cells slot tabs form k f (sym same ∙ q));
-  }
-    where
-      none_follow : (way : Said) (m : Modes) → form ≡ 1 → children_follow (way_by way m) form tabs (part s from to) (drop at s) ≡ false
-      none_follow Table m f = rw f
-      none_follow Layout m f = rw f
-
-  pub shown_children : form ≡ 2 → {r : Shown} → r ≡ Shown.Children → Shows r cells
-  shown_children f {r} e = record {
-    children = λ h m. (follow way m f, refl);
-    childless = λ other h. let z : ◌≡◌ {A = ℕ} 0 1 = cc in absurd (omega arith);
-  }
-    where
-      follow : (way : Said) (m : Modes) → form ≡ 2 → children_follow (way_by way m) form tabs (part s from to) (drop at s) ≡ true
-      follow Table m f = rw f
-      follow Layout m f = rw f
-
-  pub shown_content : (form ≡ 1 → ⊥) → (form ≡ 2 → ⊥) → {look : Bool} → look ≡ looks_by way → {r : Shown} {last : List ℕ}
-      → ReadsContent look s at tabs from to cells slot r last → Shows r last
-  shown_content f g {look} l c = record {
-    children = λ h m. let k = c.children h in (by_look way m l ∙ k.0, k.1);
-    childless = λ p h m. let k = c.content p h in (by_look way m l ∙ k.0, λ o named. inside_content place cells slot tabs form o f (k.1 o named));
-  }
-    where
-      by_look : (way : Said) (m : Modes) → look ≡ looks_by way
-          → children_follow (way_by way m) form tabs (part s from to) (drop at s) ≡ look && shows_children tabs (part s from to) (drop at s)
-      by_look Table m l = rw (l, ne_eqb form 2 g)
-      by_look Layout m l = rw (l, ne_eqb form 2 g, ne_eqb form 1 f)
 
 -- ---- how many entries a Concept has, and which, by its marker and what follows it
 
@@ -178,38 +118,37 @@ entry_is parent at tabs c form count to end f n t e = rw (f, n, t, e)
 
 -- ---- a Concept whose "<" is due at a place
 
-pub marker_refused : (way : Way) {s : List ℕ} {at : ℕ} {cells : List ℕ} {slot : Slot} {deeper : ℕ} {o : Opening} {mid : List ℕ}
-    → ReadsOpening way s at deeper cells slot o mid
+pub marker_refused : {table index s : List ℕ} {at : ℕ} {cells : List ℕ} {slot : Slot} → Ready table index s at cells slot
+    → {deeper : ℕ} {o : Opening} {mid : List ℕ} → ReadsOpening table s at deeper cells slot o mid
     → (tabs : ℕ) {why : Refusal} {place : ℕ} → o ≡ Refused why place → {r : Part} → r ≡ Part.Refused why place
-    → ReadsConcept way s at tabs deeper cells slot r mid
-marker_refused way {s} {at} {cells} {slot} {deeper} {o} {mid} opens tabs {why} {place} q {r} e =
+    → ReadsConcept table s at tabs deeper cells slot r mid
+marker_refused {table} {index} {s} {at} {cells} {slot} h {deeper} {o} {mid} opens tabs {why} {place} q {r} e =
     let room = slot.room - slot.next in
-    makes_passed _ _ _ _ _ _ _ r mid made_by traits_in (λ x. and_then x (after way deeper room tabs)) (λ n left. refl)
-    (opening way bounds deeper room (drop at s)) why place (ap seen (e ∙ sym (ap part_of q)) ∙ opens.makes.says) e
-    (concept_marked deeper room tabs way (drop at s))
+    makes_passed _ _ _ _ _ _ _ r mid made_by traits_in (λ x. and_then x (after (modes_of table) deeper room tabs)) (λ n left. refl)
+    (opening (modes_of table) bounds deeper room (drop at s)) why place (ap seen (e ∙ sym (ap part_of q)) ∙ opens.makes.says) e
+    (concept_marked (modes_of table) deeper room tabs (drop at s))
 
 -- its marker was read
-pub record MarkerAt (said : Said) (table index s : List ℕ) (at : ℕ) (cells : List ℕ) (slot : Slot) (deeper : ℕ) (mid : List ℕ) (form to end made own : ℕ)
-    (inside : Nesting) : Type 0 where
-  pub stands : Ready said table index s at cells slot
+pub record MarkerAt (table index s : List ℕ) (at : ℕ) (cells : List ℕ) (slot : Slot) (deeper : ℕ) (mid : List ℕ) (form to end made own : ℕ) (inside : Nesting) : Type 0 where
+  pub stands : Ready table index s at cells slot
   pub answer : Opening
-  pub opens : ReadsOpening (way_by said (modes_of table)) s at deeper cells slot answer mid
+  pub opens : ReadsOpening table s at deeper cells slot answer mid
   pub told : answer ≡ Opened form to end made own inside
 
-module _ {said : Said} {table index s : List ℕ} {at : ℕ} {cells : List ℕ} {slot : Slot} {deeper : ℕ} {mid : List ℕ} {form to end made own : ℕ} {inside : Nesting}
-    (known : MarkerAt said table index s at cells slot deeper mid form to end made own inside) where
+module _ {table index s : List ℕ} {at : ℕ} {cells : List ℕ} {slot : Slot} {deeper : ℕ} {mid : List ℕ} {form to end made own : ℕ} {inside : Nesting}
+    (known : MarkerAt table index s at cells slot deeper mid form to end made own inside) where
   abbrev room : ℕ
   room = slot.room - slot.next
 
-  abbrev way : Way
-  way = way_by said (modes_of table)
+  abbrev m : Modes
+  m = modes_of table
 
   abbrev marked : Found Marked
-  marked = opening way bounds deeper room (drop at s)
+  marked = opening m bounds deeper room (drop at s)
 
-  marker : FoundAt made_by traits_in (λ o left. ReadOpening way bounds deeper room (drop at s) o left) s at marked end made own
+  marker : FoundAt made_by traits_in (λ o left. ReadOpening m bounds deeper room (drop at s) o left) s at marked end made own
   marker =
-      found_at_lem made_by traits_in s (part_of known.answer) _ at marked end made own known.opens.makes.says (opening_reads way bounds deeper room (drop at s))
+      found_at_lem made_by traits_in s (part_of known.answer) _ at marked end made own known.opens.makes.says (opening_reads m bounds deeper room (drop at s))
       known.stands.in_sheet.inside
       (ap part_of known.told)
 
@@ -219,7 +158,7 @@ module _ {said : Said} {table index s : List ℕ} {at : ℕ} {cells : List ℕ} 
   abbrev ending : Ending
   ending = marker.it.ends
 
-  says : (form ≡ form_of way marker.it) × (to ≡ at + 1 + length k.name) × (suc inside.left ≡ deeper)
+  says : (form ≡ form_of m marker.it) × (to ≡ at + 1 + length k.name) × (suc inside.left ≡ deeper)
   says = known.opens.says form to end made own inside known.told marker.it (drop end s) marker.finds
 
   -- where its name and the marker end, and that its entries have room
@@ -257,54 +196,47 @@ module _ {said : Said} {table index s : List ℕ} {at : ℕ} {cells : List ℕ} 
       sym (part_is s k.name (traits_onto k.traits (k.white ++ ending_onto ending (drop end s))) (at + 1) to
       (sym (drop-drop 1 at s) ∙ ap (drop 1) marker.holds.covers) says.1)
 
-  pub marker_named : NameStands s (at + 1) to
-  marker_named =
-      let name = rule_name is_upper k.name (marker_parts k marker.holds.rule).0 in
-      record { some = omega (arith, says.1, name.1); inside = marker_ahead.1; letters = ap (all is_name_byte) (sym named) ∙ name.0 }
-
   -- the slot that is lent for what follows the marker
   module _ {under : Slot} (goes_under : under ≡ slot_under slot) {next : Slot} (goes_on : next ≡ slot_after under made) where
     lends : next ≡ slot_after (slot_under slot) made
     lends = goes_on ∙ ap (λ (x : Slot). slot_after x made) goes_under
 
-    pub lent_stands : length mid ≡ length cells → Ready said table index s end mid next
+    pub lent_stands : length mid ≡ length cells → Ready table index s end mid next
     lent_stands held = rw lends (stands_on known.stands marker.inside (fits_on known.stands.fits held refl marker_ahead.4))
 
-    -- the form of the Concept is the one that is shown
-    module _ (tabs : ℕ) {b : Part} {left : List ℕ} (body : ReadsInside way s end form tabs (at + 1) to inside.left mid next b left)
-        {kind : ℕ} (shown : kind ≡ form_shown way form tabs (part s (at + 1) to) (drop end s)) where
+    module _ (tabs : ℕ) {b : Part} {left : List ℕ} (body : ReadsInside table s end form tabs (at + 1) to inside.left mid next b left) where
       abbrev reading : Found Concept
-      reading = concept_of way bounds deeper room tabs (drop at s)
+      reading = concept_of m bounds deeper room tabs (drop at s)
 
       abbrev inner : Found Concept
-      inner = after way deeper room tabs marker.it (drop end s)
+      inner = after m deeper room tabs marker.it (drop end s)
 
-      inner_is : inside_of form way inside.left (slot.room - (slot.next + 1 + made)) tabs k (drop end s) ≡ inner
+      inner_is : inside_of form m inside.left (slot.room - (slot.next + 1 + made)) tabs k (drop end s) ≡ inner
       inner_is =
           let deep : inside.left ≡ deeper - 1 = omega (arith, says.2) in
           let fewer : slot.room - (slot.next + 1 + made) ≡ room_in room marker.it = omega (arith, marker.many) in
-          ap (λ (f : ℕ). inside_of f way inside.left (slot.room - (slot.next + 1 + made)) tabs k (drop end s)) says.0
-          ∙ ap₂ (λ (i j : ℕ). inside_of (form_of way marker.it) way i j tabs k (drop end s)) deep fewer
+          ap (λ (f : ℕ). inside_of f m inside.left (slot.room - (slot.next + 1 + made)) tabs k (drop end s)) says.0
+          ∙ ap₂ (λ (i j : ℕ). inside_of (form_of m marker.it) m i j tabs k (drop end s)) deep fewer
 
       follows : Makes inside_size inside_count (body_of_concept slot.next (slot.next + 1 + made) tabs end) s mid (slot.next + 1 + made) inner b left
       follows =
           let it : Makes inside_size inside_count (body_of_concept slot.next (slot.next + 1 + made) tabs end) s mid (slot.next + 1 + made)
-          (inside_of form way inside.left (slot.room - (slot.next + 1 + made)) tabs k (drop end s)) b left = rw lends at (body k named) in
+          (inside_of form m inside.left (slot.room - (slot.next + 1 + made)) tabs k (drop end s)) b left = rw lends at (body k named) in
           rw inner_is at it
 
       reading_is : reading ≡ inner
-      reading_is = concept_marked deeper room tabs way (drop at s) ∙ ap (λ (x : Found Marked). and_then x (after way deeper room tabs)) marker.finds
+      reading_is = concept_marked m deeper room tabs (drop at s) ∙ ap (λ (x : Found Marked). and_then x (after m deeper room tabs)) marker.finds
 
       inside_refused : (why : Refusal) (place : ℕ) → b ≡ Part.Refused why place → (r : Part) → r ≡ Part.Refused why place → (last : List ℕ)
-          → ReadsConcept way s at tabs deeper cells slot r last
+          → ReadsConcept table s at tabs deeper cells slot r last
       inside_refused why place g r e last =
           makes_passed _ _ _ _ _ _ _ r last inside_size inside_count (λ x. x) (λ n left. refl) inner why place (ap seen (e ∙ sym g) ∙ follows.says) e reading_is
 
       module _ (far more count : ℕ) (g : b ≡ Part.Read far more count) where
-        it : FoundAt inside_size inside_count (λ c left. Formed k ending (form_shown way (form_of way marker.it) tabs k.name (drop end s)) c) s end inner far more count
+        it : FoundAt inside_size inside_count (λ c left. Formed k ending (form_of m marker.it) c) s end inner far more count
         it =
             found_at_lem inside_size inside_count s b _ end inner far more count follows.says
-            (inside_reads (deeper - 1) (room_in room marker.it) tabs k (drop end s) way ending) marker.inside g
+            (inside_reads m (deeper - 1) (room_in room marker.it) tabs k (drop end s) ending (in_mode Children m k.name)) marker.inside g
 
         abbrev c : Concept
         c = it.it
@@ -312,10 +244,10 @@ module _ {said : Said} {table index s : List ℕ} {at : ℕ} {cells : List ℕ} 
         finds : reading ≡ found c (drop far s)
         finds = reading_is ∙ it.finds
 
-        read : ReadConcept way bounds deeper room tabs (drop at s) c (drop far s)
+        read : ReadConcept m bounds deeper room tabs (drop at s) c (drop far s)
         read =
-            let r : Reads (drop at s) (λ c left. ReadConcept way bounds deeper room tabs (drop at s) c left) (found c (drop far s)) =
-            rw finds at (concept_reads way bounds (length (drop at s) + 1) deeper room tabs (drop at s)) in
+            let r : Reads (drop at s) (λ c left. ReadConcept m bounds deeper room tabs (drop at s) c left) (found c (drop far s)) =
+            rw finds at (concept_reads m bounds (length (drop at s) + 1) deeper room tabs (drop at s)) in
             r.1
 
         size : concept_size c ≡ 1 + made + more
@@ -323,18 +255,11 @@ module _ {said : Said} {table index s : List ℕ} {at : ℕ} {cells : List ℕ} 
             let t : traits_size (marker_of c).traits ≡ made = ap (λ (k : Marker). traits_size k.traits) it.holds.marked ∙ marker.many in
             omega (arith, size_is c, it.many)
 
-        formed : kind ≡ concept_form c
-        formed =
-            shown
-            ∙ ap (λ (w : List ℕ). form_shown way form tabs w (drop end s)) (sym named)
-            ∙ ap (λ (f : ℕ). form_shown way f tabs k.name (drop end s)) says.0
-            ∙ sym it.holds.form
-
-        entry : record { kind = 1; form = kind; parent = slot.parent; count = own + count; name_start = at + 1; name_end = to; start = at; end = far }
+        entry : record { kind = 1; form = form; parent = slot.parent; count = own + count; name_start = at + 1; name_end = to; start = at; end = far }
             ≡ concept_entry slot.parent at tabs c
         entry =
             let t : length (marker_of c).traits ≡ own = ap (λ (k : Marker). length k.traits) it.holds.marked ∙ marker.owned in
-            entry_is slot.parent at tabs c kind (own + count) to far formed (omega (arith, count_is c, it.owned))
+            entry_is slot.parent at tabs c form (own + count) to far (says.0 ∙ sym it.holds.form) (omega (arith, count_is c, it.owned))
             (says.1 ∙ ap (marker_name at) (sym it.holds.marked))
             (omega (arith, ap length read.covers, concept_long c tabs (drop far s), length-drop at s, length-drop far s, known.stands.in_sheet.inside, it.inside))
 
@@ -366,14 +291,14 @@ module _ {said : Said} {table index s : List ℕ} {at : ℕ} {cells : List ℕ} 
 
         inside_ended : (r : Part) (last : List ℕ) → r ≡ Part.Read far (1 + made + more) 1
             → last ≡ lay left slot.next
-            (record { kind = 1; form = kind; parent = slot.parent; count = own + count; name_start = at + 1; name_end = to; start = at; end = far } ∷ [])
-            → ReadsConcept way s at tabs deeper cells slot r last
+            (record { kind = 1; form = form; parent = slot.parent; count = own + count; name_start = at + 1; name_end = to; start = at; end = far } ∷ [])
+            → ReadsConcept table s at tabs deeper cells slot r last
         inside_ended r last e l =
             makes_read _ _ _ _ _ _ _ r last c far (1 + made + more) 1 e it.inside finds (sym size) refl
             (l ∙ ap₂ (λ (x : List ℕ) (e : Entry). lay x slot.next (e ∷ [])) left_is entry ∙ lay_before cells slot.next (concept_entry slot.parent at tabs c)
             (inside_entries slot.next at tabs c))
 
-      may_end : length left ≡ length cells → Ends left slot b at to made own
+      pub may_end : length left ≡ length cells → Ends left slot b at to made own
       may_end held =
           record {
             fits = fits_on known.stands.fits held refl known.stands.fits.inside;
@@ -381,57 +306,10 @@ module _ {said : Said} {table index s : List ℕ} {at : ℕ} {cells : List ℕ} 
             named = (marker_ahead.0, omega (arith, marker_ahead.1, known.stands.in_sheet.within));
           }
 
-      -- what follows the marker ends behind it
-      behind_marker : {x : List ℕ} → NamesBefore s (end + 1) x → NamesOnward s b x
-      behind_marker n far more count g = names_end n g (it far more count g).ahead far more count g
-
-      concept_ended : {r : Part} {last : List ℕ} → r ≡ ended_by b made → last ≡ cells_ended left slot b kind at to own
-          → ReadsConcept way s at tabs deeper cells slot r last
+      pub concept_ended : {r : Part} {last : List ℕ} → r ≡ ended_by b made → last ≡ cells_ended left slot b form at to own
+          → ReadsConcept table s at tabs deeper cells slot r last
       concept_ended {r} {last} e l = go b refl e l
         where
-          go : (p : Part) → b ≡ p → r ≡ ended_by p made → last ≡ cells_ended left slot p kind at to own → ReadsConcept way s at tabs deeper cells slot r last
+          go : (p : Part) → b ≡ p → r ≡ ended_by p made → last ≡ cells_ended left slot p form at to own → ReadsConcept table s at tabs deeper cells slot r last
           go (Part.Read far more count) g e l = inside_ended far more count g r last e l
           go (Part.Refused why place) g e l = inside_refused why place g r e last
-
-    -- what follows is read, unless children follow; then these are
-    module _ (tabs : ℕ) {x : Shown} {left : List ℕ} (follows : ReadsShown said s end form tabs (at + 1) to mid next x left) where
-      module _ {b : Part} (is : x ≡ Shown.Content b) where
-        childless_body : ReadsInside way s end form tabs (at + 1) to inside.left mid next b left
-        childless_body = let q = follows.childless b is (modes_of table) in inside_childless way s end form tabs (at + 1) to mid next q.0 inside.left q.1
-
-        childless_form : form ≡ form_shown way form tabs (part s (at + 1) to) (drop end s)
-        childless_form = sym (when_false (children_follow way form tabs (part s (at + 1) to) (drop end s)) _ _ (follows.childless b is (modes_of table)).0)
-
-        pub childless_may_end : length left ≡ length cells → Ends left slot b at to made own
-        childless_may_end = may_end tabs childless_body childless_form
-
-        pub childless_ended : {r : Part} {last : List ℕ} → r ≡ ended_by b made → last ≡ cells_ended left slot b form at to own
-            → ReadsConcept way s at tabs deeper cells slot r last
-        childless_ended = concept_ended tabs childless_body childless_form
-
-        pub childless_names : {y : List ℕ} → NamesBefore s (end + 1) y → NamesOnward s b y
-        childless_names = behind_marker tabs childless_body childless_form
-
-      module _ (is : x ≡ Shown.Children) where
-        nothing_laid : left ≡ mid
-        nothing_laid = (follows.children is (modes_of table)).1
-
-        pub children_stand : length mid ≡ length cells → Ready said table index s end left next
-        children_stand held = rw nothing_laid (lent_stands held)
-
-        module _ {b : Part} {last : List ℕ} (block : ReadsBlock way s end tabs (at + 1) to inside.left left next b last) where
-          follow : children_follow way form tabs (part s (at + 1) to) (drop end s) ≡ true
-          follow = (follows.children is (modes_of table)).0
-
-          children_body : ReadsInside way s end form tabs (at + 1) to inside.left mid next b last
-          children_body = inside_children way s end form tabs (at + 1) to mid next follow inside.left (rw nothing_laid at block)
-
-          children_form : 2 ≡ form_shown way form tabs (part s (at + 1) to) (drop end s)
-          children_form = sym (when_true (children_follow way form tabs (part s (at + 1) to) (drop end s)) _ _ follow)
-
-          pub children_may_end : length last ≡ length cells → Ends last slot b at to made own
-          children_may_end = may_end tabs children_body children_form
-
-          pub children_ended : {r : Part} {done : List ℕ} → r ≡ ended_by b made → done ≡ cells_ended last slot b 2 at to own
-              → ReadsConcept way s at tabs deeper cells slot r done
-          children_ended = concept_ended tabs children_body children_form

@@ -7,7 +7,6 @@ pub mod TraitNames
 pub mod TraitRuns
 pub mod Marked
 pub mod OpeningLaws
-pub mod Closes
 pub mod ConceptLaws
 pub mod AnnotatedLaws
 pub mod BlockLaws

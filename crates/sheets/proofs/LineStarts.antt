@@ -1,14 +1,14 @@
 -- A line with "<" or LF behind its tabs: a Concept with no annotations, or a blank line. Over plain lists. Assumes nothing.
 use Prim.Native.Nat.{ℕ, ◌+◌, ◌-◌, ◌≤◌, ◌<◌}
 use mathlib.Core.Path.{◌≡◌, refl, sym, ap, ◌∙◌}
-use mathlib.Core.Bool.{Bool, true, false}
+use mathlib.Core.Bool.{true, false}
 use mathlib.Core.List.{List, [], ◌∷◌}
 use native.Mathlib.Omega.{arith}
 use lib.ListN.{length, get_or, drop}
 use lib.Dec.{eqb}
 use Rattle.paper.specs.Found.{found, taking}
 use Rattle.paper.specs.Bytes.{byte, lf, space, is_blank, is_line_end, starts_in, starts_with, length_in}
-use Rattle.paper.specs.Ways.{Way}
+use Rattle.paper.specs.Modes.{Modes}
 use Rattle.paper.specs.Entries.{annotation_entries}
 use Rattle.paper.specs.Reading.{is_tab, line_rest, is_blank_line, tabs_only, annotation_turn, annotations, annotated_of, piece_of, bounds}
 use Rattle.paper.proofs.Tests.{when_false}
@@ -21,7 +21,7 @@ use Rattle.lines.specs.Parts.{seen, passed, MakesNotes}
 use Rattle.lines.specs.declared.part.Part.{Part}
 use Rattle.lines.specs.declared.part.Part.TheVariants.{Read}
 use Rattle.lines.proofs.Ends.{starts_one, stands_one, rest_lf}
-use Rattle.lines.proofs.Blanks.{tabs_before, line_by, tabs_found}
+use Rattle.lines.proofs.Blanks.{tabs_blanks, line_by, tabs_found}
 use Rattle.lines.proofs.Crossing.{makes_read}
 use Rattle.lines.proofs.Turns.{turn_over}
 use Rattle.sheets.proofs.PieceLaws.{annotated_line, behind_tabs}
@@ -41,7 +41,8 @@ module _ {b : ℕ} {s : List ℕ} {at mark : ℕ} (line : Behind b s at mark) wh
   no_other c n = starts_one c (drop mark s) ∙ rw (here s mark stands.0, stands.1) n
 
   blanks : is_blank b ≡ false → Stretch is_blank s at mark
-  blanks n = tabs_before b s at mark line.run line.starts n
+  unfolding starts_in
+  blanks n = tabs_blanks s at mark line.run (rw (here s mark stands.0, stands.1) n)
 
   blank_by : is_blank b ≡ false → is_line_end b ≡ is_blank_line (drop at s)
   blank_by n = sym (ap is_line_end stands.1) ∙ line_by s at mark (blanks n) stands.0
@@ -67,17 +68,17 @@ module _ {s : List ℕ} {at mark : ℕ} (line : Behind (byte "<") s at mark) whe
   only_tabs =
       tabs_found s at mark (blanks line refl) (λ e. let inside = (stands line).0 in omega arith) mark line.run _ refl (no_other line space refl)
 
-  pub mark_piece : (way : Way) (will : ℕ → Bool) (deeper room : ℕ)
-      → piece_of way bounds will deeper room (drop at s) ≡ annotated_line (annotated_of way bounds will deeper room (drop at s))
-  mark_piece way will deeper room =
-      when_false (is_blank_line (drop at s)) _ _ not_blank ∙ ap (behind_tabs (annotated_of way bounds will deeper room (drop at s))) only_tabs
+  pub mark_piece : (m : Modes) (deeper room : ℕ)
+      → piece_of m bounds deeper room (drop at s) ≡ annotated_line (annotated_of m bounds deeper room (drop at s))
+  mark_piece m deeper room =
+      when_false (is_blank_line (drop at s)) _ _ not_blank ∙ ap (behind_tabs (annotated_of m bounds deeper room (drop at s))) only_tabs
 
 -- another byte than "[": no annotations
 pub notes_none : {s : List ℕ} {at mark : ℕ} → Stretch is_tab s at mark → starts_with (byte "[" ∷ []) (drop mark s) ≡ false
-    → (will : ℕ → Bool) (cells : List ℕ) (slot : Slot) → at ≤ length s → (r : Part) → r ≡ Read at 0 0 → MakesNotes will s at cells slot r cells
+    → (cells : List ℕ) (slot : Slot) → at ≤ length s → (r : Part) → r ≡ Read at 0 0 → MakesNotes s at cells slot r cells
 unfolding annotation_turn annotation_entries
-notes_none {s} {at} {mark} run none will cells slot h r q =
-    let over : annotations will (slot.room - slot.next) (drop at s) ≡ found [] (drop at s) =
-    turn_over (taking (λ a. 1)) (annotation_turn will) (annotation_shorter will) (slot.room - slot.next) (drop at s) (drop at s)
+notes_none {s} {at} {mark} run none cells slot h r q =
+    let over : annotations (slot.room - slot.next) (drop at s) ≡ found [] (drop at s) =
+    turn_over (taking (λ a. 1)) annotation_turn annotation_shorter (slot.room - slot.next) (drop at s) (drop at s)
     (rw (behind_at is_tab s at mark run, annotation_turn, none)) in
     makes_read _ _ _ _ _ _ _ r cells [] at 0 0 q h over refl refl (sym (lay_none cells slot.next))

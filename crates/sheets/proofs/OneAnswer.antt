@@ -5,7 +5,6 @@ use mathlib.Core.Path.{◌≡◌, sym, ap, ◌∙◌}
 use mathlib.Core.List.{List}
 use mathlib.Core.Logic.{◌↔◌}
 use lib.ListN.{length}
-use Rattle.paper.specs.Ways.{Given}
 use Rattle.paper.specs.Entries.{Entry, filled}
 use Rattle.paper.specs.Reading.{Reading}
 use Rattle.paper.specs.declared.Answer.{Answer}
@@ -14,9 +13,9 @@ use Rattle.paper.proofs.Told.{told_injective}
 use Rattle.paper.proofs.Exactly.{Exactly, accepted_exactly}
 use Rattle.sheets.specs.Promises.{ReadsSheet, Views, ViewAnswers}
 
-pub one_answer_sheets_read : (given : Given) (sheet : List ℕ) (lent : ℕ) (r r' : Answer) (cells cells' : List ℕ) → ReadsSheet given sheet lent r cells
-    → ReadsSheet given sheet lent r' cells' → (r ≡ r') × (cells ≡ cells')
-one_answer_sheets_read given sheet lent r r' cells cells' e e' =
+pub one_answer_sheets_read : (table sheet : List ℕ) (lent : ℕ) (r r' : Answer) (cells cells' : List ℕ) → ReadsSheet table sheet lent r cells
+    → ReadsSheet table sheet lent r' cells' → (r ≡ r') × (cells ≡ cells')
+one_answer_sheets_read table sheet lent r r' cells cells' e e' =
     let q = e ∙ sym e' in
     (told_injective r r' (ap (λ (x : Reading). x.answer) q), ap (λ (x : Reading). x.cells) q)
 
@@ -26,15 +25,15 @@ one_answer_sheets_view sheet cells n r r' e e' = e ∙ sym e'
 pub one_answer_sheets_view_answer : (sheet cells : List ℕ) (n : ℕ) (r r' : Answer) → ViewAnswers sheet cells n r → ViewAnswers sheet cells n r' → r ≡ r'
 one_answer_sheets_view_answer sheet cells n r r' e e' = told_injective r r' (e ∙ sym e')
 
--- `read` accepts with these entries exactly when what is given is valid, a tree derives the sheet within the limits, and its entries are these and fit
-pub read_accepts_exactly : (given : Given) (sheet : List ℕ) (lent : ℕ) (r : Answer) (cells : List ℕ) → ReadsSheet given sheet lent r cells → (es : List Entry)
-    → ((r ≡ Accepted (length sheet) (length es)) × (cells ≡ filled lent es)) ↔ Exactly given sheet lent es
-read_accepts_exactly given sheet lent r cells e es = (forth, back)
+-- `read` accepts with these entries exactly when the table is valid, a tree derives the sheet within the limits, and its entries are these and fit
+pub read_accepts_exactly : (table sheet : List ℕ) (lent : ℕ) (r : Answer) (cells : List ℕ) → ReadsSheet table sheet lent r cells → (es : List Entry)
+    → ((r ≡ Accepted (length sheet) (length es)) × (cells ≡ filled lent es)) ↔ Exactly table sheet lent es
+read_accepts_exactly table sheet lent r cells e es = (forth, back)
   where
-    forth : (r ≡ Accepted (length sheet) (length es)) × (cells ≡ filled lent es) → Exactly given sheet lent es
-    forth h = (accepted_exactly given sheet lent es).0 (sym e ∙ rw (h.0, h.1))
+    forth : (r ≡ Accepted (length sheet) (length es)) × (cells ≡ filled lent es) → Exactly table sheet lent es
+    forth h = (accepted_exactly table sheet lent es).0 (sym e ∙ rw (h.0, h.1))
 
-    back : Exactly given sheet lent es → (r ≡ Accepted (length sheet) (length es)) × (cells ≡ filled lent es)
+    back : Exactly table sheet lent es → (r ≡ Accepted (length sheet) (length es)) × (cells ≡ filled lent es)
     back x =
-        let q = e ∙ (accepted_exactly given sheet lent es).1 x in
+        let q = e ∙ (accepted_exactly table sheet lent es).1 x in
         (told_injective r (Accepted (length sheet) (length es)) (ap (λ (x : Reading). x.answer) q), ap (λ (x : Reading). x.cells) q)

@@ -16,16 +16,16 @@ use Rattle.paper.specs.Answer.{number_of}
 use Rattle.paper.specs.Found.{Found, found, fault, and_then}
 use Rattle.paper.specs.Bytes.{byte, is_white, front, behind}
 use Rattle.paper.specs.Names.{is_concept_name}
-use Rattle.paper.specs.Ways.{Way, by_table, by_layout}
+use Rattle.paper.specs.Modes.{Modes, mode_of}
 use Rattle.paper.specs.Tree.{Trait, Marker, Ending as Ends, block, self}
 use Rattle.paper.specs.Entries.{Entry, traits_size, trait_entries}
-use Rattle.paper.specs.Grammar.{in_mode, unlisted}
+use Rattle.paper.specs.Grammar.{in_mode}
 use Rattle.paper.specs.Reading.{due, name, makes, no_trait, ending, Opened as Marked, opened, admitted, head, named, bounds}
 use Rattle.paper.proofs.Finds.{Reads}
 use Rattle.paper.proofs.Lines.{makes_complete}
 use Rattle.paper.proofs.Markers.{ReadTraits, traits_reads, ending_reads, ReadOpened, opened_reads}
 use Rattle.paper.proofs.Concepts.{ReadHead, head_reads}
-use Rattle.modes.specs.Ways.{mode_by}
+use Rattle.modes.specs.Table.{modes_of}
 use Rattle.text.proofs.Stretch.{Stretch, behind_at}
 use Rattle.entries.specs.Laid.{lay, slot_under, Fits}
 use Rattle.entries.specs.declared.Slot.{Slot}
@@ -244,21 +244,15 @@ marker_names {s} {mark} lies h a says e {last} g q stop more mine p =
 
 -- ---- a name that is judged by nesting, table and room
 
--- a name that may stand, and the form of its blocks; and one that may not
-pub in_children : (way : Way) (w : List ℕ) → Children ≡ mode_by way w → {form : ℕ} → form ≡ 2 → (unlisted way w ≡ false) × (block_form way w ≡ form)
-unfolding in_mode
-in_children (by_table m) w e f = (rw (sym e, in_mode), rw (sym e, block_form, in_mode, f))
-in_children by_layout w e f = let z : ◌≡◌ {A = ℕ} 0 1 = cc in absurd (omega arith)
+-- a name that the table lists, and the form of its blocks
+module _ (m : Modes) (w : List ℕ) where
+  pub in_children : Children ≡ mode_of m w → {form : ℕ} → form ≡ 2 → (in_mode Absent m w ≡ false) × (block_form m w ≡ form)
+  unfolding in_mode
+  in_children e f = (rw (sym e, in_mode), rw (sym e, block_form, in_mode, f))
 
-pub in_content : (way : Way) (w : List ℕ) → Content ≡ mode_by way w → {form : ℕ} → form ≡ 3 → (unlisted way w ≡ false) × (block_form way w ≡ form)
-unfolding in_mode
-in_content (by_table m) w e f = (rw (sym e, in_mode), rw (sym e, block_form, in_mode, f))
-in_content by_layout w e f = (refl, sym f)
-
-not_there : (way : Way) (w : List ℕ) → Absent ≡ mode_by way w → unlisted way w ≡ true
-unfolding in_mode
-not_there (by_table m) w e = rw (sym e, in_mode)
-not_there by_layout w e = let z : ◌≡◌ {A = ℕ} 0 1 = cc in absurd (omega arith)
+  pub in_content : Content ≡ mode_of m w → {form : ℕ} → form ≡ 3 → (in_mode Absent m w ≡ false) × (block_form m w ≡ form)
+  unfolding in_mode
+  in_content e f = (rw (sym e, in_mode), rw (sym e, block_form, in_mode, f))
 
 -- a marker that is found behind a name has that name
 held_named : (room : ℕ) (at w left : List ℕ) (o : Marked) (end : List ℕ) → held_of room at w left ≡ found o end → o.marker.name ≡ w
@@ -267,38 +261,39 @@ held_named zero at w left o end e = let z : ◌≡◌ {A = ℕ} 0 1 = cc in absu
 held_named (suc room) at w left o end e =
     (subst (Reads left (λ o rest. ReadOpened bounds (suc room - 1) w left o rest)) e (opened_reads bounds (suc room - 1) w left)).1.named
 
-module _ (way : Way) {s : List ℕ} {at to : ℕ} (place : In s to) (ahead : at < to) {cells : List ℕ} {slot : Slot} (fits : Fits cells slot)
+module _ (table : List ℕ) {s : List ℕ} {at to : ℕ} (place : In s to) (ahead : at < to) {cells : List ℕ} {slot : Slot} (fits : Fits cells slot)
     (deeper : ℕ) where
   abbrev w : List ℕ
   w = part s (at + 1) to
 
   abbrev Names : Opening → List ℕ → Type 0
-  Names r after = ReadsNamed way s at to deeper cells slot r after
+  Names r after = ReadsNamed table s at to deeper cells slot r after
 
   pub too_deep : deeper ≡ 0 → {r : Opening} → r ≡ Refused TooDeep at → Names r cells
   unfolding admitted
   too_deep d {r} q = opens_fault _ _ _ _ _ _ _ r cells TooDeep at q (omega (arith, place.inside)) (rw d)
 
   module _ {inside : Nesting} (d : deeper ≡ suc inside.left) where
-    pub not_listed : Absent ≡ mode_by way w → {r : Opening} → r ≡ Refused Unlisted (at + 1) → Names r cells
-    unfolding admitted
-    not_listed e {r} q =
-        opens_fault _ _ _ _ _ _ _ r cells Unlisted (at + 1) q (omega (arith, place.inside)) (rw (d, admitted, not_there way w e, drop-drop 1 at s))
+    pub unlisted : Absent ≡ mode_of (modes_of table) w → {r : Opening} → r ≡ Refused Unlisted (at + 1) → Names r cells
+    unfolding admitted in_mode
+    unlisted e {r} q =
+        let i : in_mode Absent (modes_of table) w ≡ true = rw (sym e, in_mode) in
+        opens_fault _ _ _ _ _ _ _ r cells Unlisted (at + 1) q (omega (arith, place.inside)) (rw (d, admitted, i, drop-drop 1 at s))
 
-    pub listed : {form : ℕ} → (unlisted way w ≡ false) × (block_form way w ≡ form) → {r : Opening} {after : List ℕ}
+    pub listed : {form : ℕ} → (in_mode Absent (modes_of table) w ≡ false) × (block_form (modes_of table) w ≡ form) → {r : Opening} {after : List ℕ}
         → ReadsMarker s (at + 1) to form (suc inside.left) cells slot r after → Names r after
     unfolding admitted
     listed {form} i {r} {after} h =
         let room = slot.room - slot.next in
-        let is : named way bounds deeper room (drop at s) w (drop to s) ≡ held_of room (drop (at + 1) s) w (drop to s) =
+        let is : named (modes_of table) bounds deeper room (drop at s) w (drop to s) ≡ held_of room (drop (at + 1) s) w (drop to s) =
         rw (d, admitted, i.0, drop-drop 1 at s) in
         record {
           makes = rw is h.makes;
           says = λ kind stop end made own within q o left e.
               let f = sym is ∙ e in
               let x = h.says kind stop end made own within q o left f in
-              let n : block_form way o.marker.name ≡ form =
-              ap (block_form way) (held_named room (drop (at + 1) s) w (drop to s) o left f) ∙ i.1 in
+              let n : block_form (modes_of table) o.marker.name ≡ form =
+              ap (block_form (modes_of table)) (held_named room (drop (at + 1) s) w (drop to s) o left f) ∙ i.1 in
               (x.0 ∙ ap (λ (k : ℕ). form_in k o.ends) (sym n), x.1, x.2 ∙ sym d);
         }
 
@@ -338,14 +333,14 @@ module _ {s : List ℕ} {at : ℕ} (place : In s at) (a : Part) (says : seen a �
     pub name_ends : In s to × (at < to)
     name_ends = (record { within = place.within; inside = begun.inside }, omega (arith, long))
 
-  module _ (way : Way) {cells : List ℕ} {slot : Slot} (fits : Fits cells slot) (deeper : ℕ) where
+  module _ (table : List ℕ) {cells : List ℕ} {slot : Slot} (fits : Fits cells slot) (deeper : ℕ) where
     pub head_refused : {why : Refusal} {place : ℕ} → a ≡ Part.Refused why place → {r : Opening} → r ≡ Refused why place
-        → ReadsOpening way s at deeper cells slot r cells
+        → ReadsOpening table s at deeper cells slot r cells
     head_refused {why} {place} p {r} q =
-        opens_passed _ _ _ _ _ _ _ r cells (λ w. 0) (λ w. 0) (λ y. and_then y (named way bounds deeper (slot.room - slot.next) (drop at s)))
+        opens_passed _ _ _ _ _ _ _ r cells (λ w. 0) (λ w. 0) (λ y. and_then y (named (modes_of table) bounds deeper (slot.room - slot.next) (drop at s)))
         (λ n left. refl)
         (head bounds (drop at s)) a why place says p q refl
 
     pub head_read : {to made own : ℕ} → a ≡ Read to made own → {r : Opening} {after : List ℕ}
-        → ReadsNamed way s at to deeper cells slot r after → ReadsOpening way s at deeper cells slot r after
+        → ReadsNamed table s at to deeper cells slot r after → ReadsOpening table s at deeper cells slot r after
     head_read {to} p k = rw ((begun p).finds, ← part_is s (begun p).it (drop to s) (at + 1) to (covers p) (long p)) k

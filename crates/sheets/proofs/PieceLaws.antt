@@ -1,39 +1,39 @@
 -- A piece of a body, and the run of them: a law for each way out of `read_piece`, and for a turn and the ends of the loop
 -- in `read_children` (src/concepts.rt). Over plain lists. Assumes nothing.
-use Prim.Native.Nat.{ℕ, suc, ◌+◌, ◌-◌, ◌≤◌, ◌<◌}
-use mathlib.Core.Path.{◌≡◌, refl, sym, ap, subst, ◌∙◌}
+use Prim.Native.Nat.{ℕ, ◌+◌, ◌-◌, ◌≤◌, ◌<◌}
+use mathlib.Core.Path.{◌≡◌, refl, sym, ap, ◌∙◌}
 use mathlib.Core.Bool.{Bool, true, false}
 use mathlib.Core.List.{List, [], ◌∷◌, ◌++◌, append-nil}
 use native.Mathlib.Nat.{zero-add, add-zero}
 use native.Mathlib.Omega.{arith}
 use lib.ListN.{length, drop, length-drop}
 use Rattle.paper.specs.declared.Refusal.{Refusal}
-use Rattle.paper.specs.declared.Refusal.TheVariants.{Due}
 use Rattle.paper.specs.Found.{Found, found, fault, and_then}
-use Rattle.paper.specs.Bytes.{length_in, behind}
-use Rattle.paper.specs.Ways.{Way, tabs_do}
+use Rattle.paper.specs.Bytes.{bytes, behind, starts_with}
+use Rattle.paper.specs.Modes.{Modes}
 use Rattle.paper.specs.Tree.{Blank, Body, done, Annotated, BodyPiece, blank_piece, element_piece, before}
 use Rattle.paper.specs.Grammar.{annotations_onto, body_onto}
 use Rattle.paper.specs.Entries.{Entry, annotation_entries, concept_entry, inside_entries, concept_size, body_size, body_count, body_entries}
-use Rattle.paper.specs.Reading.{line_rest, is_blank_line, is_tab, tabs_only, closes_body, body_of, annotated_of, piece_of, bounds}
+use Rattle.paper.specs.Reading.{line_rest, is_blank_line, is_tab, tabs_only, is_closing, body_of, annotated_of, piece_of, bounds}
 use Rattle.paper.proofs.Tests.{when_true, when_false}
 use Rattle.paper.proofs.Lines.{only_reads}
 use Rattle.paper.proofs.Concepts.{annotated_reads, ReadPiece, piece_reads}
 use Rattle.paper.proofs.Sizes.{body_size_lem}
+use Rattle.modes.specs.Table.{modes_of}
 use Rattle.entries.specs.Laid.{lay, slot_after}
 use Rattle.entries.specs.declared.Slot.{Slot}
 use Rattle.entries.proofs.Laying.{lay_none}
 use Rattle.text.proofs.Stretch.{Stretch, behind_at}
-use Rattle.lines.specs.Parts.{seen, seen_of, passed, Makes, In}
+use Rattle.lines.specs.Parts.{seen, seen_of, passed, Makes}
 use Rattle.lines.specs.declared.part.Part.{Part}
 use Rattle.lines.specs.declared.part.Part.TheVariants.{Read, Refused}
-use Rattle.lines.proofs.Crossing.{further, says_read, FoundAt, found_at_lem, passed_on, seen_same, makes_refused, makes_passed, makes_read, makes_same}
+use Rattle.lines.proofs.Crossing.{further, says_read, FoundAt, found_at_lem, passed_on, seen_same, makes_passed, makes_read, makes_same}
 use Rattle.lines.proofs.Ends.{rest_at}
 use Rattle.lines.proofs.Turns.{makes_behind}
-use Rattle.sheets.specs.Concepts.{annotated_size, annotated_count, annotated_entries, ReadsAnnotated, ReadsChildren, piece_size, piece_count, piece_entries}
+use Rattle.sheets.specs.Concepts.{Ready, annotated_size, annotated_count, annotated_entries, ReadsAnnotated, ReadsChildren, piece_size, piece_count, piece_entries}
 use Rattle.sheets.specs.Concepts.{ReadsPiece, EndsIn, line_ended, up_to_mark}
 use Rattle.sheets.proofs.Lengths.{body_long, body_few}
-use Rattle.sheets.proofs.Bodies.{before_size, before_count, before_entries, onward, body_over, body_misplaced, body_on}
+use Rattle.sheets.proofs.Bodies.{before_size, before_count, before_entries, onward, body_over, body_on}
 
 -- ---- what was read, and the rest of its line
 
@@ -52,9 +52,9 @@ module _ (s : List ℕ) {part : Part} {end made own : ℕ} (q : part ≡ Read en
 -- ---- a piece at a place
 
 -- a Concept with its annotations that is read to an end, and entered; the rest of its line is due there
-pub record ConceptAt (way : Way) (will : ℕ → Bool) (s : List ℕ) (at deeper : ℕ) (cells : List ℕ) (slot : Slot) (after : List ℕ) (end made own : ℕ) : Type 0 where
+pub record ConceptAt (table s : List ℕ) (at deeper : ℕ) (cells : List ℕ) (slot : Slot) (after : List ℕ) (end made own : ℕ) : Type 0 where
   pub it : Annotated
-  pub finds : piece_of way bounds will deeper (slot.room - slot.next) (drop at s) ≡ and_then (line_rest (drop end s))
+  pub finds : piece_of (modes_of table) bounds deeper (slot.room - slot.next) (drop at s) ≡ and_then (line_rest (drop end s))
       (λ rest left. found (element_piece it rest) left)
   pub many : annotated_size it ≡ made
   pub owned : annotated_count it ≡ own
@@ -62,8 +62,8 @@ pub record ConceptAt (way : Way) (will : ℕ → Bool) (s : List ℕ) (at deeper
   pub laid : after ≡ lay cells slot.next (annotated_entries slot.parent slot.next at it)
 
 -- whatever is found in the rest of its line
-module _ {way : Way} {will : ℕ → Bool} {s : List ℕ} {at deeper : ℕ} {cells : List ℕ} {slot : Slot} {after : List ℕ} {end made own : ℕ}
-    (concept : ConceptAt way will s at deeper cells slot after end made own) where
+module _ {table s : List ℕ} {at deeper : ℕ} {cells : List ℕ} {slot : Slot} {after : List ℕ} {end made own : ℕ}
+    (concept : ConceptAt table s at deeper cells slot after end made own) where
   abbrev ended : Blank → BodyPiece
   ended rest = element_piece concept.it rest
 
@@ -79,7 +79,7 @@ module _ {way : Way} {will : ℕ → Bool} {s : List ℕ} {at deeper : ℕ} {cel
       (append-nil (inside_entries (slot.next + length a.notes) start a.tabs a.concept))
       ∙ sym (append-nil entries)
 
-  piece_ended : (last : Part) → seen last ≡ seen_of (λ rest. made) (λ rest. own) s (line_rest (drop end s)) → ReadsPiece way will s at deeper cells slot last after
+  piece_ended : (last : Part) → seen last ≡ seen_of (λ rest. made) (λ rest. own) s (line_rest (drop end s)) → ReadsPiece table s at deeper cells slot last after
   unfolding concept_size body_count
   piece_ended last e =
       makes_behind ended piece_size piece_count (piece_entries slot.parent slot.next at) (λ rest. []) entries s cells after slot.next
@@ -97,18 +97,18 @@ annotated_line x = and_then x (λ a left. and_then (line_rest left) (λ rest end
 abbrev pub behind_tabs : Found Annotated → Found ℕ → Found BodyPiece
 behind_tabs x tabs = and_then tabs (λ n mark. annotated_line x)
 
-module _ (way : Way) (will : ℕ → Bool) {s : List ℕ} {at : ℕ} (place : In s at) (cells : List ℕ) (slot : Slot) (deeper : ℕ) where
+module _ {table index s : List ℕ} {at : ℕ} {cells : List ℕ} {slot : Slot} (h : Ready table index s at cells slot) (deeper : ℕ) where
   abbrev room : ℕ
   room = slot.room - slot.next
 
   abbrev Piece : Part → List ℕ → Type 0
-  Piece r after = ReadsPiece way will s at deeper cells slot r after
+  Piece r after = ReadsPiece table s at deeper cells slot r after
 
   abbrev sought : Found BodyPiece
-  sought = piece_of way bounds will deeper room (drop at s)
+  sought = piece_of (modes_of table) bounds deeper room (drop at s)
 
   abbrev noted : Found Annotated
-  noted = annotated_of way bounds will deeper room (drop at s)
+  noted = annotated_of (modes_of table) bounds deeper room (drop at s)
 
   module _ {o : Bool} (asked : o ≡ is_blank_line (drop at s)) where
     pub blank_made : o ≡ true → (r : Part) → seen r ≡ passed s (line_rest (drop at s)) → Piece r cells
@@ -133,14 +133,14 @@ module _ (way : Way) (will : ℕ → Bool) {s : List ℕ} {at : ℕ} (place : In
       tabs_passed {line} {none} {no} passes =
           let t =
           found_at_lem (λ n. 0) (λ n. 0) s tabs (λ n mark. mark ≡ behind is_tab (drop at s)) at (tabs_only (drop at s)) line none no told (only_reads (drop at s))
-          place.inside passes in
+          h.in_sheet.inside passes in
           by_tabs ∙ ap (behind_tabs noted) t.finds
 
-  module _ (by : sought ≡ annotated_line noted) {r : Part} {after : List ℕ} (one : ReadsAnnotated way will s at deeper cells slot r after) where
-    concept_at : {end made own : ℕ} → r ≡ Read end made own → ConceptAt way will s at deeper cells slot after end made own
+  module _ (by : sought ≡ annotated_line noted) {r : Part} {after : List ℕ} (one : ReadsAnnotated table s at deeper cells slot r after) where
+    concept_at : {end made own : ℕ} → r ≡ Read end made own → ConceptAt table s at deeper cells slot after end made own
     concept_at {end} {made} {own} q =
         let f = found_at_lem annotated_size annotated_count s r _ at noted end made own one.says
-        (annotated_reads way bounds will deeper room (drop at s)) place.inside q in
+        (annotated_reads (modes_of table) bounds deeper room (drop at s)) h.in_sheet.inside q in
         record {
           it = f.it;
           finds = by ∙ ap annotated_line f.finds;
@@ -163,24 +163,13 @@ module _ (way : Way) (will : ℕ → Bool) {s : List ℕ} {at : ℕ} (place : In
             makes_passed _ _ _ _ _ _ _ r after annotated_size annotated_count annotated_line (λ n left. refl) noted why place one.says q by in
             record { says = k ∙ sym (ap seen q) ∙ m.says; laid = m.laid }
 
--- ---- what is due at so many tabs, in the body of a marker
-
-pub will_due : (way : Way) (tabs n : ℕ) (will : ℕ → Bool) {w : Bool} → w ≡ will n → will ≡ tabs_do way tabs → w ≡ tabs_do way tabs n
-will_due way tabs n will e d = e ∙ ap (λ (f : ℕ → Bool). f n) d
-
-pub piece_due : (way : Way) (tabs : ℕ) (will : ℕ → Bool) → will ≡ tabs_do way (tabs + 1) → (s : List ℕ) (at deeper : ℕ) (cells : List ℕ) (slot : Slot) {r : Part} {after : List ℕ}
-    → ReadsPiece way will s at deeper cells slot r after → ReadsPiece way (tabs_do way (suc tabs)) s at deeper cells slot r after
-piece_due way tabs will e s at deeper cells slot {r} {after} k =
-    let next : tabs + 1 ≡ suc tabs = omega arith in
-    subst (λ f. ReadsPiece way f s at deeper cells slot r after) (e ∙ ap (tabs_do way) next) k
-
 -- ---- the pieces of a body, one after another
 
 -- the body from i on, where so many entries are made already
-abbrev Rest : Way → ℕ → ℕ → List ℕ → Slot → List ℕ → ℕ → ℕ → ℕ → Part → List ℕ → Type 0
-Rest way tabs deeper s slot cells i made own r after =
+abbrev Rest : Modes → ℕ → List ℕ → Slot → List ℕ → ℕ → ℕ → ℕ → Part → List ℕ → Type 0
+Rest m deeper s slot cells i made own r after =
     Makes (λ b. made + body_size b) (λ b. own + body_count b) (body_entries slot.parent (slot.next + made) i) s cells (slot.next + made)
-    (up_to_mark (body_of way bounds deeper (slot.room - (slot.next + made)) tabs (drop i s))) r after
+    (up_to_mark (body_of m bounds deeper (slot.room - (slot.next + made)) (drop i s))) r after
 
 -- something made of a body that is read up to a mark
 marked_map : (f : Body → Body) (x : Found Body) → up_to_mark (and_then x (λ b left. found (f b) left)) ≡ and_then (up_to_mark x) (λ b left. found (f b) left)
@@ -188,17 +177,17 @@ marked_map f (found b left) = refl
 marked_map f (fault n left) = refl
 
 -- what the turns so far leave
-pub record Pieces (way : Way) (s : List ℕ) (at tabs deeper : ℕ) (lent : List ℕ) (slot : Slot) (cells : List ℕ) (i made own : ℕ) : Type 0 where
+pub record Pieces (table s : List ℕ) (at deeper : ℕ) (lent : List ℕ) (slot : Slot) (cells : List ℕ) (i made own : ℕ) : Type 0 where
   pub ahead : at ≤ i
   pub inside : i ≤ length s
   pub few : slot.next + made ≤ slot.room
   pub fewer : own ≤ made
   pub held : length cells ≡ length lent
-  pub goes_on : (r : Part) (after : List ℕ) → Rest way tabs deeper s slot cells i made own r after → ReadsChildren way s at tabs deeper lent slot r after
+  pub goes_on : (r : Part) (after : List ℕ) → Rest (modes_of table) deeper s slot cells i made own r after → ReadsChildren table s at deeper lent slot r after
 
-pub pieces_begin : (way : Way) (s : List ℕ) (at tabs deeper : ℕ) (cells : List ℕ) (slot : Slot) → at ≤ length s → slot.next ≤ slot.room
-    → Pieces way s at tabs deeper cells slot cells at 0 0
-pieces_begin way s at tabs deeper cells slot h f = record {
+pub pieces_begin : (table s : List ℕ) (at deeper : ℕ) (cells : List ℕ) (slot : Slot) → at ≤ length s → slot.next ≤ slot.room
+    → Pieces table s at deeper cells slot cells at 0 0
+pieces_begin table s at deeper cells slot h f = record {
   ahead = omega arith;
   inside = h;
   few = omega arith;
@@ -206,62 +195,57 @@ pieces_begin way s at tabs deeper cells slot h f = record {
   held = refl;
   goes_on = λ r after k.
       makes_same (λ b. 0 + body_size b) (λ b. 0 + body_count b) body_size body_count (body_entries slot.parent slot.next at) s cells slot.next
-      (up_to_mark (body_of way bounds deeper (slot.room - slot.next) tabs (drop at s))) r after
+      (up_to_mark (body_of (modes_of table) bounds deeper (slot.room - slot.next) (drop at s))) r after
       (λ b. zero-add (body_size b)) (λ b. zero-add (body_count b)) (rw (add-zero slot.next) at k);
 }
 
-module _ {way : Way} {s : List ℕ} {at tabs deeper : ℕ} {lent : List ℕ} {slot : Slot} {cells : List ℕ} {i made own : ℕ}
-    (so_far : Pieces way s at tabs deeper lent slot cells i made own)
-    {mark : ℕ} (run : Stretch is_tab s i mark) {o : Bool} (asked : o ≡ closes_body way tabs (drop i s)) where
+module _ {table s : List ℕ} {at deeper : ℕ} {lent : List ℕ} {slot : Slot} {cells : List ℕ} {i made own : ℕ}
+    (so_far : Pieces table s at deeper lent slot cells i made own)
+    {mark : ℕ} (run : Stretch is_tab s i mark) {o : Bool} (asked : o ≡ starts_with (bytes "</") (drop mark s)) where
+  abbrev m : Modes
+  m = modes_of table
+
   abbrev left : ℕ
   left = slot.room - (slot.next + made)
 
   abbrev reading : Found Body
-  reading = body_of way bounds deeper left tabs (drop i s)
+  reading = body_of m bounds deeper left (drop i s)
 
-  -- a line that closes the body, at tabs that will do, or at others
-  module _ (t : o ≡ true) {w : Bool} (will : w ≡ tabs_do way tabs (mark - i)) where
-    told : (b : Bool) → w ≡ b → tabs_do way tabs (length_in is_tab (drop i s)) ≡ b
-    told b e = let n : length_in is_tab (drop i s) ≡ mark - i = omega (arith, run.0) in ap (tabs_do way tabs) n ∙ sym will ∙ e
+  closing_line : is_closing (drop i s) ≡ o
+  closing_line = ap (starts_with (bytes "</")) (behind_at is_tab s i mark run) ∙ sym asked
 
-    pub pieces_over : w ≡ true → ReadsChildren way s at tabs deeper lent slot (Read mark made own) cells
-    unfolding concept_size body_count inside_entries
-    pieces_over e =
-        so_far.goes_on (Read mark made own) cells
-        (makes_read _ _ _ _ _ _ (up_to_mark reading) (Read mark made own) cells done mark made own refl run.2
-        (ap up_to_mark (body_over way deeper left tabs (drop i s) (sym asked ∙ t) (told true e)) ∙ ap (found done) (behind_at is_tab s i mark run))
-        (sym (add-zero made)) (sym (add-zero own)) (sym (lay_none cells (slot.next + made))))
-
-    pub pieces_misplaced : w ≡ false → {r : Part} → r ≡ Refused Due mark → ReadsChildren way s at tabs deeper lent slot r cells
-    pieces_misplaced e {r} q =
-        so_far.goes_on r cells
-        (makes_refused _ _ _ _ _ _ (up_to_mark reading) r cells Due mark q run.2
-        (ap up_to_mark (body_misplaced way deeper left tabs (drop i s) (sym asked ∙ t) (told false e)) ∙ ap (fault 7) (behind_at is_tab s i mark run)))
+  pub pieces_over : o ≡ true → ReadsChildren table s at deeper lent slot (Read mark made own) cells
+  unfolding concept_size body_count inside_entries
+  pieces_over t =
+      so_far.goes_on (Read mark made own) cells
+      (makes_read _ _ _ _ _ _ (up_to_mark reading) (Read mark made own) cells done mark made own refl run.2
+      (ap up_to_mark (body_over m deeper left (drop i s) (closing_line ∙ t)) ∙ ap (found done) (behind_at is_tab s i mark run))
+      (sym (add-zero made)) (sym (add-zero own)) (sym (lay_none cells (slot.next + made))))
 
   module _ (f : o ≡ false) where
-    by_piece : reading ≡ and_then (piece_of way bounds (tabs_do way (suc tabs)) deeper left (drop i s)) (onward way deeper left tabs)
-    by_piece = body_on way deeper left tabs (drop i s) (sym asked ∙ f)
+    by_piece : reading ≡ and_then (piece_of m bounds deeper left (drop i s)) (onward m deeper left)
+    by_piece = body_on m deeper left (drop i s) (closing_line ∙ f)
 
     -- one more
-    module _ {next : Slot} (lends : next ≡ slot_after slot made) {r : Part} {after : List ℕ} (one : ReadsPiece way (tabs_do way (suc tabs)) s i deeper cells next r after) where
+    module _ {next : Slot} (lends : next ≡ slot_after slot made) {r : Part} {after : List ℕ} (one : ReadsPiece table s i deeper cells next r after) where
       abbrev start : ℕ
       start = slot.next + made
 
-      found_one : Makes piece_size piece_count (piece_entries slot.parent start i) s cells start (piece_of way bounds (tabs_do way (suc tabs)) deeper left (drop i s)) r after
+      found_one : Makes piece_size piece_count (piece_entries slot.parent start i) s cells start (piece_of m bounds deeper left (drop i s)) r after
       found_one = rw lends at one
 
-      pub pieces_refused : {why : Refusal} {place : ℕ} → r ≡ Refused why place → ReadsChildren way s at tabs deeper lent slot r after
+      pub pieces_refused : {why : Refusal} {place : ℕ} → r ≡ Refused why place → ReadsChildren table s at deeper lent slot r after
       pieces_refused {why} {place} q =
           so_far.goes_on r after
-          (makes_passed _ _ _ _ _ _ (up_to_mark reading) r after piece_size piece_count (λ x. up_to_mark (and_then x (onward way deeper left tabs))) (λ k rest. refl)
-          (piece_of way bounds (tabs_do way (suc tabs)) deeper left (drop i s)) why place found_one.says q (ap up_to_mark by_piece))
+          (makes_passed _ _ _ _ _ _ (up_to_mark reading) r after piece_size piece_count (λ x. up_to_mark (and_then x (onward m deeper left))) (λ k rest. refl)
+          (piece_of m bounds deeper left (drop i s)) why place found_one.says q (ap up_to_mark by_piece))
 
       module _ {end more mine : ℕ} (q : r ≡ Read end more mine) where
-        piece : FoundAt piece_size piece_count (λ p rest. ReadPiece way bounds deeper left (suc tabs) (drop i s) p rest) s i
-            (piece_of way bounds (tabs_do way (suc tabs)) deeper left (drop i s)) end more mine
+        piece : FoundAt piece_size piece_count (λ p rest. ReadPiece m bounds deeper left (drop i s) p rest) s i
+            (piece_of m bounds deeper left (drop i s)) end more mine
         piece =
-            found_at_lem piece_size piece_count s r _ i (piece_of way bounds (tabs_do way (suc tabs)) deeper left (drop i s)) end more mine found_one.says
-            (piece_reads way bounds deeper left (suc tabs) (drop i s)) so_far.inside q
+            found_at_lem piece_size piece_count s r _ i (piece_of m bounds deeper left (drop i s)) end more mine found_one.says
+            (piece_reads m bounds deeper left (drop i s)) so_far.inside q
 
         pub piece_ahead : (i < end) × (end ≤ length s) × (start + more ≤ slot.room) × (mine ≤ more)
         piece_ahead = (
@@ -292,12 +276,12 @@ module _ {way : Way} {s : List ℕ} {at tabs deeper : ℕ} {lent : List ℕ} {sl
             (sym (body_size_lem (before piece.it done) slot.parent start i))
             ∙ ap (λ (k : ℕ). first ++ body_entries slot.parent (start + length first) k b) ends
 
-        pub pieces_on : length after ≡ length cells → Pieces way s at tabs deeper lent slot after end (made + more) (own + mine)
+        pub pieces_on : length after ≡ length cells → Pieces table s at deeper lent slot after end (made + more) (own + mine)
         pieces_on h =
             let on = piece_ahead in
             let long = body_size_lem (before piece.it done) slot.parent start i in
             let number : slot.next + (made + more) ≡ start + length first = omega (arith, piece.many) in
-            let next_body = body_of way bounds deeper (left - piece_size piece.it) tabs (drop end s) in
+            let next_body = body_of m bounds deeper (left - piece_size piece.it) (drop end s) in
             let less : slot.room - (start + length first) ≡ left - piece_size piece.it = omega (arith, long) in
             record {
               ahead = omega (arith, so_far.ahead, on.0);
@@ -310,7 +294,7 @@ module _ {way : Way} {s : List ℕ} {at tabs deeper : ℕ} {lent : List ℕ} {sl
                   (makes_behind (before piece.it) (λ b. made + body_size b) (λ b. own + body_count b) (body_entries slot.parent start i)
                   (body_entries slot.parent (start + length first) end) first s cells after start
                   (up_to_mark next_body) (up_to_mark reading) other cells'
-                  (ap up_to_mark (by_piece ∙ ap (λ (x : Found BodyPiece). and_then x (onward way deeper left tabs)) piece.finds)
+                  (ap up_to_mark (by_piece ∙ ap (λ (x : Found BodyPiece). and_then x (onward m deeper left)) piece.finds)
                   ∙ marked_map (before piece.it) next_body)
                   entered (found_one.laid piece.it (drop end s) piece.finds)
                   (makes_same (λ b. made + more + body_size b) (λ b. own + mine + body_count b) _ _

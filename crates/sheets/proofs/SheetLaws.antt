@@ -13,12 +13,13 @@ use Rattle.paper.specs.declared.Refusal.{Refusal}
 use Rattle.paper.specs.Answer.{Told, accepted, refused, number_of, told}
 use Rattle.paper.specs.Found.{Found, found, fault, and_then, place_in}
 use Rattle.paper.specs.Bytes.{is_blank, front, behind, sheet_bytes}
-use Rattle.paper.specs.Ways.{Way, Given, way_of}
+use Rattle.paper.specs.Modes.{Modes, mode_table, read_table}
 use Rattle.paper.specs.Limits.{sheet_limit, concept_limit}
 use Rattle.paper.specs.Tree.{Blank, Annotated, Sheet}
 use Rattle.paper.specs.Grammar.{blanks_onto}
 use Rattle.paper.specs.Entries.{no_parent, entry_cells, sheet_size, entries, filled, all_cells}
-use Rattle.paper.specs.Reading.{blank_lines, is_tab, tabs_only, annotated_of, last_blanks, sheet_tree, room_of, sheet_of, Reading, reading, bounds, any_tabs}
+use Rattle.paper.specs.Reading.{blank_lines, is_tab, tabs_only, annotated_of, last_blanks, sheet_tree, room_of, sheet_of, Reading, reading, bounds}
+use Rattle.paper.proofs.Told.{number_positive}
 use Rattle.paper.proofs.Tests.{split}
 use Rattle.paper.proofs.Finds.{Finds, Reads}
 use Rattle.paper.proofs.Lines.{ReadBlanks, blanks_reads, only_reads}
@@ -29,8 +30,9 @@ use Rattle.paper.proofs.Sizes.{entries_size}
 use Rattle.text.proofs.Places.{place_back}
 use Rattle.text.specs.Steps.{checked_of, checked}
 use Rattle.text.specs.declared.utf8.Checked.{Checked}
-use Rattle.modes.specs.Ways.{IndexedBy, RefusedGiven}
-use Rattle.modes.specs.declared.way.Way.{Way as Said}
+use Rattle.modes.specs.Table.{Valid, modes_of}
+use Rattle.modes.specs.Index.{Indexed}
+use Rattle.modes.proofs.Answered.{number_told}
 use Rattle.entries.specs.Laid.{lay}
 use Rattle.entries.proofs.Laying.{lay_none, lay_filled}
 use Rattle.lines.specs.Parts.{seen, passed, Makes}
@@ -104,16 +106,16 @@ module _ (before : List Blank) (a : Annotated) where
 
 -- ---- the tree of a sheet
 
-module _ (way : Way) (s cells : List ℕ) where
+module _ (m : Modes) (s cells : List ℕ) where
   abbrev tree : Found Sheet
-  tree = sheet_tree way bounds concept_limit (room_of (length cells)) s
+  tree = sheet_tree m bounds concept_limit (room_of (length cells)) s
 
   abbrev Grows : Part → List ℕ → Type 0
   Grows r after = Makes sheet_size root_count entries s cells 0 tree r after
 
   -- what is read behind the blank lines before the root, and behind its tabs
   abbrev rooted : List Blank → List ℕ → Found Sheet
-  rooted before first = and_then (annotated_of way bounds any_tabs concept_limit (room_of (length cells)) first) (ended before)
+  rooted before first = and_then (annotated_of m bounds concept_limit (room_of (length cells)) first) (ended before)
 
   abbrev led : List Blank → List ℕ → Found Sheet
   led before first = and_then (tabs_only first) (λ tabs mark. rooted before first)
@@ -171,9 +173,9 @@ module _ (way : Way) (s cells : List ℕ) where
 
   module _ (first : ℕ) (l : Led first) (deeper room : ℕ) (deep : deeper ≡ concept_limit) (lent : room ≡ room_of (length cells)) (r : Part) (after : List ℕ)
       (g : Makes annotated_size annotated_count (annotated_entries no_parent 0 first) s cells 0
-      (annotated_of way bounds any_tabs deeper (room - 0) (drop first s)) r after) where
+      (annotated_of m bounds deeper (room - 0) (drop first s)) r after) where
     abbrev reads : Found Annotated
-    reads = annotated_of way bounds any_tabs concept_limit (room_of (length cells)) (drop first s)
+    reads = annotated_of m bounds concept_limit (room_of (length cells)) (drop first s)
 
     roots : Makes annotated_size annotated_count (annotated_entries no_parent 0 first) s cells 0 reads r after
     roots = let n : room - 0 ≡ room_of (length cells) = omega arith in rw (deep, n) at g
@@ -186,7 +188,7 @@ module _ (way : Way) (s cells : List ℕ) where
     pub root_read : (end made own : ℕ) → r ≡ Read end made own → RootAt end made own after
     root_read end made own q =
         let t = found_at_lem annotated_size annotated_count s r _ first reads end made own roots.says
-        (annotated_reads way bounds any_tabs concept_limit (room_of (length cells)) (drop first s)) l.inside q in
+        (annotated_reads m bounds concept_limit (room_of (length cells)) (drop first s)) l.inside q in
         record {
           before = l.before;
           root = t.it;
@@ -206,41 +208,41 @@ module _ (way : Way) (s cells : List ℕ) where
 
     pub tree_read : (last some mine : ℕ) → r ≡ Read last some mine → Grows (Read last made own) after
     tree_read last some mine q =
-        let t = found_at_lem (λ t. 0) (λ t. 0) s r (λ t left. ReadSheet way bounds concept_limit (room_of (length cells)) s t left) 0 tree last some mine rests
-        (sheet_reads way bounds concept_limit (room_of (length cells)) s) (omega arith) q in
+        let t = found_at_lem (λ t. 0) (λ t. 0) s r (λ t left. ReadSheet m bounds concept_limit (room_of (length cells)) s t left) 0 tree last some mine rests
+        (sheet_reads m bounds concept_limit (room_of (length cells)) s) (omega arith) q in
         let of = ended_rooted root.before root.root (drop end s) t.it (drop last s) (sym root.same ∙ t.finds) in
         makes_read sheet_size root_count entries s cells 0 tree (Read last made own) after t.it last made own refl t.inside t.finds (root.size ∙ sym of.size)
         (root.count ∙ sym of.count)
         (root.laid ∙ ap (lay cells 0) (sym of.are))
 
 -- the root is read with the room that the cells have
-pub root_stands : (way : Said) (table index s cells : List ℕ) (first room : ℕ) → IndexedBy way table index → length s ≤ sheet_limit → first ≤ length s
-    → room ≡ room_of (length cells) → Ready way table index s first cells (record { next = 0; room = room; parent = no_parent })
-root_stands way table index s cells first room x l h e =
+pub root_stands : (table index s cells : List ℕ) (first room : ℕ) → Indexed table index → length s ≤ sheet_limit → first ≤ length s → room ≡ room_of (length cells)
+    → Ready table index s first cells (record { next = 0; room = room; parent = no_parent })
+root_stands table index s cells first room x l h e =
     record {
       indexed = x;
       in_sheet = record { within = l; inside = h };
       fits = record { held = omega arith; few = omega arith; inside = omega arith };
     }
 
--- ---- a sheet by a way
+-- ---- a sheet under a valid table
 
 -- what is found fits the room
-finds_fits : (way : Way) (room : ℕ) (s : List ℕ) → Finds (λ t left. length (entries t) ≤ room) (sheet_of way room s)
+finds_fits : (m : Modes) (room : ℕ) (s : List ℕ) → Finds (λ t left. length (entries t) ≤ room) (sheet_of m room s)
 unfolding sheet_of
-finds_fits way room s = split (ltb sheet_limit (length s)) (λ e. rw (e, sheet_of) tt) (λ e. rw (e, sheet_of) (by_bytes (sheet_bytes s)))
+finds_fits m room s = split (ltb sheet_limit (length s)) (λ e. rw (e, sheet_of) tt) (λ e. rw (e, sheet_of) (by_bytes (sheet_bytes s)))
   where
-    by_tree : (x : Found Sheet) → Reads s (λ t left. ReadSheet way bounds concept_limit room s t left) x → Finds (λ t left. length (entries t) ≤ room) x
+    by_tree : (x : Found Sheet) → Reads s (λ t left. ReadSheet m bounds concept_limit room s t left) x → Finds (λ t left. length (entries t) ≤ room) x
     by_tree (found t left) h = omega (arith, h.1.fits, entries_size t)
     by_tree (fault n left) h = tt
 
-    by_bytes : (x : Found (List ℕ)) → Finds (λ t left. length (entries t) ≤ room) (and_then x (λ vs left. sheet_tree way bounds concept_limit room s))
-    by_bytes (found vs left) = by_tree (sheet_tree way bounds concept_limit room s) (sheet_reads way bounds concept_limit room s)
+    by_bytes : (x : Found (List ℕ)) → Finds (λ t left. length (entries t) ≤ room) (and_then x (λ vs left. sheet_tree m bounds concept_limit room s))
+    by_bytes (found vs left) = by_tree (sheet_tree m bounds concept_limit room s) (sheet_reads m bounds concept_limit room s)
     by_bytes (fault n left) = tt
 
-module _ (way : Way) (s cells : List ℕ) where
+module _ (m : Modes) (s cells : List ℕ) where
   abbrev sheet : Found Sheet
-  sheet = sheet_of way (room_of (length cells)) s
+  sheet = sheet_of m (room_of (length cells)) s
 
   faulty : (answer : Told) (after : List ℕ) (n : ℕ) (left : List ℕ) → sheet ≡ fault n left → answer ≡ refused n (place_in s left) → AnswersSheet s cells sheet answer after
   faulty answer after n left f e = record { says = e ∙ ap (answer_of s) (sym f); laid = λ t end g. let z : ◌≡◌ {A = ℕ} 0 1 = cc in absurd (omega arith) }
@@ -253,7 +255,7 @@ module _ (way : Way) (s cells : List ℕ) where
 
   module _ (h : length s ≤ sheet_limit) where
     abbrev tree_of : Found (List ℕ) → Found Sheet
-    tree_of x = and_then x (λ vs left. tree way s cells)
+    tree_of x = and_then x (λ vs left. tree m s cells)
 
     by_bytes : sheet ≡ tree_of (sheet_bytes s)
     unfolding sheet_of
@@ -269,24 +271,24 @@ module _ (way : Way) (s cells : List ℕ) where
             faulty (refused 3 place) after n left (by_bytes ∙ ap tree_of q) (rw (o.0, p))
 
     module _ (e : Checked.Sound ≡ checked s) where
-      by_tree : sheet ≡ tree way s cells
+      by_tree : sheet ≡ tree m s cells
       by_tree = by_bytes ∙ go (sheet_bytes s) e
         where
-          go : (x : Found (List ℕ)) → Checked.Sound ≡ checked_of s x → tree_of x ≡ tree way s cells
+          go : (x : Found (List ℕ)) → Checked.Sound ≡ checked_of s x → tree_of x ≡ tree m s cells
           go (found vs left) e = refl
           go (fault n left) e = let z : ◌≡◌ {A = ℕ} 0 1 = cc in absurd (omega arith)
 
-      module _ (r : Part) (after : List ℕ) (g : Makes sheet_size root_count entries s cells 0 (tree way s cells) r after) where
+      module _ (r : Part) (after : List ℕ) (g : Makes sheet_size root_count entries s cells 0 (tree m s cells) r after) where
         pub sheet_refused : (why : Refusal) (place : ℕ) → r ≡ Refused why place → AnswersSheet s cells sheet (refused (number_of why) place) after
         sheet_refused why place q =
-            let f = fault_at sheet_size root_count s r (tree way s cells) why place g.says q in
+            let f = fault_at sheet_size root_count s r (tree m s cells) why place g.says q in
             faulty (refused (number_of why) place) after (number_of why) f.left (by_tree ∙ f.faults) (ap (refused (number_of why)) (sym f.there))
 
         -- nothing is left behind a sheet: it ends at its length
         pub sheet_read : (end made own : ℕ) → r ≡ Read end made own → AnswersSheet s cells sheet (accepted end made) after
         sheet_read end made own q =
-            let t = found_at_lem sheet_size root_count s r (λ t left. ReadSheet way bounds concept_limit (room_of (length cells)) s t left) 0
-            (tree way s cells) end made own g.says (sheet_reads way bounds concept_limit (room_of (length cells)) s) (omega arith) q in
+            let t = found_at_lem sheet_size root_count s r (λ t left. ReadSheet m bounds concept_limit (room_of (length cells)) s t left) 0
+            (tree m s cells) end made own g.says (sheet_reads m bounds concept_limit (room_of (length cells)) s) (omega arith) q in
             let l : end ≡ length s = omega (arith, ap length t.holds.over, length-drop end s, t.inside) in
             let n : made ≡ length (entries t.it) = sym t.many ∙ sym (entries_size t.it) in
             record { says = ap₂ accepted l n ∙ ap (answer_of s) (sym t.finds ∙ sym by_tree); laid = λ a left k. g.laid a left (sym by_tree ∙ k) }
@@ -302,35 +304,37 @@ all_zero cells =
     let z : length cells - 0 ≡ length cells = omega arith in
     rw z (rw (lay_none cells 0, z) at (lay_filled cells [] (omega arith)))
 
-module _ (given : Given) (s cells : List ℕ) where
-  -- what is given is refused
-  pub given_refused : (a : Answer) (why : Refusal) (p : ℕ) → RefusedGiven given (number_of why) p → a ≡ Answer.Refused why p → (after : List ℕ)
-      → after ≡ sets cells 0 (replicate (length cells - 0) 0) → answers (told a) after ≡ reading given s (length cells)
-  unfolding reading
-  given_refused a why p bad q after z =
-      rw (bad.is, reading) (ap₂ answers (ap told q ∙ ap (refused (number_of why)) bad.at) (z ∙ all_zero cells))
+module _ (table s cells : List ℕ) where
+  pub table_refused : (a : Answer) (why : Refusal) (p : ℕ) → told a ≡ read_table table → a ≡ Answer.Refused why p → (after : List ℕ)
+      → after ≡ sets cells 0 (replicate (length cells - 0) 0)
+      → answers (told a) after ≡ reading table s (length cells)
+  unfolding reading read_table
+  table_refused a why p e q after z = go (mode_table table) refl
+    where
+      go : (x : Found Modes) → mode_table table ≡ x → answers (told a) after ≡ reading table s (length cells)
+      go (found m left) f = absurd (number_positive why (number_told (rw (q, read_table, f) at e)))
+      go (fault n left) f = rw (f, reading) (ap₂ answers (rw (read_table, f) at e) (z ∙ all_zero cells))
 
-  -- what is given is a way
-  module _ (way : Way) (r : Answer) (mid : List ℕ) (count : ℕ) (g : AnswersSheet s cells (sheet way s cells) (told r) mid) (same : length mid ≡ length cells)
+  module _ (r : Answer) (mid : List ℕ) (count : ℕ) (g : AnswersSheet s cells (sheet (modes_of table) s cells) (told r) mid) (same : length mid ≡ length cells)
       (n : count ≡ (told r).count) where
     pub count_fits : count * entry_cells ≤ length mid
-    count_fits = go (sheet way s cells) (finds_fits way (room_of (length cells)) s) g.says
+    count_fits = go (sheet (modes_of table) s cells) (finds_fits (modes_of table) (room_of (length cells)) s) g.says
       where
         go : (x : Found Sheet) → Finds (λ t left. length (entries t) ≤ room_of (length cells)) x → told r ≡ answer_of s x → count * entry_cells ≤ length mid
         go (found t left) h e = omega (arith, h, ap (λ (a : Told). a.count) e)
         go (fault k left) h e = omega (arith, ap (λ (a : Told). a.count) e)
 
-    pub sheet_done : (after : List ℕ) → way_of given ≡ found way [] → after ≡ sets mid (count * entry_cells) (replicate (length mid - count * entry_cells) 0)
-        → answers (told r) after ≡ reading given s (length cells)
+    pub sheet_done : (after : List ℕ) → Valid table → after ≡ sets mid (count * entry_cells) (replicate (length mid - count * entry_cells) 0)
+        → answers (told r) after ≡ reading table s (length cells)
     unfolding reading
-    sheet_done after v z = go (sheet way s cells) refl g.says
+    sheet_done after v z = go (sheet (modes_of table) s cells) refl g.says
       where
         cleared : (t : Sheet) → mid ≡ lay cells 0 (entries t) → count ≡ length (entries t)
             → sets mid (count * entry_cells) (replicate (length mid - count * entry_cells) 0)
             ≡ sets (lay cells 0 (entries t)) (length (entries t) * entry_cells) (replicate (length cells - length (entries t) * entry_cells) 0)
         cleared t l many = rw (same, l, many)
 
-        go : (x : Found Sheet) → sheet way s cells ≡ x → told r ≡ answer_of s x → answers (told r) after ≡ reading given s (length cells)
+        go : (x : Found Sheet) → sheet (modes_of table) s cells ≡ x → told r ≡ answer_of s x → answers (told r) after ≡ reading table s (length cells)
         go (found t left) f e =
             let many : count ≡ length (entries t) = n ∙ ap (λ (a : Told). a.count) e in
             rw (v, reading, f) (ap₂ answers e (z ∙ cleared t (g.laid t left f) many ∙ lay_filled cells (entries t) (omega (arith, count_fits))))

@@ -2,12 +2,11 @@
 use Prim.Native.Nat.{ℕ, ◌≤◌}
 use mathlib.Core.List.{List}
 use lib.ListN.{length}
-use Rattle.modes.specs.declared.way.Way.{Way as Said}
 use Rattle.entries.specs.Laid.{Fits}
 use Rattle.entries.specs.declared.Slot.{Slot}
 use Rattle.sheets.specs.Concepts.{Ready}
 
 -- another place of the sheet, and a slot that fits
-pub stands_on : {way : Said} {table index s lent cells : List ℕ} {at end : ℕ} {slot next : Slot} → Ready way table index s at lent slot → end ≤ length s
-    → Fits cells next → Ready way table index s end cells next
+pub stands_on : {table index s lent cells : List ℕ} {at end : ℕ} {slot next : Slot} → Ready table index s at lent slot → end ≤ length s → Fits cells next
+    → Ready table index s end cells next
 stands_on h inside fits = record { indexed = h.indexed; in_sheet = record { within = h.in_sheet.within; inside = inside }; fits = fits }

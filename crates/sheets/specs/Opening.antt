@@ -3,11 +3,12 @@
 use Rattle.std.specs.Prelude.{ℕ, suc, ◌+◌, ◌-◌, ◌≡◌, true, false, List, length, drop}
 use Rattle.paper.specs.declared.Mode.TheVariants.{Children}
 use Rattle.paper.specs.Found.{Found, found, and_then}
-use Rattle.paper.specs.Ways.{Way, by_table, by_layout}
+use Rattle.paper.specs.Modes.{Modes}
 use Rattle.paper.specs.Tree.{Ending, block, self}
 use Rattle.paper.specs.Grammar.{in_mode}
 use Rattle.paper.specs.Entries.{Entry, traits_size, trait_entries}
 use Rattle.paper.specs.Reading.{makes, Opened as Marker, opened, named, opening, bounds}
+use Rattle.modes.specs.Table.{modes_of}
 use Rattle.entries.specs.declared.Slot.{Slot}
 use Rattle.text.specs.declared.nesting.Nesting.{Nesting}
 use Rattle.lines.specs.Parts.{Makes, part}
@@ -19,11 +20,9 @@ use Rattle.sheets.specs.declared.opening.Opening.TheVariants.{Opened, Refused}
 abbrev pub held_of : ℕ → List ℕ → List ℕ → List ℕ → Found Marker
 held_of room at w left = and_then (makes room at w left) (opened bounds (room - 1))
 
--- the form of a Concept of this name with a body, that of Content by layout as long as the body shows nothing else; and of any, by its
--- marker's ending
-abbrev pub block_form : Way → List ℕ → ℕ
-block_form (by_table m) w = elim (in_mode Children m w) [ true ↦ 2 | false ↦ 3 ]
-block_form by_layout w = 3
+-- the form of a Concept of this name with a body; and of any, by its marker's ending
+abbrev pub block_form : Modes → List ℕ → ℕ
+block_form m w = elim (in_mode Children m w) [ true ↦ 2 | false ↦ 3 ]
 
 abbrev pub form_in : ℕ → Ending → ℕ
 form_in form self = 1
@@ -51,15 +50,15 @@ pub record Opens (deeper : ℕ) (forms : List ℕ → ℕ) (s : List ℕ) (start
       → (form ≡ form_in (forms o.marker.name) o.ends) × (to ≡ start + length o.marker.name) × (suc inside.left ≡ deeper)
 
 -- the marker whose "<" is due at `at`
-abbrev pub ReadsOpening : Way → List ℕ → ℕ → ℕ → List ℕ → Slot → Opening → List ℕ → Type 0
-ReadsOpening way s at deeper cells slot r after =
-    Opens deeper (block_form way) s (at + 1) cells slot (opening way bounds deeper (slot.room - slot.next) (drop at s)) r after
+abbrev pub ReadsOpening : List ℕ → List ℕ → ℕ → ℕ → List ℕ → Slot → Opening → List ℕ → Type 0
+ReadsOpening table s at deeper cells slot r after =
+    Opens deeper (block_form (modes_of table)) s (at + 1) cells slot (opening (modes_of table) bounds deeper (slot.room - slot.next) (drop at s)) r after
 
 -- the same behind its name, which ends at `to`
-abbrev pub ReadsNamed : Way → List ℕ → ℕ → ℕ → ℕ → List ℕ → Slot → Opening → List ℕ → Type 0
-ReadsNamed way s at to deeper cells slot r after =
-    Opens deeper (block_form way) s (at + 1) cells slot
-    (named way bounds deeper (slot.room - slot.next) (drop at s) (part s (at + 1) to) (drop to s)) r after
+abbrev pub ReadsNamed : List ℕ → List ℕ → ℕ → ℕ → ℕ → List ℕ → Slot → Opening → List ℕ → Type 0
+ReadsNamed table s at to deeper cells slot r after =
+    Opens deeper (block_form (modes_of table)) s (at + 1) cells slot
+    (named (modes_of table) bounds deeper (slot.room - slot.next) (drop at s) (part s (at + 1) to) (drop to s)) r after
 
 -- the same behind a name from `start` to `to` that is admitted, where a block has this form
 abbrev pub ReadsMarker : List ℕ → ℕ → ℕ → ℕ → ℕ → List ℕ → Slot → Opening → List ℕ → Type 0

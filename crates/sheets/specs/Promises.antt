@@ -2,14 +2,13 @@
 -- Document 01, "Entries", "Order" and "One answer only".
 use Rattle.std.specs.Prelude.{ℕ, ◌≡◌, List}
 use Rattle.paper.specs.Answer.{told}
-use Rattle.paper.specs.Ways.{Given}
 use Rattle.paper.specs.Reading.{reading}
 use Rattle.paper.specs.View.{viewed, view_answer}
 use Rattle.paper.specs.declared.Answer.{Answer}
 
--- `read` answers r for what is given, a table or nothing, a sheet and so many lent cells, which are these at exit
-abbrev pub ReadsSheet : Given → List ℕ → ℕ → Answer → List ℕ → Type 0
-ReadsSheet given sheet lent r cells = record { answer = told r; cells = cells } ≡ reading given sheet lent
+-- `read` answers r for a table, a sheet and so many lent cells, which are these at exit
+abbrev pub ReadsSheet : List ℕ → List ℕ → ℕ → Answer → List ℕ → Type 0
+ReadsSheet table sheet lent r cells = record { answer = told r; cells = cells } ≡ reading table sheet lent
 
 -- `view` hands this part back for an entry
 abbrev pub Views : List ℕ → List ℕ → ℕ → List ℕ → Type 0

@@ -1,15 +1,15 @@
--- A whole sheet by a way: what is answered and written where nothing is zeroed. And where the part of an entry stands.
+-- A whole sheet under a valid table: what is answered and written where nothing is zeroed. And where the part of an entry stands.
 -- Document 01, "Refusal numbers", "Order" and "Entries".
 use Rattle.std.specs.Prelude.{ℕ, ◌+◌, ◌≡◌, List, length}
 use Rattle.paper.specs.Answer.{Told, accepted, refused}
 use Rattle.paper.specs.Found.{Found, found, fault, and_then, place_in, pick}
 use Rattle.paper.specs.Bytes.{is_blank, front, behind}
-use Rattle.paper.specs.Ways.{Way}
 use Rattle.paper.specs.Tree.{Sheet}
 use Rattle.paper.specs.Limits.{concept_limit}
 use Rattle.paper.specs.Entries.{sheet_size, entries}
 use Rattle.paper.specs.Reading.{blank_lines, last_blanks, sheet_tree, sheet_of, room_of, bounds}
 use Rattle.paper.specs.View.{span_start, span_end, viewable}
+use Rattle.modes.specs.Table.{modes_of}
 use Rattle.entries.specs.Laid.{lay}
 use Rattle.lines.specs.Parts.{Makes}
 use Rattle.lines.specs.declared.part.Part.{Part}
@@ -26,17 +26,17 @@ pub record AnswersSheet (s cells : List ℕ) (x : Found Sheet) (answer : Told) (
   pub laid : (t : Sheet) (left : List ℕ) → x ≡ found t left → after ≡ lay cells 0 (entries t)
 
 -- a whole sheet, in the room that the cells have
-abbrev pub ReadsBy : Way → List ℕ → List ℕ → Told → List ℕ → Type 0
-ReadsBy way s cells answer after = AnswersSheet s cells (sheet_of way (room_of (length cells)) s) answer after
+abbrev pub ReadsUnder : List ℕ → List ℕ → List ℕ → Told → List ℕ → Type 0
+ReadsUnder table s cells answer after = AnswersSheet s cells (sheet_of (modes_of table) (room_of (length cells)) s) answer after
 
 -- the root and its annotations
 abbrev pub root_count : Sheet → ℕ
 root_count t = length t.annotations + 1
 
 -- its tree, behind the checks of length and bytes
-abbrev pub ReadsTree : Way → List ℕ → List ℕ → Part → List ℕ → Type 0
-ReadsTree way s cells r after =
-    Makes sheet_size root_count entries s cells 0 (sheet_tree way bounds concept_limit (room_of (length cells)) s) r after
+abbrev pub ReadsTree : List ℕ → List ℕ → List ℕ → Part → List ℕ → Type 0
+ReadsTree table s cells r after =
+    Makes sheet_size root_count entries s cells 0 (sheet_tree (modes_of table) bounds concept_limit (room_of (length cells)) s) r after
 
 -- the blank lines behind the root, up to the end of input
 abbrev pub behind_root : List ℕ → Found (List ℕ)

@@ -1,15 +1,11 @@
 // Concepts and children: the Concept reader and the reader of a children body call each other, and siblings go round in a loop.
-// Document 01, "The grammar", Lines, Markers and Content, and "Entries"; document 02, Seven.
-ghost use Rattle.std.specs.Prelude.{◌≡◌, ◌&&◌, ◌+◌, ◌≤◌, length, drop, eqb};
-ghost use Rattle.paper.specs.Bytes.{bytes, length_in, behind, same};
-ghost use Rattle.paper.specs.Reading.{is_tab, any_tabs, misplaced};
-ghost use Rattle.modes.specs.Table.{modes_of};
-ghost use Rattle.modes.specs.Ways.{way_by};
+// Document 01, "The grammar", Lines, Markers and Content, and "Entries".
+ghost use Rattle.std.specs.Prelude.{◌≡◌, ◌+◌, ◌≤◌, length};
 ghost use Rattle.entries.specs.Laid.{Fits};
-ghost use Rattle.lines.specs.Parts.{seen, passed, In, Tabbed, NameStands, will_of, MakesNotes};
+ghost use Rattle.lines.specs.Parts.{seen, In, Tabbed, MakesNotes};
 ghost use Rattle.sheets.specs.Traits.{NamesBefore, NamesOnward};
 ghost use Rattle.sheets.specs.Concepts.{Ready, Ends, ended_by, cells_ended, EndsIn, line_ended};
-ghost use Rattle.sheets.specs.Concepts.{ReadsConcept, ReadsShown, ReadsBlock, DueBy, ClosesBody, ReadsChildren, ReadsPiece, ReadsAnnotated};
+ghost use Rattle.sheets.specs.Concepts.{ReadsConcept, ReadsInside, ReadsBlock, ReadsChildren, ReadsPiece, ReadsAnnotated};
 
 use crate::opening::{Opening, read_opening};
 use entries::{Entry, Slot, put};
@@ -17,20 +13,16 @@ use lines::annotations;
 use lines::blank::{is_blank_line, tabs_only};
 use lines::content::read_content;
 use lines::marks::{CLOSING, read_closing};
-use lines::part::{Part, cut, line_rest, past, refused};
-use lines::shown::Shown;
-use lines::tabs::Tabs;
+use lines::part::{Part, line_rest, past, refused};
 use modes::index::Index;
-use modes::way::Way;
-use paper::{Refusal, forms, kinds};
+use paper::{forms, kinds};
 use text::nesting::Nesting;
 use text::parts::starts_with;
 use text::runs;
 
 // Reads the Concept whose "<" is due at `at`, on a line of so many tabs, and enters it with what it holds.
-#[cycle(read_annotated_read_block_read_children_read_concept_read_piece)]
+#[cycle(read_annotated_read_block_read_children_read_concept_read_inside_read_piece)]
 fn read_concept(
-    way: Way,
     table: &[u8],
     s: &[u8],
     at: usize,
@@ -41,11 +33,11 @@ fn read_concept(
     index: &Index,
     names: &mut [u16],
 ) -> Part
-    requires { Ready way table.now index.now s.now at cells.old slot × NamesBefore s.now (at + 1) names.old × (tabs ≤ length s.now) }
-    ensures { ReadsConcept (way_by way (modes_of table.now)) s.now at tabs nesting.left cells.old slot result cells.new
+    requires { Ready table.now index.now s.now at cells.old slot × NamesBefore s.now (at + 1) names.old }
+    ensures { ReadsConcept table.now s.now at tabs nesting.left cells.old slot result cells.new
         × NamesOnward s.now result names.new }
 {
-    match read_opening(way, table, s, at, nesting, cells, slot, index, names) {
+    match read_opening(table, s, at, nesting, cells, slot, index, names) {
         Opening::Refused { refusal, place } => refused(refusal, place),
         Opening::Opened {
             form,
@@ -56,26 +48,21 @@ fn read_concept(
             inside,
         } => {
             let next = slot.under().after(made);
-            match read_shown(way, s, end, form, tabs, at + 1, to, cells, next) {
-                Shown::Content(body) => end_concept(body, form, at, to, made, own, cells, slot),
-                Shown::Children => {
-                    let body = read_block(
-                        way,
-                        table,
-                        s,
-                        end,
-                        tabs,
-                        at + 1,
-                        to,
-                        inside,
-                        cells,
-                        next,
-                        index,
-                        names,
-                    );
-                    end_concept(body, forms::CHILDREN, at, to, made, own, cells, slot)
-                }
-            }
+            let body = read_inside(
+                table,
+                s,
+                end,
+                form,
+                tabs,
+                at + 1,
+                to,
+                inside,
+                cells,
+                next,
+                index,
+                names,
+            );
+            end_concept(body, form, at, to, made, own, cells, slot)
         }
     }
 }
@@ -124,37 +111,13 @@ fn end_concept(
     }
 }
 
-// Reads what follows an opening marker of this form that ends at `at`: nothing, or Content. Or children follow, of which nothing is read
-// yet. The marker stands on a line of so many tabs, and its name from `from` to `to`.
-fn read_shown(
-    way: Way,
-    s: &[u8],
-    at: usize,
-    form: u32,
-    tabs: usize,
-    from: usize,
-    to: usize,
-    cells: &mut [u32],
-    slot: Slot,
-) -> Shown
-    requires { In s.now at × Fits cells.old slot × NameStands s.now from to }
-    ensures { ReadsShown way s.now at form tabs from to cells.old slot result cells.new }
-{
-    match form {
-        forms::SELF_CLOSED => Shown::Content(past(at)),
-        forms::CHILDREN => Shown::Children,
-        _ => read_content(s, at, tabs, from, to, way.looks(), cells, slot),
-    }
-}
-
-// Reads the children of a block from behind its marker's ">" on, with its closing marker. The marker stands on a line of so many tabs, and
-// its name from `from` to `to`.
-#[cycle(read_annotated_read_block_read_children_read_concept_read_piece)]
-fn read_block(
-    way: Way,
+// Reads what follows an opening marker of this form that ends at `at`: nothing, children or Content.
+#[cycle(read_annotated_read_block_read_children_read_concept_read_inside_read_piece)]
+fn read_inside(
     table: &[u8],
     s: &[u8],
     at: usize,
+    form: u32,
     tabs: usize,
     from: usize,
     to: usize,
@@ -164,18 +127,41 @@ fn read_block(
     index: &Index,
     names: &mut [u16],
 ) -> Part
-    requires { Ready way table.now index.now s.now at cells.old slot × NameStands s.now from to × NamesBefore s.now (at + 1) names.old
-        × (tabs ≤ length s.now) }
-    ensures { ReadsBlock (way_by way (modes_of table.now)) s.now at tabs from to nesting.left cells.old slot result cells.new
+    requires { Ready table.now index.now s.now at cells.old slot × (from ≤ to) × (to ≤ length s.now) × NamesBefore s.now (at + 1) names.old }
+    ensures { ReadsInside table.now s.now at form tabs from to nesting.left cells.old slot result
+        cells.new
+        × NamesOnward s.now result names.new }
+{
+    match form {
+        forms::SELF_CLOSED => past(at),
+        forms::CHILDREN => read_block(table, s, at, from, to, nesting, cells, slot, index, names),
+        _ => read_content(s, at, tabs, from, to, cells, slot),
+    }
+}
+
+// Reads the children of a block from behind its marker's ">" on, with its closing marker. Its name stands from `from` to `to`.
+#[cycle(read_annotated_read_block_read_children_read_concept_read_inside_read_piece)]
+fn read_block(
+    table: &[u8],
+    s: &[u8],
+    at: usize,
+    from: usize,
+    to: usize,
+    nesting: Nesting,
+    cells: &mut [u32],
+    slot: Slot,
+    index: &Index,
+    names: &mut [u16],
+) -> Part
+    requires { Ready table.now index.now s.now at cells.old slot × (from ≤ to) × (to ≤ length s.now) × NamesBefore s.now (at + 1) names.old }
+    ensures { ReadsBlock table.now s.now at from to nesting.left cells.old slot result cells.new
         × NamesOnward s.now result names.new }
 {
     let rest = line_rest(s, at);
     let Part::Read { end: start, .. } = rest else {
         return rest;
     };
-    let body = read_children(
-        way, table, s, start, tabs, nesting, cells, slot, index, names,
-    );
+    let body = read_children(table, s, start, nesting, cells, slot, index, names);
     let Part::Read {
         end: mark,
         made,
@@ -191,23 +177,20 @@ fn read_block(
     Part::Read { end, made, own }
 }
 
-// Reads the lines of a children body that stand at `at`, up to the closing marker behind the tabs of its line. By layout each stands one tab
-// deeper than the marker around it, which has so many tabs, and the closing marker at these.
-#[cycle(read_annotated_read_block_read_children_read_concept_read_piece)]
+// Reads the lines of a children body that stand at `at`, up to the closing marker behind the tabs of its line.
+#[cycle(read_annotated_read_block_read_children_read_concept_read_inside_read_piece)]
 fn read_children(
-    way: Way,
     table: &[u8],
     s: &[u8],
     at: usize,
-    tabs: usize,
     nesting: Nesting,
     cells: &mut [u32],
     slot: Slot,
     index: &Index,
     names: &mut [u16],
 ) -> Part
-    requires { Ready way table.now index.now s.now at cells.old slot × NamesBefore s.now (at + 1) names.old × (tabs ≤ length s.now) }
-    ensures { ReadsChildren (way_by way (modes_of table.now)) s.now at tabs nesting.left cells.old slot result cells.new
+    requires { Ready table.now index.now s.now at cells.old slot × NamesBefore s.now (at + 1) names.old }
+    ensures { ReadsChildren table.now s.now at nesting.left cells.old slot result cells.new
         × NamesOnward s.now result names.new }
 {
     let mut i = at;
@@ -215,10 +198,7 @@ fn read_children(
     let mut own = 0;
     loop {
         let mark = runs::tab_end(s, i);
-        if closes_body(way, s, i, mark, tabs) {
-            if !due(way, tabs).will(mark - i) {
-                return refused(Refusal::Due, mark);
-            }
+        if starts_with(s, mark, &CLOSING) {
             return Part::Read {
                 end: mark,
                 made,
@@ -226,12 +206,10 @@ fn read_children(
             };
         }
         let piece = read_piece(
-            way,
             table,
             s,
             i,
             mark,
-            due(way, tabs + 1),
             nesting,
             cells,
             slot.after(made),
@@ -252,64 +230,22 @@ fn read_children(
     }
 }
 
-// The tabs at which something stands that is due at so many: any of them under a table.
-fn due(way: Way, tabs: usize) -> Tabs
-    ensures { DueBy way tabs result }
-{
-    match way {
-        Way::Table => Tabs::Any,
-        Way::Layout => Tabs::Just(tabs),
-    }
-}
-
-// Whether the line at `at`, whose tabs end at `mark`, closes the body of a marker of so many tabs. By layout "<" at these tabs and the end
-// of input is a closing marker that is cut.
-fn closes_body(way: Way, s: &[u8], at: usize, mark: usize, tabs: usize) -> bool
-    requires { Tabbed s.now at mark }
-    ensures { ClosesBody way s.now at tabs result }
-{
-    if starts_with(s, mark, &CLOSING) {
-        return true;
-    }
-    match way {
-        Way::Table => false,
-        Way::Layout => is_cut(s, at, mark, tabs),
-    }
-}
-
-// Whether "<" stands at `mark`, behind so many tabs, and the input ends with it.
-fn is_cut(s: &[u8], at: usize, mark: usize, tabs: usize) -> bool
-    requires { Tabbed s.now at mark }
-    ensures { result ≡ eqb (length_in is_tab (drop at s.now)) tabs && same (bytes "<") (behind is_tab (drop at s.now)) }
-{
-    if mark - at != tabs {
-        return false;
-    }
-    if mark + 1 != s.len() {
-        return false;
-    }
-    s[mark] == b'<'
-}
-
 // Reads a blank line, or a Concept with its annotations and the rest of its line. The tabs that stand at `at` end at `mark`:
-// what stands there is looked at first, since most lines have a Concept behind their tabs, or nothing. Annotations and Concept stand at tabs
-// that will do.
-#[cycle(read_annotated_read_block_read_children_read_concept_read_piece)]
+// what stands there is looked at first, since most lines have a Concept behind their tabs, or nothing.
+#[cycle(read_annotated_read_block_read_children_read_concept_read_inside_read_piece)]
 fn read_piece(
-    way: Way,
     table: &[u8],
     s: &[u8],
     at: usize,
     mark: usize,
-    will: Tabs,
     nesting: Nesting,
     cells: &mut [u32],
     slot: Slot,
     index: &Index,
     names: &mut [u16],
 ) -> Part
-    requires { Ready way table.now index.now s.now at cells.old slot × Tabbed s.now at mark × NamesBefore s.now (at + 1) names.old }
-    ensures { ReadsPiece (way_by way (modes_of table.now)) (will_of will) s.now at nesting.left cells.old slot result cells.new
+    requires { Ready table.now index.now s.now at cells.old slot × Tabbed s.now at mark × NamesBefore s.now (at + 1) names.old }
+    ensures { ReadsPiece table.now s.now at nesting.left cells.old slot result cells.new
         × NamesOnward s.now result names.new }
 {
     if !starts_with(s, mark, b"<") {
@@ -324,9 +260,7 @@ fn read_piece(
             return tabs;
         };
     }
-    let concept = read_annotated(
-        way, table, s, at, mark, will, nesting, cells, slot, index, names,
-    );
+    let concept = read_annotated(table, s, at, mark, nesting, cells, slot, index, names);
     end_line(s, concept)
 }
 
@@ -349,27 +283,24 @@ fn end_line(s: &[u8], part: Part) -> Part
     }
 }
 
-// Reads the annotations that stand at `at` and their Concept, which is due behind the tabs of the next line. The tabs at `at` end at `mark`,
-// and all stand at tabs that will do.
-#[cycle(read_annotated_read_block_read_children_read_concept_read_piece)]
+// Reads the annotations that stand at `at` and their Concept, which is due behind the tabs of the next line. The tabs at `at` end at `mark`.
+#[cycle(read_annotated_read_block_read_children_read_concept_read_inside_read_piece)]
 fn read_annotated(
-    way: Way,
     table: &[u8],
     s: &[u8],
     at: usize,
     mark: usize,
-    will: Tabs,
     nesting: Nesting,
     cells: &mut [u32],
     slot: Slot,
     index: &Index,
     names: &mut [u16],
 ) -> Part
-    requires { Ready way table.now index.now s.now at cells.old slot × Tabbed s.now at mark × NamesBefore s.now (at + 1) names.old }
-    ensures { ReadsAnnotated (way_by way (modes_of table.now)) (will_of will) s.now at nesting.left cells.old slot result cells.new
+    requires { Ready table.now index.now s.now at cells.old slot × Tabbed s.now at mark × NamesBefore s.now (at + 1) names.old }
+    ensures { ReadsAnnotated table.now s.now at nesting.left cells.old slot result cells.new
         × NamesOnward s.now result names.new }
 {
-    let notes = read_notes(s, at, mark, will, cells, slot);
+    let notes = read_notes(s, at, mark, cells, slot);
     let Part::Read {
         end: line,
         made,
@@ -383,11 +314,7 @@ fn read_annotated(
     } else {
         runs::tab_end(s, line)
     };
-    if !will.will(tag - line) {
-        return misplaced(s, tag);
-    }
     let concept = read_concept(
-        way,
         table,
         s,
         tag,
@@ -414,30 +341,18 @@ fn read_annotated(
 }
 
 // Reads the annotations that stand at `at`, where the tabs there end at `mark`. Most Concepts have none.
-fn read_notes(s: &[u8], at: usize, mark: usize, will: Tabs, cells: &mut [u32], slot: Slot) -> Part
+fn read_notes(s: &[u8], at: usize, mark: usize, cells: &mut [u32], slot: Slot) -> Part
     requires { In s.now at × Fits cells.old slot × Tabbed s.now at mark }
-    ensures { MakesNotes (will_of will) s.now at cells.old slot result cells.new }
+    ensures { MakesNotes s.now at cells.old slot result cells.new }
 {
     if starts_with(s, mark, b"[") {
-        return annotations::read_all(s, at, will, cells, slot);
+        return annotations::read_all(s, at, cells, slot);
     }
     past(at)
 }
 
-// What stands at `at` is at other tabs than those that are due; where nothing does, the input is cut.
-fn misplaced(s: &[u8], at: usize) -> Part
-    requires { at ≤ length s.now }
-    ensures { seen result ≡ passed s.now (misplaced (drop at s.now)) }
-{
-    if at == s.len() {
-        return cut(s);
-    }
-    refused(Refusal::Due, at)
-}
-
-// The same as `read_annotated` where a sheet's root is due, at any tabs, with an index of trait names for the whole sheet, which is a short one where the sheet is short.
+// The same where a sheet's root is due, with an index of trait names for the whole sheet, which is a short one where the sheet is short.
 pub fn read_root(
-    way: Way,
     table: &[u8],
     s: &[u8],
     at: usize,
@@ -446,38 +361,14 @@ pub fn read_root(
     slot: Slot,
     index: &Index,
 ) -> Part
-    requires { Ready way table.now index.now s.now at cells.old slot }
-    ensures { ReadsAnnotated (way_by way (modes_of table.now)) any_tabs s.now at nesting.left cells.old slot result cells.new }
+    requires { Ready table.now index.now s.now at cells.old slot }
+    ensures { ReadsAnnotated table.now s.now at nesting.left cells.old slot result cells.new }
 {
     let mark = runs::tab_end(s, at);
     if s.len() <= earlier::SHORT {
         let mut names = [0; earlier::SHORT_CELLS];
-        return read_annotated(
-            way,
-            table,
-            s,
-            at,
-            mark,
-            Tabs::Any,
-            nesting,
-            cells,
-            slot,
-            index,
-            &mut names,
-        );
+        return read_annotated(table, s, at, mark, nesting, cells, slot, index, &mut names);
     }
     let mut names = [0; earlier::CELLS];
-    read_annotated(
-        way,
-        table,
-        s,
-        at,
-        mark,
-        Tabs::Any,
-        nesting,
-        cells,
-        slot,
-        index,
-        &mut names,
-    )
+    read_annotated(table, s, at, mark, nesting, cells, slot, index, &mut names)
 }

@@ -1,25 +1,22 @@
-// Sheets: reading one under a mode table or without one, and the part of it that an entry's span names.
-// Document 01, "Entries", "Refusal numbers" and "Order"; document 02, Seven.
+// Sheets: reading one under a mode table, and the part of it that an entry's span names.
+// Document 01, "Entries", "Refusal numbers" and "Order".
 mod concepts;
 mod opening;
 mod traits;
 
 ghost use Rattle.std.specs.Prelude.{◌≡◌, ◌≤◌, length, drop};
 ghost use Rattle.paper.specs.Answer.{told};
-ghost use Rattle.paper.specs.Ways.{tabled, guest};
 ghost use Rattle.paper.specs.Limits.{sheet_limit};
-ghost use Rattle.modes.specs.Table.{modes_of};
-ghost use Rattle.modes.specs.Ways.{way_by, given_by, IndexedBy};
+ghost use Rattle.modes.specs.Index.{Indexed};
 ghost use Rattle.lines.specs.Parts.{seen, passed};
 ghost use Rattle.sheets.specs.Promises.{ReadsSheet, Views, ViewAnswers};
-ghost use Rattle.sheets.specs.Sheets.{ReadsBy, ReadsTree, behind_root, span_of};
+ghost use Rattle.sheets.specs.Sheets.{ReadsUnder, ReadsTree, behind_root, span_of};
 
 use concepts::read_root;
 use entries::{CELLS, Slot, TOP, get, room, zero_from};
 use lines::blank::{blank_lines, last_blanks, tabs_only};
 use lines::part::Part;
 use modes::index::Index;
-use modes::way::{Way, ready};
 use paper::{Answer, Refusal};
 use text::nesting::Nesting;
 use text::utf8;
@@ -28,38 +25,24 @@ use text::utf8::{Checked, Cursor};
 // Reads a sheet. An acceptance has its length and how many entries it made; the cells behind them are zero.
 // A refusal leaves every cell zero.
 pub fn read(table: &[u8], sheet: &[u8], cells: &mut [u32]) -> Answer
-    ensures { ReadsSheet (tabled table.now) sheet.now (length cells.old) result cells.new }
-{
-    read_given(Way::Table, table, sheet, cells)
-}
-
-// Reads a guest's sheet, whose Concepts no table lists, in the same way: each body has the mode that its layout shows.
-pub fn read_guest(sheet: &[u8], cells: &mut [u32]) -> Answer
-    ensures { ReadsSheet guest sheet.now (length cells.old) result cells.new }
-{
-    read_given(Way::Layout, &[], sheet, cells)
-}
-
-// Reads a sheet by this way. By layout the table is not asked.
-fn read_given(way: Way, table: &[u8], sheet: &[u8], cells: &mut [u32]) -> Answer
-    ensures { ReadsSheet (given_by way table.now) sheet.now (length cells.old) result cells.new }
+    ensures { ReadsSheet table.now sheet.now (length cells.old) result cells.new }
 {
     let mut index = [0; modes::index::CELLS];
-    let given = ready(way, table, &mut index);
-    let Answer::Accepted { .. } = given else {
+    let modes = modes::read_into(table, &mut index);
+    let Answer::Accepted { .. } = modes else {
         zero_from(cells, 0);
-        return given;
+        return modes;
     };
-    let answer = read_by(way, table, sheet, cells, &index);
+    let answer = read_under(table, sheet, cells, &index);
     zero_from(cells, answer.count() * CELLS);
     answer
 }
 
-// Reads a sheet by this way, which `modes::way::ready` accepts, with the index of its table. It zeroes no cell: those behind the entries are
-// as they were, and what a refusal leaves is not told.
-pub fn read_by(way: Way, table: &[u8], sheet: &[u8], cells: &mut [u32], index: &Index) -> Answer
-    requires { IndexedBy way table.now index.now }
-    ensures { ReadsBy (way_by way (modes_of table.now)) sheet.now cells.old (told result) cells.new }
+// Reads a sheet under a table that `modes::read_into` accepts, with its index. It zeroes no cell: those behind the entries are as they
+// were, and what a refusal leaves is not told.
+pub fn read_under(table: &[u8], sheet: &[u8], cells: &mut [u32], index: &Index) -> Answer
+    requires { Indexed table.now index.now }
+    ensures { ReadsUnder table.now sheet.now cells.old (told result) cells.new }
 {
     if Cursor::is_too_long(sheet) {
         return Answer::Refused {
@@ -72,7 +55,7 @@ pub fn read_by(way: Way, table: &[u8], sheet: &[u8], cells: &mut [u32], index: &
             refusal: Refusal::Bytes,
             place,
         },
-        Checked::Sound => match read_tree(way, table, sheet, cells, index) {
+        Checked::Sound => match read_tree(table, sheet, cells, index) {
             Part::Refused { refusal, place } => Answer::Refused { refusal, place },
             Part::Read { end, made, .. } => Answer::Accepted {
                 place: end,
@@ -83,9 +66,9 @@ pub fn read_by(way: Way, table: &[u8], sheet: &[u8], cells: &mut [u32], index: &
 }
 
 // Reads the root with its annotations and the blank lines around them, and enters it from the first cell on.
-fn read_tree(way: Way, table: &[u8], s: &[u8], cells: &mut [u32], index: &Index) -> Part
-    requires { IndexedBy way table.now index.now × (length s.now ≤ sheet_limit) }
-    ensures { ReadsTree (way_by way (modes_of table.now)) s.now cells.old result cells.new }
+fn read_tree(table: &[u8], s: &[u8], cells: &mut [u32], index: &Index) -> Part
+    requires { Indexed table.now index.now × (length s.now ≤ sheet_limit) }
+    ensures { ReadsTree table.now s.now cells.old result cells.new }
 {
     let blanks = blank_lines(s, 0);
     let Part::Read { end: first, .. } = blanks else {
@@ -101,7 +84,6 @@ fn read_tree(way: Way, table: &[u8], s: &[u8], cells: &mut [u32], index: &Index)
         parent: TOP,
     };
     let root = read_root(
-        way,
         table,
         s,
         first,

@@ -2,8 +2,7 @@
 // Document 01, "The grammar", Markers; a name is judged by 4, 10, 5 and 11, in this order.
 ghost use Rattle.std.specs.Prelude.{◌≡◌, suc, ◌+◌, ◌≤◌, ◌<◌, length, drop};
 ghost use Rattle.paper.specs.Reading.{head, bounds};
-ghost use Rattle.modes.specs.Table.{modes_of};
-ghost use Rattle.modes.specs.Ways.{way_by, IndexedBy};
+ghost use Rattle.modes.specs.Index.{Indexed};
 ghost use Rattle.entries.specs.Laid.{Fits};
 ghost use Rattle.lines.specs.Parts.{seen, passed, In};
 ghost use Rattle.sheets.specs.Traits.{NamesBefore, NamesOnward};
@@ -14,7 +13,7 @@ use entries::Slot;
 use lines::marks::{Ending, read_ending};
 use lines::part::{Part, Whose, byte_due, name_end};
 use modes::index::Index;
-use modes::way::{Way, mode_by};
+use modes::mode_of;
 use paper::{Mode, Refusal, forms};
 use text::nesting::{Deeper, Nesting};
 use text::runs;
@@ -39,7 +38,6 @@ pub enum Opening {
 
 // Reads the opening marker that is due at `at`, and enters its traits behind the entry that is kept free for the Concept.
 pub fn read_opening(
-    way: Way,
     table: &[u8],
     s: &[u8],
     at: usize,
@@ -49,14 +47,14 @@ pub fn read_opening(
     index: &Index,
     names: &mut [u16],
 ) -> Opening
-    requires { IndexedBy way table.now index.now × In s.now at × Fits cells.old slot × NamesBefore s.now (at + 1) names.old }
-    ensures { ReadsOpening (way_by way (modes_of table.now)) s.now at nesting.left cells.old slot result cells.new
+    requires { Indexed table.now index.now × In s.now at × Fits cells.old slot × NamesBefore s.now (at + 1) names.old }
+    ensures { ReadsOpening table.now s.now at nesting.left cells.old slot result cells.new
         × NamesOnward s.now (part_of result) names.new }
 {
     match read_head(s, at) {
         Part::Refused { refusal, place } => Opening::Refused { refusal, place },
         Part::Read { end: to, .. } => read_named(
-            way, table, s, at, to, nesting, cells, slot, index, names,
+            table, s, at, to, nesting, cells, slot, index, names,
         ),
     }
 }
@@ -75,7 +73,6 @@ fn read_head(s: &[u8], at: usize) -> Part
 
 // Goes on behind the name that stands from behind the "<" at `at` to `to`.
 fn read_named(
-    way: Way,
     table: &[u8],
     s: &[u8],
     at: usize,
@@ -86,15 +83,15 @@ fn read_named(
     index: &Index,
     names: &mut [u16],
 ) -> Opening
-    requires { IndexedBy way table.now index.now × In s.now to × (at < to) × Fits cells.old slot × NamesBefore s.now (at + 1) names.old }
-    ensures { ReadsNamed (way_by way (modes_of table.now)) s.now at to nesting.left cells.old slot result cells.new
+    requires { Indexed table.now index.now × In s.now to × (at < to) × Fits cells.old slot × NamesBefore s.now (at + 1) names.old }
+    ensures { ReadsNamed table.now s.now at to nesting.left cells.old slot result cells.new
         × NamesOnward s.now (part_of result) names.new }
 {
     let start = at + 1;
     let Deeper::Inside(inside) = nesting.step() else {
         return unopened(Refusal::TooDeep, at);
     };
-    let block = match mode_by(way, table, index, &s[start..to]) {
+    let block = match mode_of(table, index, &s[start..to]) {
         Mode::Absent => return unopened(Refusal::Unlisted, start),
         Mode::Children => forms::CHILDREN,
         Mode::Content => forms::CONTENT,

@@ -1,13 +1,12 @@
 // Requests: what a line asks, and its answer. A letter says what is asked; behind it stand words, each after one space.
-// Document 01, "The grammar", Bytes and Values, "The mode table", "Entries", "Canonical form", and the answers of "Order"; document 02, Seven.
+// Document 01, "The grammar", Bytes and Values, "The mode table", "Entries", "Canonical form", and the answers of "Order".
 ghost use Rattle.std.specs.Prelude.{◌≤◌, length};
 ghost use Rattle.trials.specs.Lines.{line_limit, Request, cell_limit, room_limit};
 
 use crate::words::{Listed, Numeral};
 use crate::{hex, print, words};
 use leaves::judged::Judged;
-use modes::way::Way;
-use paper::{Answer, Refusal};
+use paper::Refusal;
 use text::utf8;
 use values::reading;
 
@@ -20,8 +19,7 @@ const CELLS: usize = 16384;
 // What cells hold before a sheet is read, so that every zero behind its entries is the reader's.
 const STALE: u32 = 4294967295;
 
-// Answers a line. TABLE, SHEET and BYTES are bytes in hex, the other words are decimals; an empty word is no bytes. In `s` and `f` the word
-// TABLE may be `-`: there is no table, and the sheet is a guest's.
+// Answers a line. TABLE, SHEET and BYTES are bytes in hex, the other words are decimals; an empty word is no bytes.
 //     b BYTES              may a sheet have these bytes? 0 and their length, or the refusal and its place
 //     t TABLE              reads a mode table: number, place and count
 //     v BYTES              reads the value that stands in front: 0, its end and its form, or the refusal and its place
@@ -108,79 +106,57 @@ fn several(line: &[u8]) -> bool
     sheet(line[0], first, second, rest)
 }
 
-// Answers a request whose first words are a table, or `-` for none, and a sheet in hex.
+// Answers a request whose first words are a table and a sheet in hex.
 fn sheet(letter: u8, table: &[u8], sheet: &[u8], asked: &[u8]) -> bool
     requires { (length table.now ≤ line_limit) × (length sheet.now ≤ line_limit) }
 {
     let mut table_room = [0u8; ROOM];
     let mut sheet_room = [0u8; ROOM];
-    let hex::Spelt::Bytes(n) = hex::read(sheet, &mut sheet_room) else {
-        return false;
-    };
-    if is_none(table) {
-        return of_sheet(letter, Way::Layout, &[], &sheet_room[..n], asked);
-    }
     let hex::Spelt::Bytes(t) = hex::read(table, &mut table_room) else {
         return false;
     };
-    of_sheet(
-        letter,
-        Way::Table,
-        &table_room[..t],
-        &sheet_room[..n],
-        asked,
-    )
+    let hex::Spelt::Bytes(n) = hex::read(sheet, &mut sheet_room) else {
+        return false;
+    };
+    of_sheet(letter, &table_room[..t], &sheet_room[..n], asked)
 }
 
-// Whether the word says that there is no table.
-fn is_none(table: &[u8]) -> bool {
-    table.len() == 1 && table[0] == b'-'
-}
-
-// Answers what the letter asks of a sheet and the words behind it. By layout no table is asked.
-fn of_sheet(letter: u8, way: Way, table: &[u8], sheet: &[u8], asked: &[u8]) -> bool {
+// Answers what the letter asks of a table, a sheet and the words behind them.
+fn of_sheet(letter: u8, table: &[u8], sheet: &[u8], asked: &[u8]) -> bool {
     if letter == b'f' {
-        form(way, table, sheet, asked)
+        form(table, sheet, asked)
     } else {
-        reading(way, table, sheet, asked)
+        reading(table, sheet, asked)
     }
 }
 
 // Reads a sheet with as many cells lent as are asked for.
-fn reading(way: Way, table: &[u8], sheet: &[u8], asked: &[u8]) -> bool {
+fn reading(table: &[u8], sheet: &[u8], asked: &[u8]) -> bool {
     let Numeral::Is(lent) = words::number(asked) else {
         return false;
     };
     if CELLS < lent {
         return false;
     }
-    read_lent(way, table, sheet, lent);
+    read_lent(table, sheet, lent);
     true
 }
 
 // Reads a sheet with so many cells lent.
-fn read_lent(way: Way, table: &[u8], sheet: &[u8], lent: usize)
+fn read_lent(table: &[u8], sheet: &[u8], lent: usize)
     requires { lent ≤ cell_limit }
 {
     let mut cells = [STALE; CELLS];
-    read_into(way, table, sheet, &mut cells[..lent]);
+    read_into(table, sheet, &mut cells[..lent]);
 }
 
-fn read_into(way: Way, table: &[u8], sheet: &[u8], cells: &mut [u32]) {
-    print::answer(read_by(way, table, sheet, cells));
+fn read_into(table: &[u8], sheet: &[u8], cells: &mut [u32]) {
+    print::answer(sheets::read(table, sheet, cells));
     print::cells(cells);
 }
 
-// Reads a sheet under the table, or as a guest's.
-fn read_by(way: Way, table: &[u8], sheet: &[u8], cells: &mut [u32]) -> Answer {
-    match way {
-        Way::Table => sheets::read(table, sheet, cells),
-        Way::Layout => sheets::read_guest(sheet, cells),
-    }
-}
-
 // Writes a sheet's form with as many cells and as much room lent as are asked for.
-fn form(way: Way, table: &[u8], sheet: &[u8], asked: &[u8]) -> bool {
+fn form(table: &[u8], sheet: &[u8], asked: &[u8]) -> bool {
     let lent_end = words::end(asked, 0);
     let room_start = words::past(asked, lent_end);
     let Numeral::Is(lent) = words::number(&asked[..lent_end]) else {
@@ -192,30 +168,22 @@ fn form(way: Way, table: &[u8], sheet: &[u8], asked: &[u8]) -> bool {
     if CELLS < lent || ROOM < room {
         return false;
     }
-    write_lent(way, table, sheet, lent, room);
+    write_lent(table, sheet, lent, room);
     true
 }
 
 // Writes a sheet's form with so many cells and so much room lent.
-fn write_lent(way: Way, table: &[u8], sheet: &[u8], lent: usize, room: usize)
+fn write_lent(table: &[u8], sheet: &[u8], lent: usize, room: usize)
     requires { (lent ≤ cell_limit) × (room ≤ room_limit) }
 {
     let mut cells = [STALE; CELLS];
     let mut out = [0u8; ROOM];
-    write_into(way, table, sheet, &mut cells[..lent], &mut out[..room]);
+    write_into(table, sheet, &mut cells[..lent], &mut out[..room]);
 }
 
-fn write_into(way: Way, table: &[u8], sheet: &[u8], cells: &mut [u32], out: &mut [u8]) {
-    print::answer(write_by(way, table, sheet, cells, out));
+fn write_into(table: &[u8], sheet: &[u8], cells: &mut [u32], out: &mut [u8]) {
+    print::answer(layout::write(table, sheet, cells, out));
     print::written(out);
-}
-
-// Writes a sheet's form under the table, or as a guest's.
-fn write_by(way: Way, table: &[u8], sheet: &[u8], cells: &mut [u32], out: &mut [u8]) -> Answer {
-    match way {
-        Way::Table => layout::write(table, sheet, cells, out),
-        Way::Layout => layout::write_guest(sheet, cells, out),
-    }
 }
 
 // Views an entry: the words are the sheet in hex, the entry's number, and the cells.

@@ -1,7 +1,7 @@
 //! Prints answered requests as statements about the formal definitions, each true by computation alone.
 //! The definitions are document 01's, in the folder that is named; nothing else here looks at them.
 
-use crate::reader::{read_sheet, table_answer, view, view_answer, Answer, Given, SHEET_BYTES};
+use crate::reader::{read_sheet, table_answer, view, view_answer, Answer, SHEET_BYTES};
 use crate::writer::write_form;
 use crate::{from_hex, numbers, SheetRequest};
 use std::path::Path;
@@ -77,18 +77,15 @@ fn unfoldable_names(text: &str) -> Vec<String> {
 /// A request about a sheet with answer, entries and form. A form over 16,384 bytes is no matter of these definitions.
 fn sheet_case(words: &[&str]) -> Option<String> {
     let request = SheetRequest::of(words.strip_prefix(&["sheet"])?)?;
-    let SheetRequest { given, sheet, lent } = &request;
-    let (answer, cells) = read_sheet(given, sheet, *lent);
-    let (written, form) = write_form(given, sheet, *lent, SHEET_BYTES);
+    let SheetRequest { table, sheet, lent } = &request;
+    let (answer, cells) = read_sheet(table, sheet, *lent);
+    let (written, form) = write_form(table, sheet, *lent, SHEET_BYTES);
     if written.number == 12 {
         return None;
     }
-    let given = match given {
-        Given::Table(table) => format!("Ways.tabled ({})", list(table)),
-        Given::Guest => "Ways.guest".to_string(),
-    };
-    let lists = format!("sheet = {}; entries = {}; form = {}", list(sheet), list(&cells[..answer.count * 8]), list(&form));
-    Some(format!("record {{ given = {given}; {lists}; lent = {lent}; answer = {} }}", told(answer)))
+    let lists =
+        format!("table = {}; sheet = {}; entries = {}; form = {}", list(table), list(sheet), list(&cells[..answer.count * 8]), list(&form));
+    Some(format!("record {{ {lists}; lent = {lent}; answer = {} }}", told(answer)))
 }
 
 fn table_case(words: &[&str]) -> Option<String> {
@@ -123,7 +120,7 @@ use Rattle·paper.specs.Answer.{Told}
 use Rattle·paper.specs.Found.{found, fault}
 
 pub record SheetCase : Type 0 where
-  pub given : Ways.Given
+  pub table : List ℕ
   pub sheet : List ℕ
   pub lent : ℕ
   pub answer : Told
@@ -137,18 +134,18 @@ pub record SheetSeen : Type 0 where
   pub form : List ℕ
   pub again : List ℕ
 
-unfoldable pub formOf : Ways.Given → ℕ → List ℕ → List ℕ
-formOf given lent s =
-    elim (Ways.wayOf given) [
+unfoldable pub formOf : List ℕ → ℕ → List ℕ → List ℕ
+formOf table lent s =
+    elim (Modes.modeTable table) [
       | fault n left ↦ []
-      | found w left ↦ elim (Reading.sheetOf w (Reading.roomOf lent) s) [ fault n left ↦ [] | found t left ↦ Canonical.canonical t ]
+      | found m left ↦ elim (Reading.sheetOf m (Reading.roomOf lent) s) [ fault n left ↦ [] | found t left ↦ Canonical.canonical t ]
     ]
 
 unfoldable pub seenSheet : SheetCase → SheetSeen
 seenSheet k =
-    let read = Reading.reading (k .given) (k .sheet) (k .lent) in
-    let form = formOf (k .given) (k .lent) (k .sheet) in
-    record { answer = read .answer; cells = read .cells; form = form; again = formOf (k .given) (k .lent) form }
+    let read = Reading.reading (k .table) (k .sheet) (k .lent) in
+    let form = formOf (k .table) (k .lent) (k .sheet) in
+    record { answer = read .answer; cells = read .cells; form = form; again = formOf (k .table) (k .lent) form }
 
 abbrev pub dueSheet : SheetCase → SheetSeen
 dueSheet k = record { answer = k .answer; cells = k .entries ++ replicate (k .lent - length (k .entries)) 0; form = k .form; again = k .form }

@@ -1,9 +1,7 @@
 //! Every example of document 01's "Sheets to try" and of READINGS.md that concerns tables, sheets, views, forms and rolls; then those of
 //! document 02 and READINGS-02.md. The numbers in the comments are theirs; `7@4` there is (7, 4) here, an acceptance is ACCEPTED.
 
-mod guest;
-
-use crate::reader::{read_sheet, table_answer, view, view_answer, Answer, Given, Refusal};
+use crate::reader::{read_sheet, table_answer, view, view_answer, Answer, Refusal};
 use crate::rolls::{add_sheet, read_roll};
 use crate::times::time_answer;
 use crate::writer::write_form;
@@ -14,16 +12,8 @@ const ALL: usize = 8_192;
 const TOP: u32 = 4_294_967_295;
 const ACCEPTED: u32 = 0;
 
-fn table() -> Given {
-    Given::Table(TABLE.to_vec())
-}
-
 fn answer(sheet: &[u8], lent: usize) -> Answer {
-    answer_by(&table(), sheet, lent)
-}
-
-fn answer_by(given: &Given, sheet: &[u8], lent: usize) -> Answer {
-    let (answer, cells) = read_sheet(given, sheet, lent);
+    let (answer, cells) = read_sheet(TABLE, sheet, lent);
     assert_eq!(cells.len(), lent);
     if answer.number != ACCEPTED {
         assert_eq!(answer.count, 0);
@@ -38,12 +28,8 @@ fn shown(sheet: &[u8]) -> String {
 
 #[track_caller]
 fn refused_with(sheet: impl AsRef<[u8]>, lent: usize, number: u32, place: usize) {
-    refused_by(&table(), sheet.as_ref(), lent, number, place);
-}
-
-#[track_caller]
-fn refused_by(given: &Given, sheet: &[u8], lent: usize, number: u32, place: usize) {
-    assert_eq!(answer_by(given, sheet, lent), Answer { number, place, count: 0 }, "{}", shown(sheet));
+    let sheet = sheet.as_ref();
+    assert_eq!(answer(sheet, lent), Answer { number, place, count: 0 }, "{}", shown(sheet));
 }
 
 #[track_caller]
@@ -70,12 +56,8 @@ fn value_no_kind(value: &str) {
 
 #[track_caller]
 fn accepted(sheet: impl AsRef<[u8]>) {
-    accepted_by(&table(), sheet.as_ref());
-}
-
-#[track_caller]
-fn accepted_by(given: &Given, sheet: &[u8]) {
-    let answer = answer_by(given, sheet, ALL);
+    let sheet = sheet.as_ref();
+    let answer = answer(sheet, ALL);
     assert_eq!((answer.number, answer.place), (ACCEPTED, sheet.len()), "{}", shown(sheet));
     assert!(answer.count > 0);
 }
@@ -84,22 +66,17 @@ fn accepted_by(given: &Given, sheet: &[u8]) {
 #[track_caller]
 fn value_form(value: &str, form: u32) {
     let sheet = format!("<Lab n={value} />");
-    let (answer, cells) = read_sheet(&table(), sheet.as_bytes(), ALL);
+    let (answer, cells) = read_sheet(TABLE, sheet.as_bytes(), ALL);
     assert_eq!(answer.number, ACCEPTED, "{}", shown(sheet.as_bytes()));
     assert_eq!(cells[8..16], [2, form, 0, cells[11], 5, 6, 7, 7 + value.len() as u32]);
 }
 
 #[track_caller]
 fn form(sheet: &str, right: &str) {
-    form_by(&table(), sheet, right);
-}
-
-#[track_caller]
-fn form_by(given: &Given, sheet: &str, right: &str) {
-    let (answer, form) = write_form(given, sheet.as_bytes(), ALL, 16_384);
+    let (answer, form) = write_form(TABLE, sheet.as_bytes(), ALL, 16_384);
     assert_eq!(String::from_utf8(form).unwrap(), right);
     assert_eq!(answer, Answer { number: 0, place: 0, count: right.len() });
-    let (_, again) = write_form(given, right.as_bytes(), ALL, 16_384);
+    let (_, again) = write_form(TABLE, right.as_bytes(), ALL, 16_384);
     assert_eq!(again, right.as_bytes());
 }
 
@@ -111,12 +88,7 @@ fn written(value: &str, right: &str) {
 
 #[track_caller]
 fn cells(sheet: &str, entries: &[[u32; 8]]) {
-    cells_by(&table(), sheet, entries);
-}
-
-#[track_caller]
-fn cells_by(given: &Given, sheet: &str, entries: &[[u32; 8]]) {
-    let (answer, cells) = read_sheet(given, sheet.as_bytes(), ALL);
+    let (answer, cells) = read_sheet(TABLE, sheet.as_bytes(), ALL);
     assert_eq!(answer, Answer { number: 0, place: sheet.len(), count: entries.len() });
     let (used, rest) = cells.split_at(entries.len() * 8);
     assert_eq!(used, entries.concat());
@@ -302,7 +274,7 @@ fn readings_25_and_26() {
     refused(b"\x00\x00\x00", 2);
     assert_eq!(table_answer(b"\x00\x00"), Answer { number: 0, place: 2, count: 0 });
     assert_eq!(table_answer(TABLE), Answer { number: 0, place: 12, count: 2 });
-    assert_eq!(read_sheet(&Given::Table(vec![0]), b"\xFF", 9), (Answer { number: 1, place: 1, count: 0 }, vec![0; 9]));
+    assert_eq!(read_sheet(b"\x00", b"\xFF", 9), (Answer { number: 1, place: 1, count: 0 }, vec![0; 9]));
 }
 
 // ---- Entries and their room
@@ -478,15 +450,15 @@ fn readings_43_to_45() {
 #[test]
 fn reading_46() {
     let sheet = b"<Lab u=x:y/ >\n</Lab>";
-    assert_eq!(write_form(&table(), sheet, 8, 0), (Answer { number: 11, place: 5, count: 0 }, vec![]));
-    assert_eq!(write_form(&table(), sheet, 16, 20), (Answer { number: 12, place: 0, count: 0 }, vec![]));
-    assert_eq!(write_form(&table(), sheet, 16, 21).0, Answer { number: 0, place: 0, count: 21 });
+    assert_eq!(write_form(TABLE, sheet, 8, 0), (Answer { number: 11, place: 5, count: 0 }, vec![]));
+    assert_eq!(write_form(TABLE, sheet, 16, 20), (Answer { number: 12, place: 0, count: 0 }, vec![]));
+    assert_eq!(write_form(TABLE, sheet, 16, 21).0, Answer { number: 0, place: 0, count: 21 });
     form("<Lab a=1 b=2 u=x:/ >\n</Lab>", "<Lab\n\ta=1\n\tb=2\n\tu=x:/\n>\n</Lab>\n");
     form("<Lab u=x:/ />", "<Lab u=x:/ />\n");
     let wide = format!("<Steps>\n{}</Steps>", "\tx\n".repeat(5_450));
     let text = format!("<Lab>\n{wide}\n</Lab>");
     assert_eq!(answer(text.as_bytes(), ALL).number, ACCEPTED);
-    assert_eq!(write_form(&table(), text.as_bytes(), ALL, 70_000).0, Answer { number: 12, place: 0, count: 0 });
+    assert_eq!(write_form(TABLE, text.as_bytes(), ALL, 70_000).0, Answer { number: 12, place: 0, count: 0 });
 }
 
 #[test]
@@ -508,7 +480,7 @@ fn reading_47() {
 fn reading_48() {
     let refused = Answer { number: 17, place: 0, count: 0 };
     let sheet = b"<Lab n=4 />";
-    let (_, cells) = read_sheet(&table(), sheet, 17);
+    let (_, cells) = read_sheet(TABLE, sheet, 17);
     assert_eq!(view(sheet, &cells, 0), Ok(&sheet[..]));
     assert_eq!(view(sheet, &cells, 1), Ok(&b"4"[..]));
     assert_eq!(view(sheet, &cells, 2), Err(Refusal { number: 17, place: 0 }));
@@ -527,22 +499,14 @@ const ALL_RECORDS: usize = 1_280;
 
 #[track_caller]
 fn roll_refused(roll: impl AsRef<[u8]>, room: usize, number: u32, place: usize) {
-    roll_refused_by(&table(), roll.as_ref(), room, number, place);
-}
-
-#[track_caller]
-fn roll_refused_by(given: &Given, roll: &[u8], room: usize, number: u32, place: usize) {
-    assert_eq!(read_roll(given, roll, room, ALL), (Answer { number, place, count: 0 }, vec![0; room]), "{}", shown(roll));
+    let roll = roll.as_ref();
+    assert_eq!(read_roll(TABLE, roll, room, ALL), (Answer { number, place, count: 0 }, vec![0; room]), "{}", shown(roll));
 }
 
 #[track_caller]
 fn records(roll: impl AsRef<[u8]>, records: &[[u32; 5]]) {
-    records_by(&table(), roll.as_ref(), records);
-}
-
-#[track_caller]
-fn records_by(given: &Given, roll: &[u8], records: &[[u32; 5]]) {
-    let (answer, cells) = read_roll(given, roll, ALL_RECORDS, ALL);
+    let roll = roll.as_ref();
+    let (answer, cells) = read_roll(TABLE, roll, ALL_RECORDS, ALL);
     assert_eq!(answer, Answer { number: ACCEPTED, place: roll.len(), count: records.len() }, "{}", shown(roll));
     let (made, left) = cells.split_at(5 * records.len());
     assert_eq!(made, records.concat(), "{}", shown(roll));
@@ -552,15 +516,10 @@ fn records_by(given: &Given, roll: &[u8], records: &[[u32; 5]]) {
 /// Adding to a roll of which `room` bytes are lent: its bytes, then bytes FF. Where it is refused the roll stays as it came.
 #[track_caller]
 fn adds(sheet: impl AsRef<[u8]>, roll: &[u8], room: usize, n: usize, right: Result<&[u8], (u32, usize)>) {
-    adds_by(&table(), sheet.as_ref(), roll, room, n, right);
-}
-
-#[track_caller]
-fn adds_by(given: &Given, sheet: &[u8], roll: &[u8], room: usize, n: usize, right: Result<&[u8], (u32, usize)>) {
     let mut lent = roll.to_vec();
     lent.resize(room, 0xFF);
     let before = lent.clone();
-    let answer = add_sheet(given, sheet, &mut lent, n, ALL);
+    let answer = add_sheet(TABLE, sheet.as_ref(), &mut lent, n, ALL);
     match right {
         Ok(added) => {
             let count = n + added.len();
@@ -601,7 +560,7 @@ fn reading_51() {
     roll_refused("<Lab/>\n<Lab/>\n<Lab/>", 14, 15, 14);
     roll_refused("<Lab/>", 4, 15, 0);
     roll_refused("<Lab/>\n".repeat(257), 2_000, 15, 7 * 256);
-    assert_eq!(read_roll(&table(), "<Lab/>\n".repeat(256).as_bytes(), 2_000, ALL).0.count, 256);
+    assert_eq!(read_roll(TABLE, "<Lab/>\n".repeat(256).as_bytes(), 2_000, ALL).0.count, 256);
     let long = format!("<Steps>\n\t{}\n</Steps>\n", "x".repeat(16_384 - 18));
     records(&long, &[[0, 16_385, 2, 16_384, 0]]);
 }
@@ -609,8 +568,8 @@ fn reading_51() {
 #[test]
 fn reading_52() {
     roll_refused("x".repeat(65_537), ALL_RECORDS, 13, 65_536);
-    assert_eq!(read_roll(&Given::Table(Vec::new()), b"x", 5, 8).0, Answer { number: 1, place: 0, count: 0 });
-    assert_eq!(read_roll(&Given::Table(Vec::new()), &[b'x'; 65_537], 5, 8).0.number, 13);
+    assert_eq!(read_roll(b"", b"x", 5, 8).0, Answer { number: 1, place: 0, count: 0 });
+    assert_eq!(read_roll(b"", &[b'x'; 65_537], 5, 8).0.number, 13);
 }
 
 #[test]
@@ -929,7 +888,7 @@ fn request_four_reading_17() {
 fn request_four_is_passed_on() {
     let sheet = "<Lab n=[1,\"a\\q\"] />\n";
     let refusal = Answer { number: 6, place: 12, count: 0 };
-    assert_eq!(write_form(&table(), sheet.as_bytes(), ALL, 16_384), (refusal, Vec::new()));
+    assert_eq!(write_form(TABLE, sheet.as_bytes(), ALL, 16_384), (refusal, Vec::new()));
     adds(sheet, b"<Lab />\n", 60, 8, Err((6, 12)));
     records(format!("<Lab/>\n{sheet}<Lab/>\n"), &[[0, 7, 0, 7, 1], [7, 27, 6, 12, 0], [27, 34, 0, 7, 1]]);
 }
@@ -1192,15 +1151,15 @@ fn request_five_reading_27() {
     form("<Lab a=(x:/) b=set[1,2]\nc=map[d:1]>\n</Lab>", "<Lab\n\ta=(x:/)\n\tb=set[1, 2]\n\tc=map[d: 1]\n>\n</Lab>\n");
     form("<Lab a=(x:/)>\n</Lab>", "<Lab a=(x:/)>\n</Lab>\n");
     let sheet = b"<Lab n=map[a:1,b:2]/>";
-    assert_eq!(write_form(&table(), sheet, ALL, 25), (Answer { number: 12, place: 0, count: 0 }, Vec::new()));
-    assert_eq!(write_form(&table(), sheet, ALL, 26).1, b"<Lab n=map[a: 1, b: 2] />\n");
+    assert_eq!(write_form(TABLE, sheet, ALL, 25), (Answer { number: 12, place: 0, count: 0 }, Vec::new()));
+    assert_eq!(write_form(TABLE, sheet, ALL, 26).1, b"<Lab n=map[a: 1, b: 2] />\n");
 }
 
 /// A view shows a map item's value, not its key; rolls and adding pass the places on.
 #[test]
 fn request_five_is_passed_on() {
     let sheet = b"<Lab n=map[\"k\":'v'] />";
-    let (_, cells) = read_sheet(&table(), sheet, ALL);
+    let (_, cells) = read_sheet(TABLE, sheet, ALL);
     assert_eq!(view(sheet, &cells, 2), Ok(&b"'v'"[..]));
     adds("<Lab n=map[k:1 ] />", b"", 60, 0, Err((6, 14)));
     adds("<Lab n=(1,2)/>", b"", 60, 0, Ok(b"<Lab n=(1, 2) />\n\n"));
@@ -1300,7 +1259,7 @@ fn request_six_in_long_markers() {
 /// Forms, rolls and adding pass the place on.
 #[test]
 fn request_six_is_passed_on() {
-    assert_eq!(write_form(&table(), b"<Lab n=1 n=2/>", ALL, 16_384), (Answer { number: 18, place: 9, count: 0 }, Vec::new()));
+    assert_eq!(write_form(TABLE, b"<Lab n=1 n=2/>", ALL, 16_384), (Answer { number: 18, place: 9, count: 0 }, Vec::new()));
     adds("<Lab n=1 n=2/>", b"", 60, 0, Err((18, 9)));
     adds("[a]\n<Lab n=1 n=2/>", b"x", 0, 1, Err((18, 13)));
     records("<Lab n=1/>\n<Lab n=1 n=2/>\n<Lab n=1 n\n", &[[0, 11, 0, 11, 2], [11, 26, 18, 9, 0], [26, 37, 18, 9, 0]]);

@@ -2,57 +2,36 @@
 //! Follows document 01's grammar, and 001 §18's to §22's, to print trees in random layouts; each printed rule may be broken once.
 
 mod dense;
-mod guest;
 
-use crate::reader::{is_trait_name, read_sheet, Given, CONCEPTS_DEEP, ENTRIES, ENTRY_CELLS, NAME_BYTES, SHEET_BYTES};
+use crate::reader::{is_trait_name, read_sheet, CONCEPTS_DEEP, ENTRIES, ENTRY_CELLS, NAME_BYTES, SHEET_BYTES};
 use crate::rolls::{read_roll, RECORD_CELLS, ROLL_BYTES, SHEETS};
+use crate::to_hex;
 use crate::values::{Bracket, BRACKETS_DEEP, LIST, MAP, SET, TUPLE};
 use crate::writer::write_form;
-use crate::{to_hex, to_word, GUEST};
 use dense::dense_sheet;
-use guest::add_guest;
 
 /// Cells for every entry a sheet may have.
 const PLENTY: usize = ENTRIES * ENTRY_CELLS;
 
-/// What requests are about: all that there is, sheets dense in traits alone, or guests' sheets alone.
-#[derive(Clone, Copy)]
-pub enum About {
-    All,
-    Dense,
-    Guests,
-}
+/// The kinds of requests, by their first words.
+pub const KINDS: [&str; 7] = ["table", "sheet", "form", "view", "roll", "add", "time"];
 
-impl About {
-    /// The kinds of requests that there are, by their first words.
-    pub fn kinds(self) -> &'static [&'static str] {
-        match self {
-            About::All => &["table", "sheet", "form", "view", "roll", "add", "time"],
-            About::Dense => &["sheet", "form", "view", "roll", "add"],
-            About::Guests => &["sheet", "form", "roll", "add"],
-        }
-    }
+/// Those that are made of sheets dense in traits.
+pub const DENSE_KINDS: [&str; 5] = ["sheet", "form", "view", "roll", "add"];
 
-    /// Whether a line that was made is about this.
-    fn has(self, line: &str) -> bool {
-        match self {
-            About::All | About::Dense => true,
-            About::Guests => line.split(' ').nth(1) == Some(GUEST),
-        }
-    }
-}
-
-/// `count` request lines of the kinds named, none with a sheet or a time longer than `longest` or a roll longer than four times that.
-pub fn requests(seed: u64, count: usize, longest: usize, about: About, kinds: &[&str]) -> Vec<String> {
+/// `count` request lines of the kinds named, none with a sheet or a time longer than `longest` or a roll longer than four times that; of
+/// sheets dense in traits alone, if that is asked.
+pub fn requests(seed: u64, count: usize, longest: usize, dense: bool, kinds: &[&str]) -> Vec<String> {
     let mut chance = Chance(seed);
     let mut lines = Vec::new();
     while lines.len() < count {
         let mut made = Vec::new();
-        match about {
-            About::All | About::Guests => add_requests(&mut made, &mut chance, longest),
-            About::Dense => add_dense(&mut made, &mut chance, longest),
+        if dense {
+            add_dense(&mut made, &mut chance, longest);
+        } else {
+            add_requests(&mut made, &mut chance, longest);
         }
-        lines.extend(made.into_iter().filter(|line| about.has(line) && kinds.iter().any(|kind| line.starts_with(kind))));
+        lines.extend(made.into_iter().filter(|line| kinds.iter().any(|kind| line.starts_with(kind))));
     }
     lines.truncate(count);
     lines
@@ -63,22 +42,22 @@ const SMALL: usize = 200;
 
 /// The requests about one table, sheet, roll or time, of all kinds.
 fn add_requests(lines: &mut Vec<String>, chance: &mut Chance, longest: usize) {
-    let names = if chance.one_in(8) { Names::guests(chance) } else { Names::of_table(chance, longest) };
-    match chance.below(820) {
-        0..=19 => add_table(lines, chance, longest),
+    let names = if SMALL < longest && chance.one_in(6) { Names::many(chance) } else { Names::random(chance) };
+    match chance.below(680) {
+        0..=19 => add_table(lines, chance, &names, longest),
         20..=30 => add_limit(lines, chance, longest),
         31 => add_cuts(lines, chance, &names, longest),
         32..=69 => {
             let sheet = pieces_in_a_row(chance);
-            add_to_try(lines, chance, sheet.as_bytes(), longest);
+            add_sheet(lines, chance, &Names::papers().table(), sheet.as_bytes(), longest);
         }
         70..=89 => {
             let sheet = one_value(chance);
-            add_to_try(lines, chance, sheet.as_bytes(), longest);
+            add_sheet(lines, chance, &Names::papers().table(), sheet.as_bytes(), longest);
         }
         90..=129 => {
             let sheet = one_address(chance);
-            add_to_try(lines, chance, &sheet, longest);
+            add_sheet(lines, chance, &Names::papers().table(), &sheet, longest);
         }
         130..=189 => {
             let roll = any_roll(chance, &names, longest);
@@ -88,79 +67,63 @@ fn add_requests(lines: &mut Vec<String>, chance: &mut Chance, longest: usize) {
         250..=329 => add_time(lines, chance, longest),
         330..=409 => {
             let sheet = one_fault(chance);
-            add_to_try(lines, chance, &sheet, longest);
+            add_sheet(lines, chance, &Names::papers().table(), &sheet, longest);
         }
         410..=489 => {
             let sheet = one_bracketed(chance);
-            add_to_try(lines, chance, &sheet, longest);
+            add_sheet(lines, chance, &Names::papers().table(), &sheet, longest);
         }
         490..=549 => {
             let sheet = one_marker(chance, &names, longest);
-            add_marker(lines, chance, &names.given(), &sheet, longest);
+            add_marker(lines, chance, &names.table(), &sheet, longest);
         }
         550..=569 => add_dense(lines, chance, longest),
-        570..=709 => add_guest(lines, chance, longest),
         _ => {
             let sheet = any_sheet(chance, &names);
-            add_sheet(lines, chance, &names.given(), &sheet, longest);
+            add_sheet(lines, chance, &names.table(), &sheet, longest);
         }
     }
 }
 
 /// A table that is mostly refused, and at times a sheet under it.
-fn add_table(lines: &mut Vec<String>, chance: &mut Chance, longest: usize) {
-    let names = Names::of_table(chance, longest);
-    let table = if names.are_many() && chance.one_in(2) { repeating_table(chance, &names) } else { damaged_table(chance, &names) };
+fn add_table(lines: &mut Vec<String>, chance: &mut Chance, names: &Names, longest: usize) {
+    let table = if names.are_many() && chance.one_in(2) { repeating_table(chance, names) } else { damaged_table(chance, names) };
     lines.push(format!("table {}", to_hex(&table)));
     if chance.one_in(4) {
-        let sheet = any_sheet(chance, &names);
-        add_sheet(lines, chance, &Given::Table(table), &sheet, longest);
-    }
-}
-
-/// The requests about a sheet whose names are those of "Sheets to try", under the paper's table or as a guest's.
-fn add_to_try(lines: &mut Vec<String>, chance: &mut Chance, sheet: &[u8], longest: usize) {
-    let given = papers_or_guest(chance);
-    add_sheet(lines, chance, &given, sheet, longest);
-}
-
-fn papers_or_guest(chance: &mut Chance) -> Given {
-    if chance.one_in(10) {
-        Given::Guest
-    } else {
-        Names::papers().given()
+        let sheet = any_sheet(chance, names);
+        add_sheet(lines, chance, &table, &sheet, longest);
     }
 }
 
 /// The requests about one sheet: its reading, mostly its form, and at times a view.
-fn add_sheet(lines: &mut Vec<String>, chance: &mut Chance, given: &Given, sheet: &[u8], longest: usize) {
+fn add_sheet(lines: &mut Vec<String>, chance: &mut Chance, table: &[u8], sheet: &[u8], longest: usize) {
     if sheet.len() > longest {
         return;
     }
-    let lent = random_lent(chance, given, sheet);
-    let rest = format!("{} {} {}", to_word(given), to_hex(sheet), lent);
+    let lent = random_lent(chance, table, sheet);
+    let rest = format!("{} {} {}", to_hex(table), to_hex(sheet), lent);
     lines.push(format!("sheet {rest}"));
     if !chance.one_in(4) {
         lines.push(format!("form {rest}"));
     }
     if chance.one_in(4) {
-        lines.push(format!("form {rest} {}", random_room(chance, given, sheet)));
+        lines.push(format!("form {rest} {}", random_room(chance, table, sheet)));
     }
     if chance.one_in(8) {
-        lines.push(view_request(chance, given, sheet));
+        lines.push(view_request(chance, table, sheet));
     }
 }
 
 /// Room for a form: exactly enough, one byte too few, fewer, some more, or more than any form may take.
-fn random_room(chance: &mut Chance, given: &Given, sheet: &[u8]) -> usize {
-    let enough = write_form(given, sheet, PLENTY, SHEET_BYTES).0.count;
+fn random_room(chance: &mut Chance, table: &[u8], sheet: &[u8]) -> usize {
+    let enough = write_form(table, sheet, PLENTY, SHEET_BYTES).0.count;
     let (fewer, more) = (chance.below(enough + 1), enough + 1 + chance.below(40));
     *chance.pick(&[&enough, &enough, &enough.saturating_sub(1), &enough.saturating_sub(1), &fewer, &more, &(4 * SHEET_BYTES)])
 }
 
 /// A view of some entry or of none, at times over cells of which one was changed or the last were taken away.
-fn view_request(chance: &mut Chance, given: &Given, sheet: &[u8]) -> String {
-    let (answer, mut cells) = read_sheet(given, sheet, PLENTY);
+fn view_request(chance: &mut Chance, table: &[u8], sheet: &[u8]) -> String {
+    let (answer, mut cells) = read_sheet(table, sheet, PLENTY);
     cells.truncate((answer.count + chance.below(2)) * ENTRY_CELLS);
     if !cells.is_empty() && chance.one_in(2) {
         let length = sheet.len() as u32;
@@ -177,8 +140,8 @@ fn view_request(chance: &mut Chance, given: &Given, sheet: &[u8]) -> String {
 }
 
 /// Cells to lend: mostly plenty or more; else none, few, too few, exactly enough or one too few.
-fn random_lent(chance: &mut Chance, given: &Given, sheet: &[u8]) -> usize {
-    let enough = read_sheet(given, sheet, PLENTY).0.count * ENTRY_CELLS;
+fn random_lent(chance: &mut Chance, table: &[u8], sheet: &[u8]) -> usize {
+    let enough = read_sheet(table, sheet, PLENTY).0.count * ENTRY_CELLS;
     match chance.below(20) {
         0 => 0,
         1 => chance.below(40),
@@ -208,13 +171,13 @@ fn any_sheet(chance: &mut Chance, names: &Names) -> Vec<u8> {
 /// One sheet cut at every byte.
 fn add_cuts(lines: &mut Vec<String>, chance: &mut Chance, names: &Names, longest: usize) {
     let sheet = Printer::new(chance, names, false).sheet(2);
-    let given = names.given();
+    let table = names.table();
     if sheet.len() > longest.min(200) {
         return;
     }
     for length in 0..=sheet.len() {
         let lent = if chance.one_in(4) { chance.below(40) } else { PLENTY };
-        lines.push(format!("sheet {} {} {}", to_word(&given), to_hex(&sheet[..length]), lent));
+        lines.push(format!("sheet {} {} {}", to_hex(&table), to_hex(&sheet[..length]), lent));
     }
 }
 
@@ -225,9 +188,9 @@ fn add_roll(lines: &mut Vec<String>, chance: &mut Chance, names: &Names, roll: &
     if roll.len() > 4 * longest {
         return;
     }
-    let given = names.mostly_given(chance, 12);
+    let table = if chance.one_in(12) { damaged_table(chance, names) } else { names.table() };
     let most = SHEETS * RECORD_CELLS;
-    let enough = read_roll(&given, roll, most, 0).0.count * RECORD_CELLS;
+    let enough = read_roll(&table, roll, most, 0).0.count * RECORD_CELLS;
     let records = match chance.below(12) {
         0 => chance.below(12),
         1..=3 => enough,
@@ -237,7 +200,7 @@ fn add_roll(lines: &mut Vec<String>, chance: &mut Chance, names: &Names, roll: &
         _ => most,
     };
     let lent = if chance.one_in(4) { chance.below(40) } else { PLENTY + chance.below(2) * chance.below(40) };
-    lines.push(format!("roll {} {} {records} {lent}", to_word(&given), to_hex(roll)));
+    lines.push(format!("roll {} {} {records} {lent}", to_hex(&table), to_hex(roll)));
 }
 
 /// Some sheets one behind the other, or a roll at a limit; as it is, damaged or cut. What stands before the first is mostly blank.
@@ -265,7 +228,7 @@ fn any_roll(chance: &mut Chance, names: &Names, longest: usize) -> Vec<u8> {
 /// A sheet as adding writes it, at times damaged behind its first two bytes or cut; or any other, or one with several traits.
 fn sheet_of_roll(chance: &mut Chance, names: &Names) -> Vec<u8> {
     let sheet = any_sheet(chance, names);
-    let (_, form) = write_form(&names.given(), &sheet, PLENTY, SHEET_BYTES);
+    let (_, form) = write_form(&names.table(), &sheet, PLENTY, SHEET_BYTES);
     let mut part = if form.is_empty() && !chance.one_in(4) { b"<Lab />\n".to_vec() } else { form };
     match chance.below(12) {
         0 => part = sheet,
@@ -298,7 +261,7 @@ fn roll_at_limit(chance: &mut Chance, names: &Names) -> Vec<u8> {
 
 /// Any sheet to be added to any roll.
 fn add_any(lines: &mut Vec<String>, chance: &mut Chance, names: &Names, longest: usize) {
-    let papers = Names { guest: names.guest, ..Names::papers() };
+    let papers = Names::papers();
     let (names, sheet) = match chance.below(12) {
         0 => (names, of_length(SHEET_BYTES - 2 + chance.below(4)).into_bytes()),
         1 | 2 => (&papers, one_bracketed(chance)),
@@ -314,12 +277,12 @@ fn add_adding(lines: &mut Vec<String>, chance: &mut Chance, names: &Names, sheet
     if sheet.len() > longest || roll.len() > 4 * longest {
         return;
     }
-    let given = names.mostly_given(chance, 16);
-    let lent = random_lent(chance, &given, sheet);
+    let table = if chance.one_in(16) { damaged_table(chance, names) } else { names.table() };
+    let lent = random_lent(chance, &table, sheet);
     let n = random_end(chance, roll);
-    let added = write_form(&given, sheet, PLENTY, SHEET_BYTES).0.count + 1;
+    let added = write_form(&table, sheet, PLENTY, SHEET_BYTES).0.count + 1;
     let room = random_room_behind(chance, roll.len(), n.saturating_add(added));
-    lines.push(format!("add {} {} {lent} {} {n} {room}", to_word(&given), to_hex(sheet), to_hex(roll)));
+    lines.push(format!("add {} {} {lent} {} {n} {room}", to_hex(&table), to_hex(sheet), to_hex(roll)));
 }
 
 /// How many bytes of a roll are in use: mostly all of it, or up to a line's end; else none, some, more than there are, or too many.
@@ -372,34 +335,16 @@ impl Chance {
 
 // ---- Names and mode tables
 
-/// The names of a mode table, or of a guest's Concepts, any of which may have either mode.
+/// The names of a mode table.
 struct Names {
     children: Vec<String>,
     content: Vec<String>,
-    guest: bool,
 }
 
 impl Names {
     fn of(children: &[&str], content: &[&str]) -> Names {
         let owned = |names: &[&str]| names.iter().map(|name| name.to_string()).collect();
-        Names { children: owned(children), content: owned(content), guest: false }
-    }
-
-    /// The names of a table, which are few where sheets are short.
-    fn of_table(chance: &mut Chance, longest: usize) -> Names {
-        if SMALL < longest && chance.one_in(6) {
-            Names::many(chance)
-        } else {
-            Names::random(chance)
-        }
-    }
-
-    /// One to three names of a guest's own, which no table has.
-    fn guests(chance: &mut Chance) -> Names {
-        let known = ["Foo", "Bar", "F", "Fo", "Foos", "FOo", "Guest", "X1", "F123456789012345678901234567890x"];
-        let first = chance.below(known.len());
-        let names: Vec<&str> = known.iter().cycle().skip(first).take(1 + chance.below(3)).copied().collect();
-        Names { guest: true, ..Names::of(&names, &names) }
+        Names { children: owned(children), content: owned(content) }
     }
 
     /// The table of "Sheets to try".
@@ -429,47 +374,25 @@ impl Names {
             }
         }
         let content = names.split_off(count / 2);
-        Names { children: names, content, guest: false }
+        Names { children: names, content }
     }
 
     fn are_many(&self) -> bool {
         self.children.len() > 4
     }
 
+    /// The table's bytes: two sections, each a count byte and names with their length bytes.
     fn table(&self) -> Vec<u8> {
-        table_of(&self.children, &self.content)
-    }
-
-    /// The table of these names; for a guest's none.
-    fn given(&self) -> Given {
-        if self.guest {
-            Given::Guest
-        } else {
-            Given::Table(self.table())
+        let mut table = Vec::new();
+        for section in [&self.children, &self.content] {
+            table.push(section.len() as u8);
+            for name in section {
+                table.push(name.len() as u8);
+                table.extend_from_slice(name.as_bytes());
+            }
         }
+        table
     }
-
-    /// The same, but for one of so many tables, which is damaged.
-    fn mostly_given(&self, chance: &mut Chance, odds: usize) -> Given {
-        if !self.guest && chance.one_in(odds) {
-            Given::Table(damaged_table(chance, self))
-        } else {
-            self.given()
-        }
-    }
-}
-
-/// A table's bytes: two sections, each a count byte and names with their length bytes.
-fn table_of(children: &[String], content: &[String]) -> Vec<u8> {
-    let mut table = Vec::new();
-    for section in [children, content] {
-        table.push(section.len() as u8);
-        for name in section {
-            table.push(name.len() as u8);
-            table.extend_from_slice(name.as_bytes());
-        }
-    }
-    table
 }
 
 /// A Concept's name of 1 to 32 letters and digits, of which few are used.
@@ -490,7 +413,8 @@ fn repeating_table(chance: &mut Chance, names: &Names) -> Vec<u8> {
     let to = &mut sections[chance.below(2)];
     let place = chance.below(to.len());
     to[place] = name;
-    table_of(&sections[0], &sections[1])
+    let [children, content] = sections;
+    Names { children, content }.table()
 }
 
 /// A table: as it is, with a byte changed, cut, or with a name that the rule forbids.
@@ -502,9 +426,9 @@ fn damaged_table(chance: &mut Chance, names: &Names) -> Vec<u8> {
         0 => names.table(),
         1 => damaged(chance, names.table()),
         2 => names.table()[..chance.below(names.table().len())].to_vec(),
-        3 => table_of(&["Lab".into(), chance.pick(&bad_names).into()], &["Steps".into()]),
-        4 => table_of(&["Lab".into()], &[chance.pick(&bad_names).into(), long]),
-        _ => table_of(&many, &["Steps".into()]),
+        3 => Names { children: vec!["Lab".into(), chance.pick(&bad_names).into()], content: vec!["Steps".into()] }.table(),
+        4 => Names { children: vec!["Lab".into()], content: vec![chance.pick(&bad_names).into(), long] }.table(),
+        _ => Names { children: many, content: vec!["Steps".into()] }.table(),
     }
 }
 
@@ -625,7 +549,7 @@ fn add_time(lines: &mut Vec<String>, chance: &mut Chance, longest: usize) {
         lines.push(format!("time {}", to_hex(&alone)));
     }
     let sheet = one_time(chance, &time);
-    add_to_try(lines, chance, &sheet, longest);
+    add_sheet(lines, chance, &Names::papers().table(), &sheet, longest);
 }
 
 /// A time that is good in half of the cases, else nearly good or pieces in a row between braces.
@@ -904,7 +828,7 @@ fn in_a_marker(chance: &mut Chance, value: &str) -> Vec<u8> {
         ("<Lab n=", "/>"),
         ("<Lab n=", ">\n</Lab>"),
         ("<Lab a=\"\\n\" b=[1, 2]\r\n\tn=", " m=04 />"),
-        ("[a]\n\t<Lab>\n\t\t<Steps n=", ">\n\t\t\tx\n\t\t</Steps>\n\t</Lab>"),
+        ("[a]\n\t<Lab>\n<Steps n=", ">\n\tx\n</Steps>\n</Lab>"),
     ];
     let (before, behind) = around[chance.below(around.len())];
     let sheet = format!("{before}{value}{behind}").into_bytes();
@@ -1165,9 +1089,9 @@ const BRACKET_PIECES: [&str; 40] = [
 
 /// The requests about a sheet of dense markers; at times it is one of a roll, too, or is added to one.
 fn add_dense(lines: &mut Vec<String>, chance: &mut Chance, longest: usize) {
-    let names = if chance.one_in(5) { Names::guests(chance) } else { Names::random(chance) };
+    let names = Names::random(chance);
     let sheet = dense_sheet(chance, &names, longest);
-    add_marker(lines, chance, &names.given(), &sheet, longest);
+    add_marker(lines, chance, &names.table(), &sheet, longest);
     if chance.one_in(6) {
         let mut roll = Vec::new();
         for _ in 0..1 + chance.below(4) {
@@ -1181,22 +1105,22 @@ fn add_dense(lines: &mut Vec<String>, chance: &mut Chance, longest: usize) {
 }
 
 /// The requests about a sheet with several traits; at times with just as many cells as are used, one fewer, or too few for an entry more.
-fn add_marker(lines: &mut Vec<String>, chance: &mut Chance, given: &Given, sheet: &[u8], longest: usize) {
-    add_sheet(lines, chance, given, sheet, longest);
+fn add_marker(lines: &mut Vec<String>, chance: &mut Chance, table: &[u8], sheet: &[u8], longest: usize) {
+    add_sheet(lines, chance, table, sheet, longest);
     if sheet.len() <= longest && chance.one_in(3) {
-        let used = entries_used(given, sheet) * ENTRY_CELLS;
+        let used = entries_used(table, sheet) * ENTRY_CELLS;
         let lent = *chance.pick(&[&used, &used.saturating_sub(1), &(used + ENTRY_CELLS - 1)]);
-        lines.push(format!("sheet {} {} {lent}", to_word(given), to_hex(sheet)));
+        lines.push(format!("sheet {} {} {lent}", to_hex(table), to_hex(sheet)));
     }
 }
 
 /// How many entries are made until the sheet is accepted or refused: with room for so many the answer is that with plenty.
-fn entries_used(given: &Given, sheet: &[u8]) -> usize {
-    let answer = read_sheet(given, sheet, PLENTY).0;
+fn entries_used(table: &[u8], sheet: &[u8]) -> usize {
+    let answer = read_sheet(table, sheet, PLENTY).0;
     let (mut fewest, mut enough) = (0, ENTRIES);
     while fewest < enough {
         let middle = (fewest + enough) / 2;
-        if read_sheet(given, sheet, middle * ENTRY_CELLS).0 == answer {
+        if read_sheet(table, sheet, middle * ENTRY_CELLS).0 == answer {
             enough = middle;
         } else {
             fewest = middle + 1;
@@ -1283,15 +1207,13 @@ fn around_traits(chance: &mut Chance, names: &Names, traits: &[String]) -> (Stri
     let known = if names.content.is_empty() || chance.one_in(2) { &names.children } else { &names.content };
     let name = &known[chance.below(known.len())];
     let shared: String = traits.iter().take(3).map(|name| format!(" {name}=1")).collect();
-    let around = chance.below(8);
-    let tabs = if around < 2 { "\t" } else { "" };
     let end = match chance.below(4) {
-        0 => format!(">\n{tabs}</{name}>"),
+        0 => format!(">\n</{name}>"),
         _ => chance.pick(&["/>", " />", "\n/>"]).to_string(),
     };
-    match around {
-        0 => (format!("<{parent}{shared}>\n{tabs}<{name}"), format!("{end}\n</{parent}>")),
-        1 => (format!("<{parent}>\n{tabs}<{name}{shared} />\n{tabs}<{name}"), format!("{end}\n{tabs}<{name}{shared} />\n</{parent}>")),
+    match chance.below(8) {
+        0 => (format!("<{parent}{shared}>\n<{name}"), format!("{end}\n</{parent}>")),
+        1 => (format!("<{parent}>\n<{name}{shared} />\n<{name}"), format!("{end}\n<{name}{shared} />\n</{parent}>")),
         2 => (format!("[{shared}{shared}]\n<{name}"), end),
         _ => (format!("<{name}"), end),
     }
@@ -1376,7 +1298,7 @@ fn add_limit(lines: &mut Vec<String>, chance: &mut Chance, longest: usize) {
         1 => format!("<L{}/>", "a".repeat(NAME_BYTES - 1 + over)),
         2 => format!("<Lab n={} />", in_brackets(chance, BRACKETS_DEEP + over, 0, "1")),
         3 => nested(CONCEPTS_DEEP + over),
-        4 => format!("<Lab>\n{}</Lab>", "\t<Lab/>\n".repeat(ENTRIES - 1 + over)),
+        4 => format!("<Lab>\n{}</Lab>", "<Lab/>\n".repeat(ENTRIES - 1 + over)),
         5 => of_length(SHEET_BYTES + over),
         6 | 7 => of_deeper_content(1 + chance.below(CONCEPTS_DEEP - 1), SHEET_BYTES + over),
         8 => of_escapes(SHEET_BYTES + over),
@@ -1389,11 +1311,11 @@ fn add_limit(lines: &mut Vec<String>, chance: &mut Chance, longest: usize) {
         15 => format!("<Lab{} n{}=1 />", numbered_traits(ENTRIES - 2 + over), chance.below(ENTRIES)),
         _ => of_length(SHEET_BYTES - 1 + over) + "\n",
     };
-    let given = papers_or_guest(chance);
+    let table = Names::papers().table();
     if sheet.len() <= longest {
-        lines.push(format!("form {} {} {PLENTY} {}", to_word(&given), to_hex(sheet.as_bytes()), 4 * SHEET_BYTES));
+        lines.push(format!("form {} {} {PLENTY} {}", to_hex(&table), to_hex(sheet.as_bytes()), 4 * SHEET_BYTES));
     }
-    add_sheet(lines, chance, &given, sheet.as_bytes(), longest);
+    add_sheet(lines, chance, &table, sheet.as_bytes(), longest);
 }
 
 /// So many traits, with names of a letter and a number.
@@ -1401,11 +1323,9 @@ fn numbered_traits(count: usize) -> String {
     (0..count).map(|number| format!(" n{number}=1")).collect()
 }
 
-/// `depth` Concepts in one another, each a tab deeper.
+/// `depth` Concepts in one another.
 fn nested(depth: usize) -> String {
-    let lines = |marker: &str| (0..depth - 1).map(|tabs| format!("{}{marker}\n", "\t".repeat(tabs))).collect::<Vec<String>>();
-    let closing: String = lines("</Lab>").into_iter().rev().collect();
-    format!("{}{}<Lab/>\n{closing}", lines("<Lab>").concat(), "\t".repeat(depth - 1))
+    format!("{}<Lab/>\n{}", "<Lab>\n".repeat(depth - 1), "</Lab>\n".repeat(depth - 1))
 }
 
 /// A sheet of `length` bytes, most of them Content.
@@ -1449,16 +1369,13 @@ struct Printer<'a> {
     chance: &'a mut Chance,
     names: &'a Names,
     kept: Option<usize>,
-    /// The tabs of a guest's root, from which all others are counted.
-    root_tabs: usize,
     text: Vec<u8>,
 }
 
 impl<'a> Printer<'a> {
     fn new(chance: &'a mut Chance, names: &'a Names, slips: bool) -> Printer<'a> {
         let kept = slips.then(|| chance.below(50));
-        let root_tabs = if chance.one_in(4) { chance.below(4) } else { 0 };
-        Printer { chance, names, kept, root_tabs, text: Vec::new() }
+        Printer { chance, names, kept, text: Vec::new() }
     }
 
     fn put(&mut self, text: &str) {
@@ -1531,18 +1448,9 @@ impl<'a> Printer<'a> {
         }
     }
 
-    /// The tabs before a marker or an annotation; gives their number. Those of a guest are exact.
+    /// The tabs before a marker or an annotation; gives their number.
     fn tabs(&mut self, depth: usize) -> usize {
-        let due = self.root_tabs + depth;
-        let tabs = if self.names.guest && self.slip() {
-            *self.chance.pick(&[&(due + 1), &(due + 1), &(due + 2), &due.saturating_sub(1)])
-        } else if self.names.guest {
-            due
-        } else if self.chance.one_in(3) {
-            self.chance.below(4)
-        } else {
-            depth
-        };
+        let tabs = if self.chance.one_in(3) { self.chance.below(4) } else { depth };
         self.put(&"\t".repeat(tabs));
         if self.slip() {
             self.put_one_of(&[" ", "x", "\n ", ">"]);
@@ -1598,7 +1506,7 @@ impl<'a> Printer<'a> {
             self.blank_lines();
         }
         if self.slip() {
-            self.annotation(depth + 1);
+            self.annotation(depth);
         }
         self.tabs(depth);
         if self.kept.is_some() && self.chance.one_in(3) {
@@ -1628,24 +1536,14 @@ impl<'a> Printer<'a> {
     fn content_line(&mut self, name: &str, tabs: usize) {
         let deeper = "\t".repeat(tabs + 1);
         self.put_or_slip(&deeper, &[" ", &deeper[1..], "", " \t\t\t"]);
-        let texts = ["boot 7", "a", " x ", "\ty", "<Lab>", "\\[", "\u{e9}\u{1F600} ", "\u{a0}x:\u{200F}", "[a]", "0\t"];
-        let mut text = self.chance.pick(&texts).to_string();
         if self.chance.one_in(5) {
-            text.insert_str(0, &format!("</{name}>"));
+            self.put(&format!("</{name}>"));
         }
-        if self.names.guest && text.starts_with(&['<', '['][..]) && !self.slip() {
-            self.put_one_of(&["x", " ", "\t", "\\"]);
-        }
-        self.put(&text);
+        self.put_one_of(&["boot 7", "a", " x ", "\ty", "<Lab>", "\\[", "\u{e9}\u{1F600} ", "\u{a0}x:\u{200F}", "[a]", "0\t"]);
     }
 
-    /// An annotation. Those of a guest's root stand at any tabs, too.
     fn annotation(&mut self, depth: usize) {
-        if self.names.guest && depth == 0 {
-            self.put_one_of(&["", "", "\t", "\t\t"]);
-        } else {
-            self.tabs(depth);
-        }
+        self.tabs(depth);
         self.put("[");
         let texts = ["", " ", "a", "  a \t b ", "\\]", "\\\\", "a\\\\ ", "[", "<Lab>", "\u{e9}", "\u{3000}\u{200E}", "\t\\] x\\]\t"];
         for _ in 0..self.chance.below(3) {
@@ -1773,10 +1671,7 @@ impl<'a> Printer<'a> {
     fn backtick(&mut self) {
         self.put("`");
         for _ in 0..self.chance.below(6) {
-            self.put_one_of(&[
-                "a", " ", "\t", "\n", "\r\n", "\\`", "\\", "\\\\`", "\"", "'", "\u{e9}", "\u{a0}", "\\n", ">", "\n\t<Foo/>",
-                "\r\n\t\t[a]\n", "\n</Foo>\n", "\n\t</Lab>",
-            ]);
+            self.put_one_of(&["a", " ", "\t", "\n", "\r\n", "\\`", "\\", "\\\\`", "\"", "'", "\u{e9}", "\u{a0}", "\\n", ">"]);
         }
         if self.text.last() == Some(&b'\\') {
             self.put(" ");
@@ -1857,7 +1752,7 @@ mod tests {
 
     /// Whether the value stands in a good marker.
     fn is_value(value: &str) -> bool {
-        read_sheet(&Names::papers().given(), format!("<Lab n={value} />").as_bytes(), PLENTY).0.number == 0
+        read_sheet(&Names::papers().table(), format!("<Lab n={value} />").as_bytes(), PLENTY).0.number == 0
     }
 
     #[test]
@@ -1884,7 +1779,7 @@ mod tests {
                 assert!(is_value(&value), "{value}");
                 let sheet = format!("<Lab n={value}");
                 for end in (0..=sheet.len()).filter(|&end| sheet.is_char_boundary(end) && !sheet[..end].ends_with('\r')) {
-                    let answer = read_sheet(&Names::papers().given(), &sheet.as_bytes()[..end], PLENTY).0;
+                    let answer = read_sheet(&Names::papers().table(), &sheet.as_bytes()[..end], PLENTY).0;
                     assert_eq!((answer.number, answer.place), (9, end), "{}", &sheet[..end]);
                 }
             }
@@ -1892,18 +1787,18 @@ mod tests {
     }
 
     /// Kind, form, parent and count of the entries.
-    fn shape(given: &Given, sheet: &[u8]) -> Vec<[u32; 4]> {
-        let (answer, cells) = read_sheet(given, sheet, PLENTY);
+    fn shape(table: &[u8], sheet: &[u8]) -> Vec<[u32; 4]> {
+        let (answer, cells) = read_sheet(table, sheet, PLENTY);
         cells.chunks(ENTRY_CELLS).take(answer.count).map(|entry| [entry[0], entry[1], entry[2], entry[3]]).collect()
     }
 
     /// The form of the form is the form itself, and it has entries as the sheet has.
-    fn keeps_its_form(given: &Given, sheet: &[u8]) {
+    fn keeps_its_form(table: &[u8], sheet: &[u8]) {
         let shown = String::from_utf8_lossy(sheet).escape_debug().to_string();
-        let (_, form) = write_form(given, sheet, PLENTY, SHEET_BYTES);
-        let (answer, again) = write_form(given, &form, PLENTY, SHEET_BYTES);
+        let (_, form) = write_form(table, sheet, PLENTY, SHEET_BYTES);
+        let (answer, again) = write_form(table, &form, PLENTY, SHEET_BYTES);
         assert_eq!((answer.number, &again), (0, &form), "{shown}");
-        assert_eq!(shape(given, &form), shape(given, sheet), "{shown}");
+        assert_eq!(shape(table, &form), shape(table, sheet), "{shown}");
     }
 
     /// Where no rule is broken the sheet is accepted.
@@ -1911,21 +1806,21 @@ mod tests {
     fn printed_sheets_are_accepted() {
         for seed in 0..2_000 {
             let mut chance = Chance(seed);
-            let names = if chance.one_in(4) { Names::guests(&mut chance) } else { Names::of_table(&mut chance, SHEET_BYTES) };
+            let names = if chance.one_in(6) { Names::many(&mut chance) } else { Names::random(&mut chance) };
             let sheet = Printer::new(&mut chance, &names, false).sheet(8);
-            assert_eq!(read_sheet(&names.given(), &sheet, PLENTY).0.number, 0, "{}", String::from_utf8_lossy(&sheet).escape_debug());
-            keeps_its_form(&names.given(), &sheet);
+            assert_eq!(read_sheet(&names.table(), &sheet, PLENTY).0.number, 0, "{}", String::from_utf8_lossy(&sheet).escape_debug());
+            keeps_its_form(&names.table(), &sheet);
         }
     }
 
     /// Whatever is generated and accepted, its form fitting, keeps it.
     #[test]
     fn accepted_sheets_keep_their_form() {
-        for line in requests(1, 4_000, 300, About::All, &["sheet"]) {
+        for line in requests(1, 4_000, 300, false, &["sheet"]) {
             let words: Vec<&str> = line.split(' ').collect();
-            let (given, sheet) = (crate::from_word(words[1]).unwrap(), crate::from_hex(words[2]).unwrap());
-            if write_form(&given, &sheet, PLENTY, SHEET_BYTES).0.number == 0 {
-                keeps_its_form(&given, &sheet);
+            let (table, sheet) = (crate::from_hex(words[1]).unwrap(), crate::from_hex(words[2]).unwrap());
+            if write_form(&table, &sheet, PLENTY, SHEET_BYTES).0.number == 0 {
+                keeps_its_form(&table, &sheet);
             }
         }
     }

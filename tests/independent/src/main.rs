@@ -12,8 +12,8 @@ mod writer;
 #[cfg(test)]
 mod examples;
 
-use generate::About;
-use reader::{read_sheet, table_answer, view, view_answer, Answer, Given, SHEET_BYTES};
+use generate::{DENSE_KINDS, KINDS};
+use reader::{read_sheet, table_answer, view, view_answer, Answer, SHEET_BYTES};
 use rolls::{add_sheet, read_roll};
 use std::io::{BufRead, Write};
 use times::time_answer;
@@ -24,10 +24,9 @@ fn main() {
     let words: Vec<&str> = words.iter().map(String::as_str).collect();
     let done = match words.as_slice() {
         [] => answer_requests(),
-        ["generate", seed, count] => print_requests(seed, count, "16385", About::All, &[]),
-        ["generate", seed, count, longest, "dense", kinds @ ..] => print_requests(seed, count, longest, About::Dense, kinds),
-        ["generate", seed, count, longest, "guest", kinds @ ..] => print_requests(seed, count, longest, About::Guests, kinds),
-        ["generate", seed, count, longest, kinds @ ..] => print_requests(seed, count, longest, About::All, kinds),
+        ["generate", seed, count] => print_requests(seed, count, "16385", false, &[]),
+        ["generate", seed, count, longest, "dense", kinds @ ..] => print_requests(seed, count, longest, true, kinds),
+        ["generate", seed, count, longest, kinds @ ..] => print_requests(seed, count, longest, false, kinds),
         ["definitions", specs] => print_module(specs),
         _ => usage(),
     };
@@ -37,21 +36,22 @@ fn main() {
 }
 
 fn usage() -> bool {
-    eprintln!("independent                        answers request lines");
-    eprintln!("independent generate SEED COUNT [LONGEST [dense|guest] [KIND..]]");
-    eprintln!("                                   prints COUNT request lines, with sheets up to LONGEST bytes");
-    eprintln!("independent definitions SPECS      prints request lines and their answers as statements about SPECS");
+    eprintln!("independent                                                 answers request lines");
+    eprintln!("independent generate SEED COUNT [LONGEST [dense] [KIND..]]  prints COUNT request lines, with sheets up to LONGEST bytes");
+    eprintln!(
+        "independent definitions SPECS                               prints request lines and their answers as statements about SPECS"
+    );
     false
 }
 
 /// Prints `count` request lines, of all kinds where none is named; false where an argument is no number or no kind of request.
-fn print_requests(seed: &str, count: &str, longest: &str, about: About, kinds: &[&str]) -> bool {
+fn print_requests(seed: &str, count: &str, longest: &str, dense: bool, kinds: &[&str]) -> bool {
     let mut out = std::io::stdout().lock();
-    let all = about.kinds();
+    let all = if dense { &DENSE_KINDS[..] } else { &KINDS[..] };
     let named = if kinds.is_empty() { all } else { kinds };
     match (seed.parse(), count.parse(), longest.parse()) {
         (Ok(seed), Ok(count), Ok(longest)) if named.iter().all(|kind| all.contains(kind)) => {
-            generate::requests(seed, count, longest, about, named).iter().all(|line| writeln!(out, "{line}").is_ok())
+            generate::requests(seed, count, longest, dense, named).iter().all(|line| writeln!(out, "{line}").is_ok())
         }
         _ => usage(),
     }
@@ -80,9 +80,9 @@ fn answer_requests() -> bool {
     true
 }
 
-/// What is given with a sheet, the sheet and the number of cells lent, as the words of a request.
+/// A table, a sheet and the number of cells lent, as the words of a request.
 struct SheetRequest {
-    given: Given,
+    table: Vec<u8>,
     sheet: Vec<u8>,
     lent: usize,
 }
@@ -90,7 +90,7 @@ struct SheetRequest {
 impl SheetRequest {
     fn of(words: &[&str]) -> Option<SheetRequest> {
         match words {
-            [given, sheet, lent] => Some(SheetRequest { given: from_word(given)?, sheet: from_hex(sheet)?, lent: lent.parse().ok()? }),
+            [table, sheet, lent] => Some(SheetRequest { table: from_hex(table)?, sheet: from_hex(sheet)?, lent: lent.parse().ok()? }),
             _ => None,
         }
     }
@@ -103,14 +103,14 @@ fn answer_line(line: &str) -> Option<String> {
         ["table", table] => Some(in_words(table_answer(&from_hex(table)?))),
         ["sheet", rest @ ..] => {
             let request = SheetRequest::of(rest)?;
-            let (answer, cells) = read_sheet(&request.given, &request.sheet, request.lent);
+            let (answer, cells) = read_sheet(&request.table, &request.sheet, request.lent);
             Some(in_words(answer) + &cells_in_words(&cells))
         }
         ["form", rest @ .., room] if rest.len() == 3 => form_words(&SheetRequest::of(rest)?, room.parse().ok()?),
         ["form", rest @ ..] => form_words(&SheetRequest::of(rest)?, SHEET_BYTES),
         ["view", sheet, number, cells @ ..] => view_words(&from_hex(sheet)?, number.parse().ok()?, &numbers(cells)?),
-        ["roll", given, roll, records, lent] => {
-            let (answer, cells) = read_roll(&from_word(given)?, &from_hex(roll)?, records.parse().ok()?, lent.parse().ok()?);
+        ["roll", table, roll, records, lent] => {
+            let (answer, cells) = read_roll(&from_hex(table)?, &from_hex(roll)?, records.parse().ok()?, lent.parse().ok()?);
             Some(in_words(answer) + &cells_in_words(&cells))
         }
         ["add", rest @ .., roll, n, room] => adding_words(&SheetRequest::of(rest)?, from_hex(roll)?, n.parse().ok()?, room.parse().ok()?),
@@ -125,14 +125,14 @@ const UNUSED: u8 = 0xFF;
 /// The answer and the bytes added in hex, which are none where it is refused.
 fn adding_words(request: &SheetRequest, mut roll: Vec<u8>, n: usize, room: usize) -> Option<String> {
     roll.resize(room, UNUSED);
-    let answer = add_sheet(&request.given, &request.sheet, &mut roll, n, request.lent);
+    let answer = add_sheet(&request.table, &request.sheet, &mut roll, n, request.lent);
     let added = if answer.number == 0 { &roll[n..answer.count] } else { &[] };
     Some(format!("{} {}", in_words(answer), to_hex(added)))
 }
 
 /// The answer and the canonical form in hex, which is empty where it is refused.
 fn form_words(request: &SheetRequest, room: usize) -> Option<String> {
-    let (answer, form) = write_form(&request.given, &request.sheet, request.lent, room);
+    let (answer, form) = write_form(&request.table, &request.sheet, request.lent, room);
     Some(format!("{} {}", in_words(answer), to_hex(&form)))
 }
 
@@ -164,23 +164,6 @@ fn from_hex(hex: &str) -> Option<Vec<u8>> {
     let digits: Option<Vec<u32>> = hex.chars().map(|digit| digit.to_digit(16)).collect();
     let pairs = digits.filter(|digits| digits.len() % 2 == 0)?;
     Some(pairs.chunks(2).map(|pair| (pair[0] * 16 + pair[1]) as u8).collect())
-}
-
-/// The word of a request that stands for a guest, in the place of a mode table's bytes.
-const GUEST: &str = "guest";
-
-fn from_word(word: &str) -> Option<Given> {
-    if word == GUEST {
-        return Some(Given::Guest);
-    }
-    from_hex(word).map(Given::Table)
-}
-
-fn to_word(given: &Given) -> String {
-    match given {
-        Given::Table(table) => to_hex(table),
-        Given::Guest => GUEST.to_string(),
-    }
 }
 
 fn to_hex(bytes: &[u8]) -> String {

@@ -1,7 +1,6 @@
 //! Reads a mode table and a sheet, and hands back a span: every answer, and every cell at exit.
 //! Follows document 01, "The mode table", "The grammar", "Entries" and "Refusal numbers"; a map's items have names by document 02, request
-//! Five, and no two traits of a Concept have the same name by request Six. A guest's sheet has no table, by request Seven: the layout of a
-//! body tells its mode.
+//! Five, and no two traits of a Concept have the same name by request Six.
 
 use crate::values::{is_white_space, read_value, Key, Kind, Value};
 
@@ -47,64 +46,6 @@ pub struct Span {
 impl Span {
     pub fn of(self, sheet: &[u8]) -> &[u8] {
         &sheet[self.start..self.end]
-    }
-}
-
-/// What is given with a sheet or a roll: the bytes of a mode table, or none, as with a guest's.
-#[derive(Debug)]
-pub enum Given {
-    Table(Vec<u8>),
-    Guest,
-}
-
-impl Given {
-    /// How modes are found from now on; a table that is not in order is refused with 1.
-    pub fn modes(&self) -> Result<Modes, Refusal> {
-        match self {
-            Given::Table(bytes) => Ok(Modes::Table(read_table(bytes)?)),
-            Given::Guest => Ok(Modes::Layout),
-        }
-    }
-}
-
-/// How the mode of a body is found: a table has it by the Concept's name, or the body's own lines tell it (document 02, request Seven).
-#[derive(Debug)]
-pub enum Modes {
-    Table(ModeTable),
-    Layout,
-}
-
-impl Modes {
-    /// Whether a Concept may have this name. Without a table every name will do.
-    fn know(&self, name: &[u8]) -> bool {
-        match self {
-            Modes::Table(table) => table.holds(name),
-            Modes::Layout => true,
-        }
-    }
-
-    /// What is due in the place of so many tabs: these, where the layout tells the modes, and under a table any number.
-    fn due(&self, tabs: usize) -> Tabs {
-        match self {
-            Modes::Table(_) => Tabs::Any,
-            Modes::Layout => Tabs::Exactly(tabs),
-        }
-    }
-}
-
-/// The tabs that may stand before a "<" or "[".
-#[derive(Clone, Copy)]
-enum Tabs {
-    Any,
-    Exactly(usize),
-}
-
-impl Tabs {
-    fn fit(self, found: usize) -> bool {
-        match self {
-            Tabs::Any => true,
-            Tabs::Exactly(due) => found == due,
-        }
     }
 }
 
@@ -250,9 +191,9 @@ fn is_bad_control(sheet: &[u8], at: usize) -> bool {
 // ---- The sheet
 
 /// Reads a sheet with `lent` cells lent: the answer, and every lent cell at exit.
-pub fn read_sheet(given: &Given, sheet: &[u8], lent: usize) -> (Answer, Vec<u32>) {
+pub fn read_sheet(table: &[u8], sheet: &[u8], lent: usize) -> (Answer, Vec<u32>) {
     let mut cells = vec![0; lent];
-    match read_root(given, sheet, lent) {
+    match read_root(table, sheet, lent) {
         Ok(root) => {
             let mut entries = Vec::new();
             enter_concept(&mut entries, &root, TOP);
@@ -264,8 +205,8 @@ pub fn read_sheet(given: &Given, sheet: &[u8], lent: usize) -> (Answer, Vec<u32>
 }
 
 /// The root Concept of a sheet that is accepted. Order: 1, 2, 3 over the whole sheet, then 4 to 11 and 18 by the fault met first.
-pub fn read_root(given: &Given, sheet: &[u8], lent: usize) -> Result<Concept, Refusal> {
-    let modes = given.modes()?;
+pub fn read_root(table: &[u8], sheet: &[u8], lent: usize) -> Result<Concept, Refusal> {
+    let table = read_table(table)?;
     if sheet.len() > SHEET_BYTES {
         return Err(Refusal { number: 2, place: SHEET_BYTES });
     }
@@ -273,12 +214,12 @@ pub fn read_root(given: &Given, sheet: &[u8], lent: usize) -> Result<Concept, Re
         return Err(Refusal { number: 3, place });
     }
     let room = (lent / ENTRY_CELLS).min(ENTRIES);
-    Reader { modes: &modes, sheet, at: 0, room }.document()
+    Reader { table: &table, sheet, at: 0, room }.document()
 }
 
 /// Where a reading stands: the next byte, and how many entries may still be made.
 struct Reader<'a> {
-    modes: &'a Modes,
+    table: &'a ModeTable,
     sheet: &'a [u8],
     at: usize,
     room: usize,
@@ -383,19 +324,10 @@ impl Reader<'_> {
         }
     }
 
-    /// Refuses other tabs than are due before the "<" or "[" that stands here, at it.
-    fn ask_tabs(&self, found: usize, due: Tabs) -> Result<(), Refusal> {
-        if due.fit(found) {
-            Ok(())
-        } else {
-            Err(self.something_else_due())
-        }
-    }
-
-    /// One root with its annotations, blank lines around them. They stand at any tabs, each at its own.
+    /// One root with its annotations, blank lines around them.
     fn document(&mut self) -> Result<Concept, Refusal> {
         let mut tabs = self.tabs_past_blank_lines()?;
-        let annotations = self.annotations(&mut tabs, Tabs::Any)?;
+        let annotations = self.annotations(&mut tabs)?;
         let root = self.concept(annotations, tabs, 1)?;
         while self.at < self.sheet.len() {
             self.line_over()?;
@@ -403,14 +335,12 @@ impl Reader<'_> {
         Ok(root)
     }
 
-    /// The annotations of one Concept. `tabs` counts the tabs before the "[" or "<" that stands next, and must be what is due.
-    fn annotations(&mut self, tabs: &mut usize, due: Tabs) -> Result<Vec<Span>, Refusal> {
+    /// The annotations of one Concept. `tabs` counts the tabs before the "[" or "<" that stands next.
+    fn annotations(&mut self, tabs: &mut usize) -> Result<Vec<Span>, Refusal> {
         let mut texts = Vec::new();
-        self.ask_tabs(*tabs, due)?;
         while self.byte() == Some(b'[') {
             texts.push(self.annotation()?);
             *tabs = self.tabs_past_annotation()?;
-            self.ask_tabs(*tabs, due)?;
         }
         Ok(texts)
     }
@@ -459,7 +389,7 @@ impl Reader<'_> {
         Ok(Span { start, end: self.at })
     }
 
-    /// A Concept name: 4, 10, 5 where there is a table (then 11).
+    /// A Concept name: 4, 10, 5 (then 11).
     fn judge_concept_name(&self, marker: usize, name: Span, depth: usize) -> Result<(), Refusal> {
         let letters = name.of(self.sheet);
         if !is_concept_name(letters) {
@@ -468,7 +398,7 @@ impl Reader<'_> {
         if depth > CONCEPTS_DEEP {
             return Err(Refusal { number: 10, place: marker });
         }
-        if !self.modes.know(letters) {
+        if !self.table.holds(letters) {
             return Err(Refusal { number: 5, place: name.start });
         }
         Ok(())
@@ -536,45 +466,24 @@ impl Reader<'_> {
         }
         self.pass(b'>')?;
         self.line_end_due()?;
-        let is_content = match self.modes {
-            Modes::Table(table) => table.is_content(name.of(self.sheet)),
-            Modes::Layout => self.is_content_by_layout(name, tabs),
-        };
-        if is_content {
+        if self.table.is_content(name.of(self.sheet)) {
             self.content(name, tabs)
         } else {
-            self.children(name, tabs, depth)
+            self.children(name, depth)
         }
     }
 
-    /// Looks ahead over the lines of the body that begins here: as far as Content would run, else to the end of input. Without a line that
-    /// is not blank it holds children, and so it does with one that starts with "<" or "[" exactly one tab deeper.
-    fn is_content_by_layout(&self, name: Span, tabs: usize) -> bool {
-        let closing = self.closing_line(name, tabs);
-        let lines = self.sheet[self.at..].split(|&byte| byte == b'\n').map(|line| line.strip_suffix(b"\r").unwrap_or(line));
-        let body: Vec<&[u8]> = lines.take_while(|line| !is_closing_line(line, &closing)).collect();
-        let deeper = b"\t".repeat(tabs + 1);
-        let starts_child = |line: &[u8]| matches!(line.strip_prefix(&deeper[..]), Some([b'<' | b'[', ..]));
-        body.iter().any(|line| !is_blank(line)) && !body.iter().any(|line| starts_child(line))
-    }
-
-    /// Concepts with their annotations and blank lines, up to the closing marker, of a Concept whose "<" stands after `tabs` tabs.
-    fn children(&mut self, name: Span, tabs: usize, depth: usize) -> Result<(Body, usize), Refusal> {
-        let (deeper, closing) = (self.modes.due(tabs + 1), self.modes.due(tabs));
+    /// Concepts with their annotations and blank lines, up to the closing marker.
+    fn children(&mut self, name: Span, depth: usize) -> Result<(Body, usize), Refusal> {
         let mut concepts = Vec::new();
         loop {
-            let mut found = self.tabs_past_blank_lines()?;
-            let rest = &self.sheet[self.at..];
-            if rest.starts_with(b"</") {
-                self.ask_tabs(found, closing)?;
+            let mut tabs = self.tabs_past_blank_lines()?;
+            if self.sheet[self.at..].starts_with(b"</") {
                 let end = self.closing_marker(name)?;
                 return Ok((Body::Children(concepts), end));
             }
-            if rest == b"<" && closing.fit(found) {
-                return Err(Refusal { number: 9, place: self.sheet.len() });
-            }
-            let annotations = self.annotations(&mut found, deeper)?;
-            concepts.push(self.concept(annotations, found, depth + 1)?);
+            let annotations = self.annotations(&mut tabs)?;
+            concepts.push(self.concept(annotations, tabs, depth + 1)?);
         }
     }
 
@@ -597,7 +506,7 @@ impl Reader<'_> {
     fn content(&mut self, name: Span, tabs: usize) -> Result<(Body, usize), Refusal> {
         let start = self.at;
         self.enter(start)?;
-        let closing = self.closing_line(name, tabs);
+        let closing = [b"\t".repeat(tabs).as_slice(), b"</", name.of(self.sheet), b">"].concat();
         let mut texts = Vec::new();
         loop {
             let line = self.line_here();
@@ -612,11 +521,6 @@ impl Reader<'_> {
             self.at = line.end;
             self.line_end_due()?;
         }
-    }
-
-    /// The line that closes Content, but for spaces and tabs behind it.
-    fn closing_line(&self, name: Span, tabs: usize) -> Vec<u8> {
-        [b"\t".repeat(tabs).as_slice(), b"</", name.of(self.sheet), b">"].concat()
     }
 
     /// The line that begins here, without its line end. The end of input ends a line, too.
@@ -641,11 +545,10 @@ impl Reader<'_> {
 }
 
 fn is_closing_line(line: &[u8], closing: &[u8]) -> bool {
-    line.strip_prefix(closing).map_or(false, is_blank)
-}
-
-fn is_blank(bytes: &[u8]) -> bool {
-    bytes.iter().all(|&byte| byte == b' ' || byte == b'\t')
+    match line.strip_prefix(closing) {
+        Some(rest) => rest.iter().all(|&byte| byte == b' ' || byte == b'\t'),
+        None => false,
+    }
 }
 
 // ---- Entries

@@ -1,7 +1,7 @@
 //! Reads a roll and adds a sheet to one: every answer, every record cell and every byte of the roll at exit.
 //! Follows document 01, "Rolls", and refusals 12 to 16 of "Refusal numbers".
 
-use crate::reader::{read_root, read_sheet, Answer, Given, Refusal, Span, SHEET_BYTES};
+use crate::reader::{read_root, read_sheet, read_table, Answer, Refusal, Span, SHEET_BYTES};
 use crate::writer::write_form;
 
 /// The limits of "Sizes".
@@ -14,12 +14,12 @@ pub const RECORD_CELLS: usize = 5;
 // ---- Reading
 
 /// Reads a roll with `records` cells lent for records and `lent` for entries: the answer, and every record cell at exit.
-pub fn read_roll(given: &Given, roll: &[u8], records: usize, lent: usize) -> (Answer, Vec<u32>) {
+pub fn read_roll(table: &[u8], roll: &[u8], records: usize, lent: usize) -> (Answer, Vec<u32>) {
     let mut cells = vec![0; records];
-    match sheets_of(given, roll, records) {
+    match sheets_of(table, roll, records) {
         Ok(sheets) => {
             for (record, sheet) in cells.chunks_mut(RECORD_CELLS).zip(&sheets) {
-                let (alone, _) = read_sheet(given, sheet.of(roll), lent);
+                let (alone, _) = read_sheet(table, sheet.of(roll), lent);
                 record.copy_from_slice(&[sheet.start as u32, sheet.end as u32, alone.number, alone.place as u32, alone.count as u32]);
             }
             (Answer { number: 0, place: roll.len(), count: sheets.len() }, cells)
@@ -28,12 +28,12 @@ pub fn read_roll(given: &Given, roll: &[u8], records: usize, lent: usize) -> (An
     }
 }
 
-/// The sheets of a roll that is accepted. Order: 13, 1 where there is a table, 14, 15.
-fn sheets_of(given: &Given, roll: &[u8], records: usize) -> Result<Vec<Span>, Refusal> {
+/// The sheets of a roll that is accepted. Order: 13, 1, 14, 15.
+fn sheets_of(table: &[u8], roll: &[u8], records: usize) -> Result<Vec<Span>, Refusal> {
     if roll.len() > ROLL_BYTES {
         return Err(Refusal { number: 13, place: ROLL_BYTES });
     }
-    given.modes()?;
+    read_table(table)?;
     let starts = boundaries(roll);
     let before = &roll[..starts.first().copied().unwrap_or(roll.len())];
     if let Some(place) = no_part_of_blank_lines(before) {
@@ -70,8 +70,8 @@ fn no_part_of_blank_lines(bytes: &[u8]) -> Option<usize> {
 // ---- Adding
 
 /// Adds a sheet's canonical form and one further LF after the first `n` bytes of the roll.
-pub fn add_sheet(given: &Given, sheet: &[u8], roll: &mut [u8], n: usize, lent: usize) -> Answer {
-    match form_to_add(given, sheet, roll, n, lent) {
+pub fn add_sheet(table: &[u8], sheet: &[u8], roll: &mut [u8], n: usize, lent: usize) -> Answer {
+    match form_to_add(table, sheet, roll, n, lent) {
         Ok(mut form) => {
             form.push(b'\n');
             let total = n + form.len();
@@ -83,12 +83,12 @@ pub fn add_sheet(given: &Given, sheet: &[u8], roll: &mut [u8], n: usize, lent: u
 }
 
 /// The form, where it may be added. Order: all refusals of reading, then 16, 12, 14.
-fn form_to_add(given: &Given, sheet: &[u8], roll: &[u8], n: usize, lent: usize) -> Result<Vec<u8>, Refusal> {
-    let root = read_root(given, sheet, lent)?;
+fn form_to_add(table: &[u8], sheet: &[u8], roll: &[u8], n: usize, lent: usize) -> Result<Vec<u8>, Refusal> {
+    let root = read_root(table, sheet, lent)?;
     if let Some(text) = root.annotations.first() {
         return Err(Refusal { number: 16, place: text.start - 1 });
     }
-    let (written, form) = write_form(given, sheet, lent, SHEET_BYTES - 1);
+    let (written, form) = write_form(table, sheet, lent, SHEET_BYTES - 1);
     let room = ROLL_BYTES.min(roll.len());
     if written.number != 0 || n > room || room - n < form.len() + 1 {
         return Err(Refusal { number: 12, place: 0 });

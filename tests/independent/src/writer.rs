@@ -2,23 +2,23 @@
 //! Follows document 01, "Canonical form", and refusal 12 of "Refusal numbers"; braces keep their spelling (document 02, request Two), and
 //! sets, maps and tuples are written as lists are, with a colon and one space behind a key (request Five).
 
-use crate::reader::{read_root, Answer, Body, Concept, Given, Refusal, Trait, SHEET_BYTES};
+use crate::reader::{read_root, Answer, Body, Concept, Refusal, Trait, SHEET_BYTES};
 use crate::values::{spaces_joined, Bracket, Item, Key, Kind, Value};
 
 /// More traits than these stand on lines of their own.
 const TRAITS_ON_MARKER_LINE: usize = 2;
 
 /// The answer of writing into `room` bytes with `lent` cells lent, and the bytes written (none where it is refused).
-pub fn write_form(given: &Given, sheet: &[u8], lent: usize, room: usize) -> (Answer, Vec<u8>) {
-    match canonical_form(given, sheet, lent, room) {
+pub fn write_form(table: &[u8], sheet: &[u8], lent: usize, room: usize) -> (Answer, Vec<u8>) {
+    match canonical_form(table, sheet, lent, room) {
         Ok(form) => (Answer { number: 0, place: 0, count: form.len() }, form),
         Err(refusal) => (refusal.answer(), Vec::new()),
     }
 }
 
 /// All refusals of reading come first, then 12.
-fn canonical_form(given: &Given, sheet: &[u8], lent: usize, room: usize) -> Result<Vec<u8>, Refusal> {
-    let root = read_root(given, sheet, lent)?;
+fn canonical_form(table: &[u8], sheet: &[u8], lent: usize, room: usize) -> Result<Vec<u8>, Refusal> {
+    let root = read_root(table, sheet, lent)?;
     let mut form = Form { sheet, bytes: Vec::new() };
     form.concept(&root, 0);
     if form.bytes.len() > room.min(SHEET_BYTES) {

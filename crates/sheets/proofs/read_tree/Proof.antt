@@ -2,7 +2,6 @@
 use native.Mathlib.Omega.{arith}
 use borrow.Author.Rules.{rules}
 use Rattle.modes.specs.Table.{modes_of}
-use Rattle.modes.specs.Ways.{way_by}
 use Rattle.sheets.proofs.SheetLaws.{blanks_inside, before_refused, tabs_refused, Led, tabs_led, root_stands, root_refused, RootAt, root_read, rest_refused}
 use Rattle.sheets.proofs.SheetLaws.{tree_read}
 use Rattle.sheets.proofs.read_tree.Statement.{statement}
@@ -10,8 +9,7 @@ use Rattle.sheets.proofs.read_tree.Tie as tie
 
 -- the root is due at a place, and it is read
 leads : (c : tie.After-enum-told2) → let start =
-    c.before.before.before.before.before.before.before.before.before.before.args in Led (way_by start.way (modes_of start.table.now)) start.s.now
-    start.cells.now
+    c.before.before.before.before.before.before.before.before.before.before.args in Led (modes_of start.table.now) start.s.now start.cells.now
     c.before.before.before.before.blanks.given.0.0
 leads c =
     tabs_led _ _ _ c.before.before.before.before.before.before.blank_lines_lem.result
@@ -20,8 +18,8 @@ leads c =
 
 reads : (c : tie.After-known-told2) → let start =
     c.before.before.before.before.before.before.before.before.before.before.before.before.before.before.before.before.before.before.before.args in
-    RootAt (way_by start.way (modes_of start.table.now)) start.s.now start.cells.now c.before.root.given.0.0 c.before.root.given.0.1.0
-    c.before.root.given.0.1.1.0 c.before.before.before.before.before.read-root.new.1.1.1.1.1.0
+    RootAt (modes_of start.table.now) start.s.now start.cells.now c.before.root.given.0.0 c.before.root.given.0.1.0
+    c.before.root.given.0.1.1.0 c.before.before.before.before.before.read-root.new.1.1.1.1.0
 reads c =
     let at-read-root = c.before.before.before.before.before in
     root_read _ _ _ _ (leads at-read-root.before.before.before.before) _ _ at-read-root.before.before.new.ensures
@@ -64,7 +62,7 @@ new-requires c κs = search rules
 read-root-requires : tie.Need-read-root-requires
 read-root-requires c κs =
     let top = c.before.before.before.before.before.before.before.before.before.before.before.before.before in
-    root_stands _ _ _ _ _ _ _ top.requires.0 top.requires.1 (leads c.before.before.before).inside c.before.before.room.ensures
+    root_stands _ _ _ _ _ _ top.requires.0 top.requires.1 (leads c.before.before.before).inside c.before.before.room.ensures
 
 enum-known-root : tie.Need-enum-known-root
 enum-known-root c = search rules

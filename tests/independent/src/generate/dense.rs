@@ -270,7 +270,7 @@ mod tests {
         let mut chance = Chance(1);
         let names = Names::papers();
         let numbers: Vec<u32> =
-            (0..1_000).map(|_| read_sheet(&names.given(), &dense_sheet(&mut chance, &names, 4_000), PLENTY).0.number).collect();
+            (0..1_000).map(|_| read_sheet(&names.table(), &dense_sheet(&mut chance, &names, 4_000), PLENTY).0.number).collect();
         let count = |number: u32| numbers.iter().filter(|&&other| other == number).count();
         assert!(count(0) > 400 && count(18) > 250, "{} are accepted, {} have a trait twice", count(0), count(18));
     }

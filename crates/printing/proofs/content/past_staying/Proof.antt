@@ -26,10 +26,10 @@ returns-2 : tie.Need-returns-2 invariant-loop decreases-loop
 returns-2 c = c.before.before.loop.invariant
 
 loop-less : tie.Need-loop-smaller invariant-loop decreases-loop
-loop-less c = let further = (c.before.past_line.ensures c.if2.false).inside in omega arith
+loop-less c = let further = (c.before.past-line.ensures c.if2.false).inside in omega arith
 
 loop-again : tie.Need-loop-preserved invariant-loop decreases-loop
-loop-again c = stay_on _ _ _ _ _ _ c.before.before.loop.invariant c.if2.false (c.before.past_line.ensures c.if2.false) c.before.before.before.if1.false
+loop-again c = stay_on _ _ _ _ _ _ c.before.before.loop.invariant c.if2.false (c.before.past-line.ensures c.if2.false) c.before.before.before.if1.false
 
 pub past-staying-spec : {M : Type 1} → statement M
 past-staying-spec =

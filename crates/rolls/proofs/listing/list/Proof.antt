@@ -1,49 +1,36 @@
 -- A law for each way out, in the paper's order of faults.
 use native.Mathlib.Omega.{arith}
-use mathlib.Core.Path.{◌≡◌, sym}
-use mathlib.Core.List.{[]}
+use mathlib.Core.Path.{sym}
 use lib.Seq.{length-take-le}
 use borrow.Author.Rules.{rules}
-use Rattle.paper.specs.Found.{found}
-use Rattle.paper.specs.Ways.{way_of}
-use Rattle.modes.specs.Table.{modes_of}
-use Rattle.modes.specs.Ways.{way_by, given_by, IndexedBy}
+use Rattle.modes.specs.Index.{Indexed}
 use Rattle.modes.proofs.Chains.{fresh}
-use Rattle.modes.proofs.Ways.{way_ready}
-use Rattle.rolls.proofs.ListLaws.{roll_long, given_bad, lead_bad, Led, lead_good, sheets_bad, all_found, roll_listed}
+use Rattle.rolls.proofs.ListLaws.{roll_long, table_bad, lead_bad, Led, lead_good, sheets_bad, all_found, roll_listed}
 use Rattle.rolls.proofs.listing.list.Statement.{statement}
 use Rattle.rolls.proofs.listing.list.Tie as tie
 
--- what is given is a way, and the names of a table are in the index
+-- the table is read, and its names are in the index
 indexed : (c : tie.After-enum-told)
-    → let start = c.before.before.before.before.before.before.before.before.before.args in
-    IndexedBy start.way start.table.now c.before.before.ready.new.1.1.0
-indexed c = c.before.before.ready.ensures.indexed _ _ c.enum_told.given.1
-
-is-way : (c : tie.After-enum-told)
-    → let start = c.before.before.before.before.before.before.before.before.before.args in
-    way_of (given_by start.way start.table.now) ≡ found (way_by start.way (modes_of start.table.now)) []
-is-way c =
-    let start = c.before.before.before.before.before.before.before.before.before.args in
-    way_ready start.way start.table.now c.before.before.ready.new.1.1.0 (indexed c)
+    → Indexed c.before.before.before.before.before.before.before.before.before.args.table.now c.before.before.read-into.new.1.0
+indexed c = c.before.before.read-into.ensures.indexed _ _ c.enum_told.given.1
 
 -- and what stands before the first boundary
 led : (c : tie.After-enum-told3)
-    → let start = c.before.before.before.before.before.before.before.before.before.before.before.before.before.before.args in
-    Led (given_by start.way start.table.now) start.roll.now start.records.now
+    → Led c.before.before.before.before.before.before.before.before.before.before.before.before.before.before.args.table.now
+    c.before.before.before.before.before.before.before.before.before.before.before.before.before.before.args.roll.now
+    c.before.before.before.before.before.before.before.before.before.before.before.before.before.before.args.records.now
     c.before.before.before.before.next-boundary.result
 led c =
     let at-boundary = c.before.before.before.before in
     let top = at-boundary.before.before.before.before.before.before.before.before.before.before in
-    lead_good (given_by top.args.way top.args.table.now) top.args.roll.now _ (omega (arith, at-boundary.before.before.before.before.before.if1.false))
-    (is-way at-boundary.before) at-boundary.next-boundary.ensures _ c.before.before.read-rest.ensures _ _ _
-    c.enum-told3.given.1
+    lead_good top.args.table.now top.args.roll.now _ (omega (arith, at-boundary.before.before.before.before.before.if1.false))
+    (indexed at-boundary.before).valid at-boundary.next-boundary.ensures _ c.before.before.read-rest.ensures _ _ _ c.enum-told3.given.1
 
 returns : tie.Need-returns
 returns c = roll_long _ _ _ _ c.if1.true
 
-ready-requires : tie.Need-ready-requires
-ready-requires c κs = fresh
+read-into-requires : tie.Need-read-into-requires
+read-into-requires c κs = fresh
 
 enum_told : tie.Need-enum-told
 enum_told c = search rules
@@ -54,8 +41,8 @@ enum-told-2 c = search rules
 returns-2 : tie.Need-returns-2
 returns-2 c =
     let top = c.before.before.before.before.before.before.before.before.before in
-    given_bad (given_by top.args.way top.args.table.now) top.args.roll.now _ _ (omega (arith, c.before.before.before.before.if1.false)) _ _ _
-    (c.before.before.ready.ensures.refused _ _ c.enum-told2.given.1) c.enum-told2.given.1
+    table_bad top.args.table.now top.args.roll.now _ _ (omega (arith, c.before.before.before.before.if1.false)) _ _ _
+    c.before.before.read-into.ensures.answer c.enum-told2.given.1
 
 next-boundary-requires : tie.Need-next-boundary-requires
 next-boundary-requires c κs = search rules
@@ -74,9 +61,8 @@ returns-3 : tie.Need-returns-3
 returns-3 c =
     let at-boundary = c.before.before.before.before.before in
     let top = at-boundary.before.before.before.before.before.before.before.before.before.before in
-    lead_bad (given_by top.args.way top.args.table.now) top.args.roll.now _ (omega (arith, at-boundary.before.before.before.before.before.if1.false))
-    (is-way at-boundary.before) at-boundary.next-boundary.ensures _ c.before.before.before.read-rest.ensures _ _ _
-    c.before.place.given.1
+    lead_bad top.args.table.now top.args.roll.now _ (omega (arith, at-boundary.before.before.before.before.before.if1.false))
+    (indexed at-boundary.before).valid at-boundary.next-boundary.ensures _ c.before.before.before.read-rest.ensures _ _ _ c.before.place.given.1
 
 enum-told-3 : tie.Need-enum-told-3
 enum-told-3 c = search rules
@@ -126,7 +112,7 @@ list-spec =
     tie.close
     (tie.spec
     returns
-    ready-requires
+    read-into-requires
     enum_told
     enum-told-2
     returns-2

@@ -4,17 +4,16 @@ use mathlib.Core.Path.{◌≡◌, refl, ◌∙◌}
 use native.Mathlib.Omega.{arith}
 use lib.ListN.{length}
 use borrow.Author.Rules.{rules}
-use Rattle.modes.specs.Ways.{given_by}
 use Rattle.rolls.proofs.ReadLaws.{ReadTo, none_read, read_spans, read_turn, all_read}
 use Rattle.rolls.proofs.listing.read_sheets.Statement.{statement}
 use Rattle.rolls.proofs.listing.read_sheets.Tie as tie
 
 abbrev invariant-loop : tie.invariant-loop
-invariant-loop way table roll records₀ count cells₀ index n₀ records cells n =
-    ReadTo (given_by way table) roll (length cells₀) records₀ records count n × (length cells ≡ length cells₀)
+invariant-loop table roll records₀ count cells₀ index n₀ records cells n =
+    ReadTo table roll (length cells₀) records₀ records count n × (length cells ≡ length cells₀)
 
 abbrev decreases-loop : tie.decreases-loop
-decreases-loop way table roll records₀ count cells₀ index n₀ records cells n = count - n
+decreases-loop table roll records₀ count cells₀ index n₀ records cells n = count - n
 
 loop-holds : tie.Need-loop-init invariant-loop decreases-loop
 loop-holds c = (none_read _ _ _ _ _ c.before.before.before.before.requires.1, refl)
@@ -35,7 +34,7 @@ loop-again c =
     let at_read = c.before.before.before.before in
     let so_far = at_read.before.before.before.before.loop.invariant in (
       read_turn so_far.0 at_read.before.before.before.loop-test.true _ so_far.1 at_read.read-sheet.ensures,
-      at_read.read-sheet.auto.1.1.1.1.1.0 ∙ so_far.1,
+      at_read.read-sheet.auto.1.1.1.1.0 ∙ so_far.1,
     )
 
 same_length : tie.Need-same-length invariant-loop decreases-loop

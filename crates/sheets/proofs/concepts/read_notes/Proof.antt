@@ -27,7 +27,7 @@ returns-2 : tie.Need-returns-2
 returns-2 c =
     let at-starts-with = c.before.before in
     let top = at-starts-with.before.before.before.before in
-    notes_none top.requires.2 (sym at-starts-with.starts_with.ensures ∙ c.before.if1.false) _ _ _ top.requires.0.inside _ c.past.ensures
+    notes_none top.requires.2 (sym at-starts-with.starts_with.ensures ∙ c.before.if1.false) _ _ top.requires.0.inside _ c.past.ensures
 
 pub read-notes-spec : {M : Type 1} → statement M
 read-notes-spec = tie.close (tie.spec slice-aggregate-starts-with starts-with-requires read-all-requires same_length returns past-requires returns-2)

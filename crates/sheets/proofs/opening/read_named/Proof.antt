@@ -1,15 +1,12 @@
--- A law for each way out: the nesting, the mode, and what follows a name that is admitted.
-use Prim.Native.Nat.{suc, ◌+◌}
+-- A law for each way out: the nesting, the table, and what follows a name that is admitted.
+use Prim.Native.Nat.{suc}
 use mathlib.Core.Path.{◌≡◌, sym, ap, ◌∙◌}
 use mathlib.Core.Logic.{⊎_elim}
 use native.Mathlib.Omega.{arith}
 use Rattle.text.proofs.Deepening.{one_less, no_less}
-use Rattle.modes.specs.Table.{modes_of}
-use Rattle.modes.specs.Ways.{way_by}
-use Rattle.lines.specs.Parts.{part}
 use Rattle.sheets.specs.Opening.{part_of}
 use Rattle.sheets.proofs.TraitRuns.{refused_names}
-use Rattle.sheets.proofs.OpeningLaws.{in_children, in_content, too_deep, not_listed, listed}
+use Rattle.sheets.proofs.OpeningLaws.{in_children, in_content, too_deep, unlisted, listed}
 use borrow.Author.Rules.{rules}
 use Rattle.sheets.proofs.opening.read_named.Statement.{statement}
 use Rattle.sheets.proofs.opening.read_named.Tie as tie
@@ -41,17 +38,17 @@ returns c =
       refused_names (ap part_of c.unopened.ensures),
     )
 
-sub-mode-by : tie.Need-overflow-sub-mode-by
-sub-mode-by c = search rules
+sub-mode-of : tie.Need-overflow-sub-mode-of
+sub-mode-of c = search rules
 
-part-mode-by-start : tie.Need-slice-bounds-mode-by-start
-part-mode-by-start c = search rules
+part-mode-of-start : tie.Need-slice-bounds-mode-of-start
+part-mode-of-start c = search rules
 
-part-mode-by-end : tie.Need-slice-bounds-mode-by-end
-part-mode-by-end c = search rules
+part-mode-of-end : tie.Need-slice-bounds-mode-of-end
+part-mode-of-end c = search rules
 
-mode-by-requires : tie.Need-mode-by-requires
-mode-by-requires c κs = search rules
+mode-of-requires : tie.Need-mode-of-requires
+mode-of-requires c κs = search rules
 
 enum-told-2 : tie.Need-enum-told-2
 enum-told-2 c = search rules
@@ -63,8 +60,8 @@ returns-2 : tie.Need-returns-2
 returns-2 c =
     let at-inside = c.before.before.before.before.before.before in
     let top = at-inside.before.before.before.before.before.before.before in (
-      not_listed _ top.requires.1 top.requires.2 top.requires.3 _ (fewer at-inside)
-          (sym c.before.enum-told2.given.1 ∙ c.before.before.before.mode-by.ensures) c.unopened2.ensures,
+      unlisted _ top.requires.1 top.requires.2 top.requires.3 _ (fewer at-inside)
+          (sym c.before.enum-told2.given.1 ∙ c.before.before.before.Mode-of.ensures) c.unopened2.ensures,
       refused_names (ap part_of c.unopened2.ensures),
     )
 
@@ -89,14 +86,12 @@ returns-3 : tie.Need-returns-3
 returns-3 c =
     let at-read-marker = c.before.before.before.before in
     let at-match2 = at-read-marker.before.before.before in
-    let at-mode-by = at-match2.before in
-    let at-inside = at-mode-by.before.before.before in
-    let top = at-inside.before.before.before.before.before.before.before in
-    let way = way_by top.args.way (modes_of top.args.table.now) in
-    let name = part top.args.s.now (top.args.at + 1) top.args.to in (
+    let at-mode-of = at-match2.before in
+    let at-inside = at-mode-of.before.before.before in
+    let top = at-inside.before.before.before.before.before.before.before in (
       listed _ top.requires.1 top.requires.2 top.requires.3 _ (fewer at-inside)
-          (⊎_elim (λ w. in_children way name (sym w.1.given.1 ∙ at-mode-by.mode-by.ensures) w.2)
-          (λ w. in_content way name (sym w.1.given.1 ∙ at-mode-by.mode-by.ensures) w.2) at-match2.match2.branch)
+          (⊎_elim (λ w. in_children _ _ (sym w.1.given.1 ∙ at-mode-of.Mode-of.ensures) w.2)
+          (λ w. in_content _ _ (sym w.1.given.1 ∙ at-mode-of.Mode-of.ensures) w.2) at-match2.match2.branch)
           at-read-marker.read-marker.ensures.0,
       at-read-marker.read-marker.ensures.1,
     )
@@ -111,10 +106,10 @@ read-named-spec =
     enum_told
     unopened-requires
     returns
-    sub-mode-by
-    part-mode-by-start
-    part-mode-by-end
-    mode-by-requires
+    sub-mode-of
+    part-mode-of-start
+    part-mode-of-end
+    mode-of-requires
     enum-told-2
     unopened-requires-2
     returns-2

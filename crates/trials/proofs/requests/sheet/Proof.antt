@@ -12,8 +12,8 @@ slice-aggregate-read c = search rules
 read-requires : tie.Need-read-requires
 read-requires c κs = search rules
 
-enum-known-n : tie.Need-enum-known-n
-enum-known-n c = search rules
+enum-known-t : tie.Need-enum-known-t
+enum-known-t c = search rules
 
 enum_told : tie.Need-enum-told
 enum_told c = search rules
@@ -21,16 +21,31 @@ enum_told c = search rules
 returns : tie.Need-returns
 returns c = search rules
 
-is-none-requires : tie.Need-is-none-requires
-is-none-requires c κs = search rules
+slice-aggregate-read-2 : tie.Need-slice-aggregate-read-2
+slice-aggregate-read-2 c = search rules
+
+read-requires-2 : tie.Need-read-requires-2
+read-requires-2 c κs = search rules
+
+enum-known-n : tie.Need-enum-known-n
+enum-known-n c = search rules
+
+enum-told-2 : tie.Need-enum-told-2
+enum-told-2 c = search rules
+
+returns-2 : tie.Need-returns-2
+returns-2 c = search rules
+
+array-share-prefix-table-room : tie.Need-array-share-prefix-table-room
+array-share-prefix-table-room c =
+    let at-t = c.before.before.before.before.before.before.before in
+    bytes_fit _ _ _ _ at-t.before.before.before.read.ensures at-t.t.given.1
 
 slice-aggregate-of-sheet : tie.Need-slice-aggregate-of-sheet
-slice-aggregate-of-sheet c = search rules
+slice-aggregate-of-sheet c = sym (length-take-le _ _ (array-share-prefix-table-room c.before))
 
 array-share-prefix-sheet-room : tie.Need-array-share-prefix-sheet-room
-array-share-prefix-sheet-room c =
-    let at_n = c.before.before.before.before in
-    bytes_fit _ _ _ _ at_n.before.before.before.read.ensures at_n.n.given.1
+array-share-prefix-sheet-room c = bytes_fit _ _ _ _ c.before.before.before.before.before.read2.ensures c.before.before.n.given.1
 
 slice-aggregate-of-sheet-2 : tie.Need-slice-aggregate-of-sheet-2
 slice-aggregate-of-sheet-2 c = sym (length-take-le _ _ (array-share-prefix-sheet-room c.before))
@@ -38,43 +53,8 @@ slice-aggregate-of-sheet-2 c = sym (length-take-le _ _ (array-share-prefix-sheet
 of-sheet-requires : tie.Need-of-sheet-requires
 of-sheet-requires c κs = search rules
 
-returns-2 : tie.Need-returns-2
-returns-2 c = search rules
-
-slice-aggregate-read-2 : tie.Need-slice-aggregate-read-2
-slice-aggregate-read-2 c = search rules
-
-read-requires-2 : tie.Need-read-requires-2
-read-requires-2 c κs = search rules
-
-enum-known-t : tie.Need-enum-known-t
-enum-known-t c = search rules
-
-enum-told-2 : tie.Need-enum-told-2
-enum-told-2 c = search rules
-
 returns-3 : tie.Need-returns-3
 returns-3 c = search rules
-
-array-share-prefix-table-room : tie.Need-array-share-prefix-table-room
-array-share-prefix-table-room c = bytes_fit _ _ _ _ c.before.before.before.before.read2.ensures c.before.t.given.1
-
-slice-aggregate-of-sheet-3 : tie.Need-slice-aggregate-of-sheet-3
-slice-aggregate-of-sheet-3 c = sym (length-take-le _ _ (array-share-prefix-table-room c.before))
-
-array-share-prefix-sheet-room-2 : tie.Need-array-share-prefix-sheet-room-2
-array-share-prefix-sheet-room-2 c =
-    let at_n = c.before.before.before.before.before.before.before.before.before.before in
-    bytes_fit _ _ _ _ at_n.before.before.before.read.ensures at_n.n.given.1
-
-slice-aggregate-of-sheet-4 : tie.Need-slice-aggregate-of-sheet-4
-slice-aggregate-of-sheet-4 c = sym (length-take-le _ _ (array-share-prefix-sheet-room-2 c.before))
-
-of-sheet-requires-2 : tie.Need-of-sheet-requires-2
-of-sheet-requires-2 c κs = search rules
-
-returns-4 : tie.Need-returns-4
-returns-4 c = search rules
 
 pub sheet-spec : {M : Type 1} → statement M
 sheet-spec =
@@ -82,23 +62,17 @@ sheet-spec =
     (tie.spec
     slice-aggregate-read
     read-requires
-    enum-known-n
+    enum-known-t
     enum_told
     returns
-    is-none-requires
+    slice-aggregate-read-2
+    read-requires-2
+    enum-known-n
+    enum-told-2
+    returns-2
+    array-share-prefix-table-room
     slice-aggregate-of-sheet
     array-share-prefix-sheet-room
     slice-aggregate-of-sheet-2
     of-sheet-requires
-    returns-2
-    slice-aggregate-read-2
-    read-requires-2
-    enum-known-t
-    enum-told-2
-    returns-3
-    array-share-prefix-table-room
-    slice-aggregate-of-sheet-3
-    array-share-prefix-sheet-room-2
-    slice-aggregate-of-sheet-4
-    of-sheet-requires-2
-    returns-4)
+    returns-3)
