@@ -1,6 +1,6 @@
 -- Pieces of strings, characters and backticks: what is read of them is what is spelt. Document 01, "The grammar", Values. Assumes nothing.
 use Prim.Native.Nat.{ℕ, suc, ◌≤◌, ◌<◌}
-use mathlib.Core.Path.{◌≡◌, refl, sym, ap, ◌∙◌}
+use mathlib.Core.Path.{subst, ◌≡◌, refl, sym, ap, ◌∙◌}
 use mathlib.Core.Bool.{Bool, true, false, not, ◌&&◌}
 use mathlib.Core.List.{List, [], ◌∷◌, ◌++◌, map, append-nil, append_assoc}
 use native.Mathlib.Omega.{arith}
@@ -299,7 +299,9 @@ piece_turns room [] = faults 9 (omega arith) whole
 piece_turns room (b ∷ l) =
     by_inside (byte "\"") b
     (λ q e. rw (turn_closes room b l e, Turns) (past whole, rw q))
-    (λ q e. rw (turn_escapes room b l e, Turns, q) (turns_of (byte "\\" ∷ l) _ _ (escape (byte "\"") (byte "\\" ∷ l) l) (escape_reads (byte "\"") l)))
+    (λ q e. rw (turn_escapes room b l e)
+    (subst (λ (c : ℕ). Turns (c ∷ l) (Stood (byte "\"") (c ∷ l)) (λ left. c ∷ l ≡ byte "\"" ∷ left) (turn_of (escape (byte "\"") (c ∷ l) l))) (sym q)
+    (turns_of (byte "\\" ∷ l) _ _ (escape (byte "\"") (byte "\\" ∷ l) l) (escape_reads (byte "\"") l))))
     (λ e. rw (turn_breaks room b l e, Turns) (faults 6 (omega arith) whole))
     (λ r e. rw (turn_itself room b l e, Turns) (past whole, record { covers = refl; rule = r }))
 

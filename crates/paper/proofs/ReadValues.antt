@@ -1,6 +1,6 @@
 -- All values: what is read of them is what is spelt, and each spelling is that of one value. Document 01, "The grammar", Values. Assumes nothing.
 use Prim.Native.Nat.{ℕ, zero, suc, ◌+◌, ◌-◌, ◌≤◌, ◌<◌, max}
-use mathlib.Core.Path.{◌≡◌, refl, sym, ap, ◌∙◌}
+use mathlib.Core.Path.{subst, ◌≡◌, refl, sym, ap, ◌∙◌}
 use mathlib.Core.Bool.{Bool, true, false, not, ◌&&◌}
 use mathlib.Core.List.{List, [], ◌∷◌, ◌++◌, append_assoc}
 use native.Mathlib.Omega.{arith}
@@ -279,8 +279,10 @@ module _ (fuel : ℕ) (k : Bracket) (ones : (brackets : ℕ) (s : List ℕ) → 
   bracket_reads (suc brackets) also l =
       split (may_be_empty k && starts_with (closer k ∷ []) l)
       (λ e. let h = both (may_be_empty k) (starts_with (closer k ∷ []) l) e in
-      rw (starts_is (closer k ∷ []) l h.1, value_empty fuel k brackets also (drop 1 l) h.0, Reads)
-      (tail_then (tail_append (opener k) (closer k ∷ drop 1 l)) (past whole), empty_read k brackets also (drop 1 l) h.0))
+      subst (λ (z : List ℕ). Reads (opener k ++ z) (ReadValue (suc brackets) also (opener k ++ z)) (value (suc fuel) (suc brackets) also (opener k ++ z)))
+      (sym (starts_is (closer k ∷ []) l h.1))
+      (rw (value_empty fuel k brackets also (drop 1 l) h.0, Reads)
+      (tail_then (tail_append (opener k) (closer k ∷ drop 1 l)) (past whole), empty_read k brackets also (drop 1 l) h.0)))
       (λ e. rw (value_items fuel k brackets also l (is_not e))
       (reads_in (tail_append (opener k) l) _ (item_then fuel k brackets (bracket k) l)
       (item_reads brackets (bracket k) l _ (bracket_read k brackets also l))))
@@ -288,7 +290,8 @@ module _ (fuel : ℕ) (k : Bracket) (ones : (brackets : ℕ) (s : List ℕ) → 
   behind_reads : (brackets b : ℕ) (l : List ℕ) → Reads (b ∷ l) (ReadMore k brackets (b ∷ l)) (items (suc fuel) k brackets (b ∷ l))
   behind_reads brackets b l =
       split (eqb b (closer k))
-      (λ e. rw (eqb-true b (closer k) e, items_close fuel k brackets l, Reads) (past whole, close_read k brackets l))
+      (λ e. subst (λ (c : ℕ). Reads (c ∷ l) (ReadMore k brackets (c ∷ l)) (items (suc fuel) k brackets (c ∷ l))) (sym (eqb-true b (closer k) e))
+      (rw (items_close fuel k brackets l, Reads) (past whole, close_read k brackets l)))
       (λ e. split (eqb b (byte ","))
       (λ f. rw (eqb-true b (byte ",") f, items_comma fuel k brackets l)
       (reads_in (past (tail_drop (length_in is_white l) l)) _ (item_then fuel k brackets (comma (front is_white l)) (behind is_white l))

@@ -1,5 +1,6 @@
 // Prints a line for each sheet of a roll: `roll TABLE < ROLL`.
 // Document 01, "Rolls".
+#![tactic(auto)]
 mod input;
 mod print;
 

@@ -1,5 +1,6 @@
 // Runs trials: a request on each line of standard input, its answer on a line of standard output.
 // Its file stdin has trials of document 01, its file stdout their answers, worked out by hand from the paper.
+#![tactic(auto)]
 mod hex;
 mod print;
 mod requests;
