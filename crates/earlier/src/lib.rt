@@ -18,7 +18,7 @@ pub const SHORT_CELLS: usize = 128;
 pub const SHORT: usize = 256;
 
 // Where a name was sought: a trait has it, or it is a new one, which goes to this cell.
-#[derive(Drop)]
+#[derive(Clone, Copy)]
 pub enum Sought {
     Again,
     New { cell: usize },

@@ -15,7 +15,7 @@ pub const LIMIT: usize = 1024;
 // The parent of what stands at the top.
 pub const TOP: u32 = 4294967295;
 
-#[derive(Drop)]
+#[derive(Clone, Copy)]
 pub struct Entry {
     pub kind: u32,
     pub form: u32,
@@ -100,7 +100,7 @@ pub fn zero_from(cells: &mut [u32], at: usize)
 }
 
 // Where the next entry goes: its number, how many there is room for in all, and its parent.
-#[derive(Drop)]
+#[derive(Clone, Copy)]
 pub struct Slot {
     pub next: usize,
     pub room: usize,

@@ -5,7 +5,7 @@ ghost use Rattle.std.specs.Prelude.{◌≡◌, length};
 use paper::Refusal;
 
 // Something of a form was read, up to its end; or it is refused, and the place shows where inside it.
-#[derive(Drop)]
+#[derive(Clone, Copy)]
 pub enum Judged {
     Found { form: u32, end: usize },
     Refused { refusal: Refusal, place: usize },

@@ -17,7 +17,7 @@ use text::{classes, runs};
 
 // What stands around a word directly, which decides where it ends: nothing; a bracket of whose items it is one, closed by "]" or by ")"; or
 // a map, of whose keys it is one.
-#[derive(Drop)]
+#[derive(Clone, Copy)]
 pub enum Around {
     Nothing,
     Square,

@@ -37,7 +37,7 @@ pub fn read_closing(s: &[u8], at: usize, from: usize, to: usize) -> Part
 }
 
 // How an opening marker ends, and where: a block opens, or the Concept is closed at once. Or it is refused.
-#[derive(Drop)]
+#[derive(Clone, Copy)]
 pub enum Ending {
     Block(usize),
     Closed(usize),

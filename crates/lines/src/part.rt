@@ -14,7 +14,7 @@ use text::runs;
 use text::runs::Class;
 
 // A part was read up to its end: how many entries it made, and how many of them name the part's Concept as parent. Or it is refused.
-#[derive(Drop)]
+#[derive(Clone, Copy)]
 pub enum Part {
     Read { end: usize, made: usize, own: usize },
     Refused { refusal: Refusal, place: usize },
@@ -77,7 +77,7 @@ pub fn bytes_due(s: &[u8], at: usize, fixed: &[u8]) -> Part
 }
 
 // Whose name is read: a Concept's, a trait's, or a closing marker's, which is only compared.
-#[derive(Drop)]
+#[derive(Clone, Copy)]
 pub enum Whose {
     Concepts,
     Traits,

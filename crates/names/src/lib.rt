@@ -22,7 +22,7 @@ const SPREAD: usize = 40503;
 
 // A run of letters and digits: where it ends, whether it keeps the rule of names but for how it starts, and a key of all its letters, by
 // which it is found among others.
-#[derive(Drop)]
+#[derive(Clone, Copy)]
 pub struct Run {
     pub end: usize,
     pub keeps: bool,

@@ -6,7 +6,7 @@ ghost use Rattle.paper.specs.Values.{opener, closer, bracket_form, may_be_empty,
 use crate::forms;
 
 // A kind of bracket.
-#[derive(Drop)]
+#[derive(Clone, Copy)]
 pub enum Bracket {
     List,
     Set,

@@ -9,7 +9,7 @@ ghost use Rattle.std.specs.Prelude.{◌≡◌};
 ghost use Rattle.paper.specs.Answer.{number_of, told};
 
 // Why something is refused: a name for each number of "Refusal numbers", in its order.
-#[derive(Drop)]
+#[derive(Clone, Copy)]
 pub enum Refusal {
     Table,
     SheetTooLong,
@@ -58,7 +58,7 @@ pub fn number(refusal: Refusal) -> u32
 }
 
 // What a public function answers: an acceptance with its place and count, or a refusal with its place.
-#[derive(Drop)]
+#[derive(Clone, Copy)]
 pub enum Answer {
     Accepted { place: usize, count: usize },
     Refused { refusal: Refusal, place: usize },
@@ -99,7 +99,7 @@ impl Answer {
 }
 
 // What the mode table says of a Concept's name.
-#[derive(Drop)]
+#[derive(Clone, Copy)]
 pub enum Mode {
     Children,
     Content,

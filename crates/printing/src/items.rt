@@ -16,14 +16,14 @@ use quoting::page::{put, put_byte};
 use quoting::spans::part;
 
 // Where the page goes on, and the number of the entry that comes next.
-#[derive(Drop)]
+#[derive(Clone, Copy)]
 pub struct Walk {
     pub at: usize,
     pub next: usize,
 }
 
 // What a value holds: no items, or those of a bracket.
-#[derive(Drop)]
+#[derive(Clone, Copy)]
 enum Holding {
     NoItems,
     Items(Bracket),

@@ -86,7 +86,7 @@ fn put_lead(out: &mut [u8], at: usize, below: bool, depth: usize) -> usize
 }
 
 // Where the page goes on behind traits, the entry that comes next, and whether the last value ends in "/".
-#[derive(Drop)]
+#[derive(Clone, Copy)]
 struct Traits {
     at: usize,
     next: usize,

@@ -15,7 +15,7 @@ use text::runs;
 use text::runs::Class;
 
 // Where the page goes on, and where the spelling does.
-#[derive(Drop)]
+#[derive(Clone, Copy)]
 pub struct Put {
     pub at: usize,
     pub next: usize,

@@ -9,7 +9,7 @@ pub const CELLS: usize = 5;
 
 const LIMIT: usize = 256;
 
-#[derive(Drop)]
+#[derive(Clone, Copy)]
 pub struct Record {
     pub start: u32,
     pub end: u32,

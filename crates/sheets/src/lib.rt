@@ -120,7 +120,7 @@ pub fn read_rest(s: &[u8], at: usize) -> Part
 }
 
 // Where the part of an entry stands in the sheet, or that the entry cannot be viewed.
-#[derive(Drop)]
+#[derive(Clone, Copy)]
 enum Span {
     Part { start: usize, end: usize },
     Nowhere,

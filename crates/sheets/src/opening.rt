@@ -20,7 +20,7 @@ use text::runs;
 
 // What an opening marker says: the Concept's form, where its name and the marker itself end, how many entries its traits made,
 // how many of them are traits, and how many Concepts may still be opened inside. Or it is refused.
-#[derive(Drop)]
+#[derive(Clone, Copy)]
 pub enum Opening {
     Opened {
         form: u32,

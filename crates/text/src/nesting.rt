@@ -4,13 +4,13 @@ ghost use Rattle.std.specs.Prelude.{◌≡◌};
 ghost use Rattle.text.specs.Deeper.{one_deeper};
 
 // So many may still be opened.
-#[derive(Drop)]
+#[derive(Clone, Copy)]
 pub struct Nesting {
     pub left: usize,
 }
 
 // One level deeper, or no further.
-#[derive(Drop)]
+#[derive(Clone, Copy)]
 pub enum Deeper {
     Inside(Nesting),
     TooDeep,

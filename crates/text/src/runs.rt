@@ -8,7 +8,7 @@ use crate::classes;
 
 // What a run is made of: letters and digits, spaces and tabs, tabs, white space, digits, hex digits, what an IRI's
 // scheme is made of, or what is no line end.
-#[derive(Drop)]
+#[derive(Clone, Copy)]
 pub enum Class {
     Name,
     Blank,

@@ -8,13 +8,13 @@ ghost use Rattle.text.specs.Steps.{bits_of, step_at, checked, checked_at, Plain,
 use crate::parts::starts_with;
 
 // A place in a sheet.
-#[derive(Drop)]
+#[derive(Clone, Copy)]
 pub struct Cursor {
     pub at: usize,
 }
 
 // What stands at a cursor: a scalar value and the cursor behind it, bytes that begin no sequence, or nothing.
-#[derive(Drop)]
+#[derive(Clone, Copy)]
 pub enum Step {
     Scalar(u32, Cursor),
     Broken,
@@ -22,7 +22,7 @@ pub enum Step {
 }
 
 // What stands where a byte of a sequence has to follow: its six bits, or no such byte.
-#[derive(Drop)]
+#[derive(Clone, Copy)]
 enum Bits {
     Six(u32),
     Wrong,
@@ -140,7 +140,7 @@ fn four(s: &[u8], at: usize, low: u8, high: u8) -> Step
 }
 
 // What the check of a whole sheet says: all its bytes may stand, or the place of the first sequence that may not.
-#[derive(Drop)]
+#[derive(Clone, Copy)]
 pub enum Checked {
     Sound,
     Broken(usize),
@@ -162,7 +162,7 @@ fn may_stand(v: u32, s: &[u8], after: usize) -> bool
 const BLOCK: usize = 32;
 
 // What a walk over some bytes says: all may stand, and the place behind them; or the place of the first sequence that may not.
-#[derive(Drop)]
+#[derive(Clone, Copy)]
 enum Walked {
     To(usize),
     Broken(usize),

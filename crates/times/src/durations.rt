@@ -9,7 +9,7 @@ use crate::fields::are_digits;
 use text::parts::find;
 
 // The stretch of a duration that a part stands in: before "T", or behind it.
-#[derive(Drop)]
+#[derive(Clone, Copy)]
 pub enum Stretch {
     Date,
     Time,

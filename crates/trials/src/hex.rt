@@ -6,7 +6,7 @@ ghost use Rattle.trials.specs.Hex.{Answers};
 use text::classes;
 
 // What digits spell: so many bytes, or they are not pairs of hex digits.
-#[derive(Drop)]
+#[derive(Clone, Copy)]
 pub enum Spelt {
     Bytes(usize),
     Wrong,

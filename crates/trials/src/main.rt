@@ -12,7 +12,7 @@ ghost use Rattle.trials.specs.Lines.{line_limit, Fits};
 use libc::STDIN_FILENO;
 
 // What stands next in the input: a line of so many bytes, the end, or a line that is longer than the room.
-#[derive(Drop)]
+#[derive(Clone, Copy)]
 enum Line {
     Bytes(usize),
     End,
@@ -20,7 +20,7 @@ enum Line {
 }
 
 // The next byte of the input, or its end.
-#[derive(Drop)]
+#[derive(Clone, Copy)]
 enum Next {
     Byte(u8),
     End,

@@ -13,7 +13,7 @@ const TENTH: usize = 1844674407370955160;
 const CELL: usize = 4294967295;
 
 // What digits spell: a number, or they are none, or not digits alone, or too many.
-#[derive(Drop)]
+#[derive(Clone, Copy)]
 pub enum Numeral {
     Is(usize),
     Wrong,
@@ -64,7 +64,7 @@ pub fn number(digits: &[u8]) -> Numeral {
 }
 
 // What words spell: so many cells, or one of them is no number of a cell, or they are too many.
-#[derive(Drop)]
+#[derive(Clone, Copy)]
 pub enum Listed {
     Cells(usize),
     Wrong,

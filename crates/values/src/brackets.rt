@@ -10,7 +10,7 @@ use paper::brackets::Bracket;
 use text::parts::starts_with;
 
 // The bracket that a value begins with.
-#[derive(Drop)]
+#[derive(Clone, Copy)]
 pub enum Opening {
     NoBracket,
     Opens(Bracket),

@@ -22,7 +22,7 @@ use text::runs::Class;
 
 // A value whose items are entered: its form and end, how many entries its items took at any depth, and how many items are its own.
 // Or the place of the first item that has no entry left.
-#[derive(Drop)]
+#[derive(Clone, Copy)]
 pub enum Entered {
     Items {
         form: u32,

@@ -17,14 +17,14 @@ use text::runs::Class;
 use text::{classes, runs};
 
 // Where the key ends and where the value is due, which are one place where there is no key; or a refusal.
-#[derive(Drop)]
+#[derive(Clone, Copy)]
 pub enum Labelled {
     Label { key: usize, value: usize },
     Refused { refusal: Refusal, place: usize },
 }
 
 // Where the value behind a label is due, or the label's refusal.
-#[derive(Drop)]
+#[derive(Clone, Copy)]
 pub enum Due {
     At(usize),
     Refused { refusal: Refusal, place: usize },

@@ -1,0 +1,12 @@
+-- The invariant: the run from `i` on ends where the run from `at` on ends. The measure is what is left of the slice. Assumes nothing.
+use Prim.Native.Nat.{◌-◌}
+use lib.ListN.{length}
+use Rattle.text.specs.declared.runs.Class.{Class}
+use Rattle.text.specs.Runs.{in_class, Skips}
+use Rattle.text.proofs.runs.tab_end.Given as goal
+
+abbrev pub invariant-loop-i : goal.invariant-loop-i
+invariant-loop-i l = Skips (in_class Class.Tab) l.s l.at l.i
+
+abbrev pub decreases-loop-i : goal.decreases-loop-i
+decreases-loop-i l = length l.s - l.i
