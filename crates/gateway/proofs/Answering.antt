@@ -17,7 +17,7 @@ use Rattle.paper.specs.Writing.{Begun, tree, unread, begin, Writing, form_fits, 
 use Rattle.paper.proofs.Tests.{split}
 use Rattle.entries.specs.Laid.{entry_at}
 use Rattle.entries.proofs.Getting.{at_viewed}
-use Rattle.gateway.specs.Answers.{Few, threeOf, view_of}
+use Rattle.gateway.specs.Answers.{Few, three_of, view_of}
 use Rattle.gateway.specs.Promises.{TellsForm}
 use Rattle.paper.proofs.TableSizes.{table_small}
 use Rattle.paper.proofs.Exactly.{reading_small}
@@ -54,9 +54,9 @@ form_few table s lent out t after cells e =
     rw a (writing_few table s lent out)
 
 pub form_told : (table s : List ℕ) (lent : ℕ) (out : List ℕ) (t : Told) (after cells answer : List ℕ)
-    → record { answer = t; out = after; cells = cells } ≡ writing table s lent out → answer ≡ threeOf t → TellsForm table s lent out cells after answer
+    → record { answer = t; out = after; cells = cells } ≡ writing table s lent out → answer ≡ three_of t → TellsForm table s lent out cells after answer
 form_told table s lent out t after cells answer e told =
-    (ap (λ (x : Writing). x.cells) e, ap (λ (x : Writing). x.out) e, told ∙ ap (λ (x : Writing). threeOf x.answer) e)
+    (ap (λ (x : Writing). x.cells) e, ap (λ (x : Writing). x.out) e, told ∙ ap (λ (x : Writing). three_of x.answer) e)
 
 -- ---- a view
 

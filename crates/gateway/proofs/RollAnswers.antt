@@ -27,7 +27,7 @@ use Rattle.paper.proofs.Exactly.{sheet_answers, reading_small}
 use Rattle.paper.proofs.Beginning.{Sound, Begins, begins, reads_tree}
 use Rattle.paper.proofs.Fronts.{blanks_front}
 use Rattle.paper.proofs.Rolls.{whole, nothing_lost}
-use Rattle.gateway.specs.Answers.{Few, threeOf}
+use Rattle.gateway.specs.Answers.{Few, three_of}
 use Rattle.gateway.specs.Promises.{TellsRoll, TellsAdding}
 
 -- ---- a roll
@@ -88,10 +88,10 @@ roll_few table r records lent t after cells e =
     rw a (listing_few table r records lent)
 
 pub roll_told : (table r : List ℕ) (records lent : ℕ) (t : Told) (after cells answer : List ℕ)
-    → record { answer = t; records = after; cells = cells } ≡ roll_reading table r records lent → answer ≡ threeOf t
+    → record { answer = t; records = after; cells = cells } ≡ roll_reading table r records lent → answer ≡ three_of t
     → TellsRoll table r records lent after cells answer
 roll_told table r records lent t after cells answer e told =
-    (ap (λ (x : RollReading). x.records) e, ap (λ (x : RollReading). x.cells) e, told ∙ ap (λ (x : RollReading). threeOf x.answer) e)
+    (ap (λ (x : RollReading). x.records) e, ap (λ (x : RollReading). x.cells) e, told ∙ ap (λ (x : RollReading). three_of x.answer) e)
 
 -- ---- adding
 
@@ -147,6 +147,6 @@ adding_few table s roll n lent t after cells e =
     rw a (added_few table s roll n lent)
 
 pub adding_told : (table s roll : List ℕ) (n lent : ℕ) (t : Told) (after cells answer : List ℕ)
-    → record { answer = t; out = after; cells = cells } ≡ adding table s roll n lent → answer ≡ threeOf t → TellsAdding table s roll n lent after cells answer
+    → record { answer = t; out = after; cells = cells } ≡ adding table s roll n lent → answer ≡ three_of t → TellsAdding table s roll n lent after cells answer
 adding_told table s roll n lent t after cells answer e told =
-    (ap (λ (x : Writing). x.out) e, ap (λ (x : Writing). x.cells) e, told ∙ ap (λ (x : Writing). threeOf x.answer) e)
+    (ap (λ (x : Writing). x.out) e, ap (λ (x : Writing). x.cells) e, told ∙ ap (λ (x : Writing). three_of x.answer) e)

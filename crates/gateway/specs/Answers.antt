@@ -9,8 +9,8 @@ abbrev pub Few : Told → Type 0
 Few t = (t.place < 2 ^ 32) × (t.count < 2 ^ 32)
 
 -- number, place and count
-abbrev pub threeOf : Told → List ℕ
-threeOf t = t.number ∷ t.place ∷ t.count ∷ []
+abbrev pub three_of : Told → List ℕ
+three_of t = t.number ∷ t.place ∷ t.count ∷ []
 
 -- number, start and end of the part that an entry's span names
 unfoldable pub view_of : List ℕ → List ℕ → ℕ → List ℕ

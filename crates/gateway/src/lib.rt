@@ -4,7 +4,7 @@
 ghost use Rattle.std.specs.Prelude.{◌≡◌, length};
 ghost use Rattle.paper.specs.Answer.{told};
 ghost use Rattle.times.specs.Numbers.{TellsTime};
-ghost use Rattle.gateway.specs.Answers.{Few, threeOf};
+ghost use Rattle.gateway.specs.Answers.{Few, three_of};
 ghost use Rattle.gateway.specs.Promises.{TellsTable, TellsSheet, TellsView, TellsForm, TellsRoll, TellsAdding};
 
 use entries::get;
@@ -105,7 +105,7 @@ pub extern "C" fn cdx_add(
 // Writes an answer's number, place and count. They are small enough for an answer's cells.
 fn tell(given: Answer, answer: &mut [u32; 3])
     requires { Few (told given) }
-    ensures { answer.new ≡ threeOf (told given) }
+    ensures { answer.new ≡ three_of (told given) }
 {
     *answer = [given.number(), given.place() as u32, given.count() as u32];
 }
