@@ -1,23 +1,21 @@
 -- A name is a run, from its first byte to its last.
 use mathlib.Core.Path.{sym, ◌∙◌}
-use mathlib.Core.Logic.{⊎_elim}
-use borrow.Author.Rules.{rules}
-use borrow.Author.Tests.{ltb-true, ltb-false}
+use mathlib.Core.Logic.{inl, inr}
 use Rattle.paper.specs.Bytes.{is_upper}
 use Rattle.names.proofs.Rule.{empty_name, no_run, good_start, bad_start}
 use Rattle.names.proofs.is_concept_name.Goals as goal
 
 pub returns-then-name-eq0 : goal.returns-then-name-eq0
-returns-then-name-eq0 c = ⊎_elim (λ w. empty_name is_upper _ w.taken) (λ w. no_run is_upper _ c.run_at-run.ensures (ltb-true _ _ w.2.taken)) c.then-name-eq0.branch-raw
+returns-then-name-eq0 c = elim c.then-name-eq0.either [ inl h ↦ empty_name is_upper _ h | inr h ↦ no_run is_upper _ c.run_at-run.ensures h.1 ]
 
 pub returns-then-is_upper : goal.returns-then-is_upper
 returns-then-is_upper c =
     let upper = sym c.is_upper.ensures ∙ c.if-is_upper.true in
     good_start is_upper _ c.run_at-run.ensures c.if-name-eq0.false
-    (ltb-false _ _ c.if-run-name.false) upper
+    c.if-run-name.false upper
 
 pub returns-else-is_upper : goal.returns-else-is_upper
 returns-else-is_upper c =
     let other = sym c.is_upper.ensures ∙ c.if-is_upper.false in
     c.if-is_upper.false ∙ bad_start is_upper _ c.run_at-run.ensures c.if-name-eq0.false
-    (ltb-false _ _ c.if-run-name.false) other
+    c.if-run-name.false other

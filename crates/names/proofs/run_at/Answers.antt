@@ -1,11 +1,8 @@
-use Prim.Native.Nat.{◌-◌}
 use mathlib.Core.Path.{sym, ◌∙◌}
-use mathlib.Core.Logic.{⊎_elim}
 use native.Mathlib.Omega.{arith}
-use lib.ListN.{length}
-use borrow.Author.Rules.{rules}
-use Rattle.names.proofs.Rule.{Judged, judged_begin, judged_capital, judged_third, judged_other, measured_here, measured_cut, lower_name, digit_name}
+use Rattle.names.proofs.Rule.{judged_begin, judged_capital, judged_third, judged_other, measured_here, measured_cut, lower_name, digit_name}
 use Rattle.names.proofs.run_at.Goals as goal
+use Rattle.names.proofs.run_at.Goals.{then-is_lower, else-is_lower+then-is_upper+then-capitals-eq-CAPITALS, else-is_lower+then-is_upper+else-capitals-eq-CAPITALS, else-is_lower+else-is_upper+then-is_digit}
 
 pub loop-i-init : goal.loop-i-init
 loop-i-init c = judged_begin _ _ (omega arith)
@@ -44,16 +41,18 @@ loop-i-preserved c =
     let so_far = c.loop-i.invariant in
     let here = c.loop-i-test.true in
     let lower = sym c.is_lower.ensures in
-    ⊎_elim
-    (λ w. let byte = lower_name _ (lower ∙ w.0.taken) in rw (w.1, w.2) (judged_other so_far here byte.0 byte.1))
-    (⊎_elim
-    (λ w. rw (w.4, w.5) (judged_third so_far here (sym w.1.ensures ∙ w.2.taken) (omega (arith, w.3.taken))))
-    (⊎_elim
-    (λ w. rw (w.4, w.5) (judged_capital so_far here (sym w.1.ensures ∙ w.2.taken) (omega (arith, w.3.left, so_far.row))))
-    (λ w.
-    let upper = sym w.1.ensures ∙ w.2.left in
-    rw (w.5, w.6) (judged_other so_far here upper (digit_name _ (lower ∙ w.0.left) upper ∙ sym w.3.ensures ∙ w.4.taken)))))
-    c.if-is_lower.branch-raw
+    elim c.if-is_lower.branch [
+      | then-is_lower w ↦ let byte = lower_name _ (lower ∙ w.if-is_lower.true) in rw (w.capitals-is, w.few-is) (judged_other so_far here byte.0 byte.1)
+      | else-is_lower+then-is_upper+then-capitals-eq-CAPITALS w ↦
+          rw (w.capitals-is, w.few-is) (judged_third so_far here (sym w.is_upper.ensures ∙ w.if-is_upper.true) (omega (arith, w.if-capitals-eq-CAPITALS.true)))
+      | else-is_lower+then-is_upper+else-capitals-eq-CAPITALS w ↦
+          rw (w.capitals-is, w.few-is)
+          (judged_capital so_far here (sym w.is_upper.ensures ∙ w.if-is_upper.true) (omega (arith, w.if-capitals-eq-CAPITALS.false, so_far.row)))
+      | else-is_lower+else-is_upper+then-is_digit w ↦
+          let upper = sym w.is_upper.ensures ∙ w.if-is_upper.false in
+          rw (w.capitals-is, w.few-is)
+          (judged_other so_far here upper (digit_name _ (lower ∙ w.if-is_lower.false) upper ∙ sym w.is_digit.ensures ∙ w.if-is_digit.true))
+    ]
 
 pub judged-requires-2 : goal.judged-requires-2
 judged-requires-2 c = c.loop-i.invariant.ahead

@@ -1,12 +1,8 @@
 -- The invariant: the run from `i` on, with the capitals directly before it, decides as the run from `at` on.
 -- The measure is what is left of the slice.
 use Prim.Native.Nat.{◌-◌}
-use mathlib.Core.Path.{sym, ◌∙◌}
-use mathlib.Core.Logic.{⊎_elim}
-use native.Mathlib.Omega.{arith}
 use lib.ListN.{length}
-use borrow.Author.Rules.{rules}
-use Rattle.names.proofs.Rule.{Judged, judged_begin, judged_capital, judged_third, judged_other, measured_here, measured_cut, lower_name, digit_name}
+use Rattle.names.proofs.Rule.{Judged}
 use Rattle.names.proofs.run_at.Given as goal
 
 abbrev pub invariant-loop-i : goal.invariant-loop-i
