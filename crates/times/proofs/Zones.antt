@@ -1,6 +1,6 @@
 -- The zones behind a time: offsets, names, and the bytes of a name one by one; a law for each way out of their functions.
 -- Over plain lists; 001 §18, TimeZoneOffset and TimeZoneId. Assumes nothing.
-use Prim.Native.Nat.{ℕ, ◌+◌, ◌-◌, ◌≤◌, ◌<◌}
+use Prim.Native.Nat.{ℕ, ◌+◌, ◌≤◌, ◌<◌}
 use mathlib.Core.Path.{◌≡◌, refl, sym, ◌∙◌}
 use mathlib.Core.Bool.{Bool, true, false, not, ◌&&◌}
 use mathlib.Core.List.{List, [], ◌∷◌}

@@ -1,9 +1,7 @@
 -- A law for each way out of what is parted at "-". Assumes nothing.
-use borrow.Author.Rules.{rules}
 use mathlib.Core.Path.{sym, ◌∙◌}
 use native.Mathlib.Omega.{arith}
 use lib.Seq.{length-take-le}
-use borrow.Author.Tests.{not-true, not-false}
 use Rattle.paper.specs.Times.{is_date}
 use Rattle.times.proofs.Splits.{parted_none, parted_off}
 use Rattle.times.proofs.Calendar.{date_there}

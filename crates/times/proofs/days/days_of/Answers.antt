@@ -1,5 +1,5 @@
 -- A law for each way out: February, the short months, the long ones, and numbers of no month. Assumes nothing.
-use borrow.Author.Rules.{rules}
+use native.Mathlib.Omega.{arith}
 use Rattle.times.proofs.Calendar.{february, short, long, summer, too_low, too_high}
 use Rattle.times.proofs.days.days_of.Goals as goal
 
@@ -19,4 +19,4 @@ pub returns-in-1-to-12 : goal.returns-in-1-to-12
 returns-in-1-to-12 c = long _ _ c.in-1-to-12.in-1-to-12-own.keys3
 
 pub returns-in-1-to-12-2 : goal.returns-in-1-to-12-2
-returns-in-1-to-12-2 c = let rest = c.in-1-to-12.in_default.rest in summer _ _ rest.0.0.1 rest.0.1 rest.1 (omega arith) (omega arith)
+returns-in-1-to-12-2 c = let rest = c.in-1-to-12.in_default-own.rest in summer _ _ rest.0.0.1 rest.0.1 rest.1 (omega arith) (omega arith)

@@ -1,14 +1,12 @@
 -- A law for each way out, by where "T" first stands. Assumes nothing.
 use Prim.Native.Nat.{◌+◌}
 use mathlib.Core.Path.{sym, ap, ◌∙◌}
-use mathlib.Core.Logic.{⊎_elim}
+use mathlib.Core.Logic.{inl, inr}
 use native.Mathlib.Omega.{arith}
 use lib.Seq.{length-take-le}
-use borrow.Author.Tests.{not-true, not-false}
 use Rattle.paper.specs.Times.{are_time_parts}
 use Rattle.text.proofs.Places.{part_rest}
 use Rattle.times.proofs.Spans.{span_date, span_off, span_bare, span_both}
-use borrow.Author.Rules.{rules}
 use Rattle.times.proofs.durations.is_span.Goals as goal
 
 pub slice_bounds-are_parts-end : goal.slice_bounds-are_parts-end
@@ -22,6 +20,7 @@ returns-then-not-dated c = span_off _ _ c.find-t.ensures (omega arith) c.if-t-ne
 
 pub returns : goal.returns
 returns c =
-    c.are_parts.ensures ∙ ap are_time_parts (part_rest c.args.w.now (c.find-t.result + 1)) ∙ ⊎_elim
-    (λ w. span_both _ _ c.find-t.ensures (omega arith) (sym c.are_parts-dated.ensures ∙ not-false _ w.1.left))
-    (λ w. span_bare _ _ c.find-t.ensures (omega arith) w.left) c.else-t-ne0.branch-raw
+    c.are_parts.ensures ∙ ap are_time_parts (part_rest c.args.w.now (c.find-t.result + 1)) ∙ elim c.else-t-ne0.either [
+      | inl both ↦ span_both _ _ c.find-t.ensures (omega arith) (sym c.are_parts-dated.ensures ∙ both.1)
+      | inr bare ↦ span_bare _ _ c.find-t.ensures (omega arith) bare
+    ]

@@ -5,15 +5,12 @@ use mathlib.Core.List.{List, ◌∷◌, ◌++◌}
 use mathlib.Core.Path.{sym, ap, ◌∙◌}
 use native.Mathlib.Omega.{arith}
 use lib.Seq.{length-take-le}
-use borrow.Author.Tests.{not-true, not-false}
 use Rattle.paper.specs.Found.{pick}
 use Rattle.paper.specs.Bytes.{byte}
 use Rattle.paper.specs.Times.{time_kind}
 use Rattle.text.proofs.Places.{part_rest}
 use Rattle.times.specs.Numbers.{number_of}
 use Rattle.times.proofs.Told.{undated, dated, clock, of_ten, of_seven, of_others}
-use borrow.Author.Rules.{rules}
-use Rattle.times.proofs.kinds.numbered_kind.Reads as reads
 use Rattle.times.proofs.kinds.numbered_kind.Goals as goal
 
 pub slice_bounds-is_date-end : goal.slice_bounds-is_date-end
