@@ -1,5 +1,4 @@
 -- Each arm is a law of the first byte.
-use borrow.Author.Rules.{rules}
 use Rattle.leaves.proofs.Showing.{cut_off}
 use Rattle.leaves.proofs.LeafReads.{leaf_ends, string_leaf, character_leaf, backtick_leaf, time_leaf, word_leaf_lem}
 use Rattle.leaves.proofs.read_leaf.Goals as goal

@@ -1,5 +1,4 @@
 -- A law for each way out; a word of some kind is not empty.
-use borrow.Author.Rules.{rules}
 use mathlib.Core.Path.{refl}
 use native.Mathlib.Omega.{arith}
 use Rattle.leaves.proofs.Showing.{finds, no_value, cut_off}
