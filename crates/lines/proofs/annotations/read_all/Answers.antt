@@ -8,7 +8,8 @@ pub loop-slot-init : goal.loop-slot-init
 loop-slot-init c = notes_begin _ _ _ _ c.requires.0.inside c.requires.1.inside
 
 pub returns-then-not-starts_with : goal.returns-then-not-starts_with
-returns-then-not-starts_with c = notes_over _ _ _ _ _ _ _ c.loop-slot.invariant _ c.end-mark.ensures _ c.starts_with.ensures (ap not c.if-not-starts_with.true) _ refl
+returns-then-not-starts_with c =
+    notes_over _ _ _ _ _ _ _ c.loop-slot.invariant _ c.end-mark.ensures _ c.starts_with.ensures (ap not c.if-not-starts_with.true) _ refl
 
 pub overflow_add-mark : goal.overflow_add-mark
 overflow_add-mark c =

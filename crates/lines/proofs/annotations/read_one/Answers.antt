@@ -14,8 +14,7 @@ returns-then-is_full c =
     let text : TextAt c.args.s.now c.args.at c.in-Read.end =
     text_at _ _ _ _ _ _ c.requires.0.inside c.text_end-text.ensures c.in-Read.is in
     λ tabs.
-    note_full _ _ _ _ _ tabs _ _ _ _ text _ c.is_full.ensures c.if-is_full.true
-    c.requires.0.inside c.refused.ensures
+    note_full _ _ _ _ _ tabs _ _ _ _ text _ c.is_full.ensures c.if-is_full.true c.requires.0.inside c.refused.ensures
 
 pub line_rest-rest-requires : goal.line_rest-rest-requires
 line_rest-rest-requires c =
@@ -28,8 +27,7 @@ returns-in_default-rest c =
     let text : TextAt c.args.s.now c.args.at c.in-Read.end =
     text_at _ _ _ _ _ _ c.requires.0.inside c.text_end-text.ensures c.in-Read.is in
     λ tabs.
-    rest_refused _ _ _ _ _ tabs _ _ _ _ text _ c.is_full.ensures
-    c.if-is_full.false _ _ c.line_rest-rest.ensures c.in_default-rest.is
+    rest_refused _ _ _ _ _ tabs _ _ _ _ text _ c.is_full.ensures c.if-is_full.false _ _ c.line_rest-rest.ensures c.in_default-rest.is
 
 -- the text, where its entry is made
 text : (c : goal.After-put-arg-1) → TextAt c.args.s.now c.args.at c.in-Read.end
@@ -39,14 +37,10 @@ pub overflow_sub-end : goal.overflow_sub-end
 overflow_sub-end c = let t = text c in omega arith
 
 pub overflow_cast-end : goal.overflow_cast-end
-overflow_cast-end c =
-    let t = text c in
-    omega (arith, c.requires.0.within)
+overflow_cast-end c = let t = text c in omega (arith, c.requires.0.within)
 
 pub put-requires : goal.put-requires
-put-requires c =
-    room_left _ _ _ c.requires.1
-    c.is_full.ensures c.if-is_full.false
+put-requires c = room_left _ _ _ c.requires.1 c.is_full.ensures c.if-is_full.false
 
 pub returns : goal.returns
 returns c =
@@ -55,7 +49,4 @@ returns c =
     let rest : RestAt c.args.s.now c.in-Read.end c.in-Read-rest.next =
     rest_at _ _ _ _ _ _ text.inside c.line_rest-rest.ensures c.in-Read-rest.is in
     λ tabs.
-    note_made _ _ _ _ _ tabs _ _ _ _ text _
-    c.is_full.ensures
-    c.if-is_full.false _ rest _ refl
-    c.nameless.ensures c.put.ensures
+    note_made _ _ _ _ _ tabs _ _ _ _ text _ c.is_full.ensures c.if-is_full.false _ rest _ refl c.nameless.ensures c.put.ensures

@@ -29,8 +29,7 @@ returns-then-not-is_escaped c =
     ∙ c.loop-i.invariant.1
 
 pub loop-i-preserved-then-b-eq92 : goal.loop-i-preserved-then-b-eq92
-loop-i-preserved-then-b-eq92 c =
-    (
+loop-i-preserved-then-b-eq92 c = (
   omega arith,
   escape_good _ _ c.loop-i-test.true
       c.if-b-eq93.false c.if-b-eq92.true c.if-next-s.false _
@@ -46,8 +45,7 @@ returns-then-is_line_end c =
     ∙ c.loop-i.invariant.1
 
 pub loop-i-preserved : goal.loop-i-preserved
-loop-i-preserved c =
-    (
+loop-i-preserved c = (
   omega arith,
   text_on _ _ c.loop-i-test.true c.if-b-eq93.false c.if-b-eq92.false
       _ c.is_line_end.ensures c.if-is_line_end.false

@@ -1,7 +1,6 @@
 use Prim.Native.Nat.{◌+◌, ◌-◌, ◌≤◌, ◌<◌}
-use mathlib.Core.Path.{◌≡◌, refl}
+use mathlib.Core.Path.{refl}
 use native.Mathlib.Omega.{arith}
-use lib.ListN.{length}
 use Rattle.paper.specs.Limits.{sheet_limit}
 use Rattle.lines.specs.Parts.{part}
 use Rattle.lines.proofs.Crossing.{room_left}
@@ -13,32 +12,30 @@ use Rattle.lines.proofs.content.read_content.Goals as goal
 pub returns-in_default : goal.returns-in_default
 returns-in_default c =
     λ k named.
-    rest_refused _ _ _ c.args.at _ _ _ _ k named _ _ _ _ c.line_rest-rest.ensures
-    c.in_default.is
+    rest_refused _ _ _ c.args.at _ _ _ _ k named _ _ _ _ c.line_rest-rest.ensures c.in_default.is
 
 pub returns-then-is_full : goal.returns-then-is_full
 returns-then-is_full c =
-    let rest : RestAt c.args.s.now c.args.at c.in-Read.start = rest_at _ _ _ _ _ _ c.requires.0.inside c.line_rest-rest.ensures c.in-Read.is in
+    let rest : RestAt c.args.s.now c.args.at c.in-Read.start =
+    rest_at _ _ _ _ _ _ c.requires.0.inside c.line_rest-rest.ensures c.in-Read.is in
     λ k named.
-    no_room _ _ _ c.args.at _ _ _ _ k named _ _ _ rest
-    _ c.is_full.ensures c.if-is_full.true c.refused.ensures
+    no_room _ _ _ c.args.at _ _ _ _ k named _ _ _ rest _ c.is_full.ensures c.if-is_full.true c.refused.ensures
 
 pub loop-mark-init : goal.loop-mark-init
 loop-mark-init c =
-    let rest : RestAt c.args.s.now c.args.at c.in-Read.start = rest_at _ _ _ _ _ _ c.requires.0.inside c.line_rest-rest.ensures c.in-Read.is in
+    let rest : RestAt c.args.s.now c.args.at c.in-Read.start =
+    rest_at _ _ _ _ _ _ c.requires.0.inside c.line_rest-rest.ensures c.in-Read.is in
     lines_begin _ _ _ _ rest.inside
 
 pub returns-in_default-line : goal.returns-in_default-line
 returns-in_default-line c =
-    let rest : RestAt c.args.s.now c.args.at c.in-Read.start = rest_at _ _ _ _ _ _ c.requires.0.inside c.line_rest-rest.ensures c.in-Read.is in
+    let rest : RestAt c.args.s.now c.args.at c.in-Read.start =
+    rest_at _ _ _ _ _ _ c.requires.0.inside c.line_rest-rest.ensures c.in-Read.is in
     λ k named.
     let refused =
     lines_refused _ _ _ _ _ c.loop-mark.invariant _ c.closes.ensures
     c.if-closes.false _ c.read_line-line.ensures _ _ c.in_default-line.is in
-    line_refused _ _ _ c.args.at _ _ _ _ k
-    named _ _ _ rest _
-    c.is_full.ensures c.if-is_full.false _ _ refused
-    c.in_default-line.is
+    line_refused _ _ _ c.args.at _ _ _ _ k named _ _ _ rest _ c.is_full.ensures c.if-is_full.false _ _ refused c.in_default-line.is
 
 -- the line of this turn ends further on, and the lines go on behind it
 turn : (c : goal.In-Read-line)
@@ -54,14 +51,12 @@ pub loop-mark-preserved : goal.loop-mark-preserved
 loop-mark-preserved c = (turn c).1
 
 pub put-requires : goal.put-requires
-put-requires c =
-    room_left _ _ _ c.requires.1
-    c.is_full.ensures c.if-is_full.false
+put-requires c = room_left _ _ _ c.requires.1 c.is_full.ensures c.if-is_full.false
 
 -- the closing line ends within the limit
 closing : (c : goal.After-slice_known-2-1) → c.loop-mark.i + c.args.tabs + 3 + (c.args.to - c.args.from) ≤ sheet_limit
 closing c =
-    let size : length (part c.args.s.now c.args.from c.args.to) ≡ c.args.to - c.args.from = part_length c.args.s.now c.args.from c.args.to c.requires.2 c.requires.3 in
+    let size = part_length c.args.s.now c.args.from c.args.to c.requires.2 c.requires.3 in
     let inside = closing_inside _ _ _ _ _ c.loop-mark.invariant _ c.closes.ensures c.if-closes.true in
     omega (arith, size, c.requires.0.within)
 
@@ -79,13 +74,9 @@ overflow_add-result-4 c = omega (arith, closing c)
 
 pub returns : goal.returns
 returns c =
-    let rest : RestAt c.args.s.now c.args.at c.in-Read.start = rest_at _ _ _ _ _ _ c.requires.0.inside c.line_rest-rest.ensures c.in-Read.is in
-    let size : length (part c.args.s.now c.args.from c.args.to) ≡ c.args.to - c.args.from = part_length c.args.s.now c.args.from c.args.to c.requires.2 c.requires.3 in
+    let rest : RestAt c.args.s.now c.args.at c.in-Read.start =
+    rest_at _ _ _ _ _ _ c.requires.0.inside c.line_rest-rest.ensures c.in-Read.is in
+    let size = part_length c.args.s.now c.args.from c.args.to c.requires.2 c.requires.3 in
     λ k named.
-    entered _ _ _ c.args.at
-    _ _ _ _ k named _ _ _ rest _
-    c.is_full.ensures
-    c.if-is_full.false _ c.loop-mark.invariant _
-    c.closes.ensures c.if-closes.true
-    _ (omega (arith, size))
-    refl _ c.nameless.ensures c.put.ensures
+    entered _ _ _ c.args.at _ _ _ _ k named _ _ _ rest _ c.is_full.ensures c.if-is_full.false _ c.loop-mark.invariant _
+    c.closes.ensures c.if-closes.true _ (omega (arith, size)) refl _ c.nameless.ensures c.put.ensures
