@@ -8,7 +8,7 @@ use native.Mathlib.Omega.{arith}
 use lib.ListN.{length, get_or, drop, drop_of_length-le}
 use lib.Dec.{eqb}
 use Rattle.paper.specs.declared.Refusal.{Refusal}
-use Rattle.paper.specs.Found.{found, fault, more, turn_of, taking}
+use Rattle.paper.specs.Found.{found, fault, turn_of, taking}
 use Rattle.paper.specs.Bytes.{is_blank, is_line_end, starts_in, length_in, front, behind, starts_with, space, tab, is}
 use Rattle.paper.specs.Reading.{line_rest, is_blank_line, blank_turn, blank_lines, is_tab, no_space, tabs_only, last_blanks}
 use Rattle.paper.proofs.Tests.{split}
