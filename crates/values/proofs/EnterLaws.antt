@@ -10,7 +10,7 @@ use Rattle.paper.specs.declared.Refusal.{Refusal}
 use Rattle.paper.specs.declared.Refusal.TheVariants.{TooDeep}
 use Rattle.paper.specs.declared.brackets.Bracket.{Bracket}
 use Rattle.paper.specs.Found.{Found, found, fault, and_then, place_in}
-use Rattle.paper.specs.Bytes.{byte, bytes, is_white, length_in, front, behind, starts_with}
+use Rattle.paper.specs.Bytes.{byte, bytes, is_white, length_in, front, starts_with}
 use Rattle.paper.specs.Values.{opener, closer, bracket_form, may_be_empty, enders, Label, Leaf, leaf_form, Value, leaf, empty_bracket, bracket, value_form, More, close, comma}
 use Rattle.paper.specs.ReadingValues.{no_bracket, opens, opens_with, leaf_of, value_of, more_of, item_and}
 use Rattle.paper.specs.Entries.{Entry, label_width, value_width, items_of, more_items, item_size, more_size, item_entry, item_entries, more_entries}

@@ -12,7 +12,7 @@ use Rattle.paper.specs.declared.Refusal.{Refusal}
 use Rattle.paper.specs.declared.Refusal.TheVariants.{Value, Cut}
 use Rattle.paper.specs.Found.{Found, found, fault, pick}
 use Rattle.paper.specs.Bytes.{byte, bytes, is_lower, is_white, is_blank, is_line_end, elem, all, starts_in, length_in, is}
-use Rattle.paper.specs.Values.{is_ender, ends_word, word_form, Leaf, word, leaf_form, Key, bare_key, leaf_key, is_bare, is_key_form}
+use Rattle.paper.specs.Values.{is_ender, ends_word, word_form, Leaf, leaf_form, Key, bare_key, leaf_key, is_bare, is_key_form}
 use Rattle.paper.specs.ReadingValues.{word_length, word_of, word_leaf, leaf_of, first_of, other, key_word}
 use Rattle.paper.proofs.Tests.{split, true_false}
 use Rattle.paper.proofs.Lists.{elem_apart, elem_more, without}
