@@ -1,6 +1,7 @@
 // The names of a marker's traits so far, by where they start in the sheet, and whether one of them stands again.
 // Document 02, Six. An index has a cell for each; a search begins at the cell that a name's key gives, and goes on from there to a cell that is free.
 #![tactic(auto)]
+
 ghost use Rattle.std.specs.Prelude.{◌≡◌, true, ◌+◌, ◌<◌, length};
 ghost use Rattle.paper.specs.Bytes.{same, all, is_name_byte};
 ghost use Rattle.earlier.specs.Earlier.{name_at, Ready, Seeks};

@@ -1,6 +1,7 @@
 // The mode table: whether it is in order, and what it says of a Concept's name.
 // Document 01, "The mode table", and refusal 1.
 #![tactic(auto)]
+
 pub mod index;
 
 ghost use Rattle.std.specs.Prelude.{◌≡◌, ◌≤◌, length, drop};
