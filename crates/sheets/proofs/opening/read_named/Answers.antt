@@ -1,0 +1,42 @@
+-- A law for each way out: the nesting, the table, and what follows a name that is admitted.
+use Prim.Native.Nat.{suc}
+use mathlib.Core.Path.{◌≡◌, sym, ap, ◌∙◌}
+use mathlib.Core.Logic.{⊎_elim}
+use native.Mathlib.Omega.{arith}
+use Rattle.text.proofs.Deepening.{one_less, no_less}
+use Rattle.sheets.specs.Opening.{part_of}
+use Rattle.sheets.proofs.TraitRuns.{refused_names}
+use Rattle.sheets.proofs.OpeningLaws.{in_children, in_content, too_deep, unlisted, listed}
+use borrow.Author.Rules.{rules}
+use Rattle.sheets.proofs.opening.read_named.Goals as goal
+
+pub returns-in_default : goal.returns-in_default
+returns-in_default c =
+    (
+      too_deep _ c.requires.1 c.requires.2 c.requires.3 _ (no_less _ _ c.step.ensures c.in_default.is)
+          c.unopened.ensures,
+      refused_names (ap part_of c.unopened.ensures),
+    )
+
+pub returns-in-Absent : goal.returns-in-Absent
+returns-in-Absent c =
+    let fewer : c.args.nesting.left ≡ suc c.in-Inside.inside.left = one_less _ _ c.step.ensures _ c.in-Inside.is in
+    (
+      unlisted _ c.requires.1 c.requires.2 c.requires.3 _ fewer
+          (sym c.in-Absent.is ∙ c.mode_of.ensures) c.unopened-in-Absent.ensures,
+      refused_names (ap part_of c.unopened-in-Absent.ensures),
+    )
+
+pub read_marker-requires : goal.read_marker-requires
+read_marker-requires c = (c.requires.1, omega (arith, c.requires.2), c.requires.3, c.requires.4)
+
+pub returns : goal.returns
+returns c =
+    let fewer : c.args.nesting.left ≡ suc c.in-Inside.inside.left = one_less _ _ c.step.ensures _ c.in-Inside.is in
+    (
+      listed _ c.requires.1 c.requires.2 c.requires.3 _ fewer
+          (⊎_elim (λ w. in_children _ _ (sym w.1.given.1 ∙ c.mode_of.ensures) w.2)
+          (λ w. in_content _ _ (sym w.1.given.1 ∙ c.mode_of.ensures) w.2) c.match-mode_of.branch-raw)
+          c.read_marker.ensures.0,
+      c.read_marker.ensures.1,
+    )
