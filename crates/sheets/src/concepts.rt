@@ -21,7 +21,7 @@ use text::parts::starts_with;
 use text::runs;
 
 // Reads the Concept whose "<" is due at `at`, on a line of so many tabs, and enters it with what it holds.
-#[cycle(read_annotated_read_block_read_children_read_concept_read_inside_read_piece)]
+#[cycle(concept)]
 fn read_concept(
     table: &[u8],
     s: &[u8],
@@ -112,7 +112,7 @@ fn end_concept(
 }
 
 // Reads what follows an opening marker of this form that ends at `at`: nothing, children or Content.
-#[cycle(read_annotated_read_block_read_children_read_concept_read_inside_read_piece)]
+#[cycle(concept)]
 fn read_inside(
     table: &[u8],
     s: &[u8],
@@ -140,7 +140,7 @@ fn read_inside(
 }
 
 // Reads the children of a block from behind its marker's ">" on, with its closing marker. Its name stands from `from` to `to`.
-#[cycle(read_annotated_read_block_read_children_read_concept_read_inside_read_piece)]
+#[cycle(concept)]
 fn read_block(
     table: &[u8],
     s: &[u8],
@@ -178,7 +178,7 @@ fn read_block(
 }
 
 // Reads the lines of a children body that stand at `at`, up to the closing marker behind the tabs of its line.
-#[cycle(read_annotated_read_block_read_children_read_concept_read_inside_read_piece)]
+#[cycle(concept)]
 fn read_children(
     table: &[u8],
     s: &[u8],
@@ -232,7 +232,7 @@ fn read_children(
 
 // Reads a blank line, or a Concept with its annotations and the rest of its line. The tabs that stand at `at` end at `mark`:
 // what stands there is looked at first, since most lines have a Concept behind their tabs, or nothing.
-#[cycle(read_annotated_read_block_read_children_read_concept_read_inside_read_piece)]
+#[cycle(concept)]
 fn read_piece(
     table: &[u8],
     s: &[u8],
@@ -284,7 +284,7 @@ fn end_line(s: &[u8], part: Part) -> Part
 }
 
 // Reads the annotations that stand at `at` and their Concept, which is due behind the tabs of the next line. The tabs at `at` end at `mark`.
-#[cycle(read_annotated_read_block_read_children_read_concept_read_inside_read_piece)]
+#[cycle(concept)]
 fn read_annotated(
     table: &[u8],
     s: &[u8],

@@ -24,7 +24,7 @@ use Rattle.sheets.proofs.PieceLaws.{pieces_on}
 use Rattle.sheets.proofs.LineStarts.{Behind, lf_blank, lf_rest, mark_piece}
 use Rattle.sheets.proofs.AnnotatedLaws as annotated
 use Rattle.sheets.proofs.BlockLaws as block
-use Rattle.sheets.proofs.concepts.+read_annotated_read_block_read_children_read_concept_read_inside_read_piece.Given as goal
+use Rattle.sheets.proofs.concepts.+concept.Given as goal
 
 abbrev pub decreases-read_annotated : goal.decreases-read_annotated
 decreases-read_annotated l = 6 * (length l.s.now - l.at) + 1
@@ -45,7 +45,8 @@ abbrev pub decreases-read_piece : goal.decreases-read_piece
 decreases-read_piece l = 6 * (length l.s.now - l.at) + 2
 
 abbrev pub invariant-read_children-loop-nesting : goal.invariant-read_children-loop-nesting
-invariant-read_children-loop-nesting l = Pieces l.table l.s l.at l.nesting.left l.initial.cells l.slot l.names l.made l.own own × (length l.i ≡ length l.initial.names) × NamesBefore l.s (l.made + 1) l.i
+invariant-read_children-loop-nesting l =
+    Pieces l.table l.s l.at l.nesting.left l.initial.cells l.slot l.cells l.i l.made l.own × (length l.names ≡ length l.initial.names) × NamesBefore l.s (l.i + 1) l.names
 
 abbrev pub decreases-read_children-loop-nesting : goal.decreases-read_children-loop-nesting
-decreases-read_children-loop-nesting l = length l.s - l.made
+decreases-read_children-loop-nesting l = length l.s - l.i

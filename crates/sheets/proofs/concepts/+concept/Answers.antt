@@ -23,7 +23,9 @@ use Rattle.sheets.proofs.PieceLaws.{pieces_on}
 use Rattle.sheets.proofs.LineStarts.{Behind, lf_blank, lf_rest, mark_piece}
 use Rattle.sheets.proofs.AnnotatedLaws as annotated
 use Rattle.sheets.proofs.BlockLaws as block
-use Rattle.sheets.proofs.concepts.+read_annotated_read_block_read_children_read_concept_read_inside_read_piece.Goals as goal
+use Rattle.sheets.proofs.concepts.+concept.Goals as goal
+use Rattle.sheets.proofs.concepts.+concept.Goals.{read_annotated-then-made-eq0, read_annotated-else-made-eq0}
+use Rattle.sheets.proofs.concepts.+concept.Goals.{read_piece-then-not-starts_with+else-starts_with+else-is_blank_line+in-Read, read_piece-else-not-starts_with}
 
 pub read_annotated-read_notes-notes-requires : goal.read_annotated-read_notes-notes-requires
 read_annotated-read_notes-notes-requires t c = let ready = c.requires in (ready.0.in_sheet, ready.0.fits, ready.1)
@@ -40,7 +42,7 @@ pub read_annotated-tab_end-tag-requires : goal.read_annotated-tab_end-tag-requir
 read_annotated-tab_end-tag-requires t c =
     let annotated-notes : let start = c.args in
     annotated.NotesAt start.table.now start.index.now start.s.now start.at start.cells.now start.slot
-    c.read_notes-notes.new.1.1.1.0 c.in-Read.line c.in-Read.made = annotated.notes_at c.requires.0
+    c.read_notes-notes.new.cells c.in-Read.line c.in-Read.made = annotated.notes_at c.requires.0
     c.read_notes-notes.ensures c.in-Read.is in
     annotated-notes.inside
 
@@ -48,20 +50,20 @@ pub read_annotated-overflow_sub-tag : goal.read_annotated-overflow_sub-tag
 read_annotated-overflow_sub-tag t c =
     let annotated-notes : let start = c.args in
     annotated.NotesAt start.table.now start.index.now start.s.now start.at start.cells.now start.slot
-    c.read_notes-notes.new.1.1.1.0 c.in-Read.line c.in-Read.made = annotated.notes_at c.requires.0
+    c.read_notes-notes.new.cells c.in-Read.line c.in-Read.made = annotated.notes_at c.requires.0
     c.read_notes-notes.ensures c.in-Read.is in
     let annotated-tabs : Stretch is_tab c.args.s.now c.in-Read.line c.if-made-eq0.tag = let notes = annotated-notes in
-    ⊎_elim
-    (λ w. rw w.1 (annotated.tabs_there notes c.requires.1 w.0.taken))
-    (λ w. rw w.2 w.1.ensures)
-    c.if-made-eq0.branch-raw in
+    elim c.if-made-eq0.branch [
+      | read_annotated-then-made-eq0 w ↦ rw w.tag-is (annotated.tabs_there notes c.requires.1 w.if-made-eq0.true)
+      | read_annotated-else-made-eq0 w ↦ rw w.tag-is w.tab_end-tag.ensures
+    ] in
     annotated-tabs.1
 
 pub read_annotated-after-requires : goal.read_annotated-after-requires
 read_annotated-after-requires t c =
     let annotated-notes : let start = c.args in
     annotated.NotesAt start.table.now start.index.now start.s.now start.at start.cells.now start.slot
-    c.read_notes-notes.new.1.1.1.0 c.in-Read.line c.in-Read.made = annotated.notes_at c.requires.0
+    c.read_notes-notes.new.cells c.in-Read.line c.in-Read.made = annotated.notes_at c.requires.0
     c.read_notes-notes.ensures c.in-Read.is in
     let notes = annotated-notes in omega (arith, notes.few, notes.stands.fits.few)
 
@@ -69,18 +71,18 @@ pub read_annotated-read_concept-concept-requires : goal.read_annotated-read_conc
 read_annotated-read_concept-concept-requires t c =
     let annotated-notes : let start = c.args in
     annotated.NotesAt start.table.now start.index.now start.s.now start.at start.cells.now start.slot
-    c.read_notes-notes.new.1.1.1.0 c.in-Read.line c.in-Read.made = annotated.notes_at c.requires.0
+    c.read_notes-notes.new.cells c.in-Read.line c.in-Read.made = annotated.notes_at c.requires.0
     c.read_notes-notes.ensures c.in-Read.is in
     let annotated-tabs : Stretch is_tab c.args.s.now c.in-Read.line c.if-made-eq0.tag = let notes = annotated-notes in
-    ⊎_elim
-    (λ w. rw w.1 (annotated.tabs_there notes c.requires.1 w.0.taken))
-    (λ w. rw w.2 w.1.ensures)
-    c.if-made-eq0.branch-raw in
+    elim c.if-made-eq0.branch [
+      | read_annotated-then-made-eq0 w ↦ rw w.tag-is (annotated.tabs_there notes c.requires.1 w.if-made-eq0.true)
+      | read_annotated-else-made-eq0 w ↦ rw w.tag-is w.tab_end-tag.ensures
+    ] in
     let tabs = annotated-tabs in
     let notes = annotated-notes in (
       omega (arith, c.decreases, notes.ahead, tabs),
       (
-        annotated.concept_stands notes tabs c.after.ensures c.read_notes-notes.auto.1.1.1.0,
+        annotated.concept_stands notes tabs c.after.ensures c.read_notes-notes.auto.cells,
         names_on c.requires.2 (omega (arith, notes.ahead, tabs.1)),
       ),
     )
@@ -89,13 +91,13 @@ pub read_annotated-returns-in_default-concept : goal.read_annotated-returns-in_d
 read_annotated-returns-in_default-concept t c =
     let annotated-notes : let start = c.args in
     annotated.NotesAt start.table.now start.index.now start.s.now start.at start.cells.now start.slot
-    c.read_notes-notes.new.1.1.1.0 c.in-Read.line c.in-Read.made = annotated.notes_at c.requires.0
+    c.read_notes-notes.new.cells c.in-Read.line c.in-Read.made = annotated.notes_at c.requires.0
     c.read_notes-notes.ensures c.in-Read.is in
     let annotated-tabs : Stretch is_tab c.args.s.now c.in-Read.line c.if-made-eq0.tag = let notes = annotated-notes in
-    ⊎_elim
-    (λ w. rw w.1 (annotated.tabs_there notes c.requires.1 w.0.taken))
-    (λ w. rw w.2 w.1.ensures)
-    c.if-made-eq0.branch-raw in
+    elim c.if-made-eq0.branch [
+      | read_annotated-then-made-eq0 w ↦ rw w.tag-is (annotated.tabs_there notes c.requires.1 w.if-made-eq0.true)
+      | read_annotated-else-made-eq0 w ↦ rw w.tag-is w.tab_end-tag.ensures
+    ] in
     (
       annotated.concept_refused annotated-notes annotated-tabs c.after.ensures _
           c.read_concept-concept.ensures.0 c.in_default-concept.is,
@@ -104,7 +106,7 @@ read_annotated-returns-in_default-concept t c =
 
 annotated-notes : (t : ℕ) (c : goal.read_annotated-In-Read-concept t) → let start = c.args in
     annotated.NotesAt start.table.now start.index.now start.s.now start.at start.cells.now start.slot
-    c.read_notes-notes.new.1.1.1.0 c.in-Read.line c.in-Read.made
+    c.read_notes-notes.new.cells c.in-Read.line c.in-Read.made
 annotated-notes t c =
     annotated.notes_at c.requires.0
     c.read_notes-notes.ensures c.in-Read.is
@@ -112,10 +114,10 @@ annotated-notes t c =
 annotated-tabs : (t : ℕ) (c : goal.read_annotated-In-Read-concept t) → Stretch is_tab c.args.s.now c.in-Read.line c.if-made-eq0.tag
 annotated-tabs t c =
     let notes = (annotated-notes t c) in
-    ⊎_elim
-    (λ w. rw w.1 (annotated.tabs_there notes c.requires.1 w.0.taken))
-    (λ w. rw w.2 w.1.ensures)
-    c.if-made-eq0.branch-raw
+    elim c.if-made-eq0.branch [
+      | read_annotated-then-made-eq0 w ↦ rw w.tag-is (annotated.tabs_there notes c.requires.1 w.if-made-eq0.true)
+      | read_annotated-else-made-eq0 w ↦ rw w.tag-is w.tab_end-tag.ensures
+    ]
 
 pub read_annotated-overflow_add-result : goal.read_annotated-overflow_add-result
 read_annotated-overflow_add-result t c =
@@ -172,9 +174,8 @@ read_block-read_closing-closing-requires t c =
     let block-rest : RestAt c.args.s.now c.args.at
     c.in-Read.start = rest_at _ _ _ _ _ _ c.requires.0.in_sheet.inside c.line_rest-rest.ensures c.in-Read.is in
     let block-body : let start = c.args in
-    let read = c.body-1.given.0 in
     block.BodyAt start.s.now start.at start.cells.now start.slot (modes_of start.table.now) start.nesting.left
-    c.read_children-body.new.1.1.1.1.0 read.0 read.1.0 read.1.1.0 = block.body_at c.requires.0 _ _ block-rest
+    c.read_children-body.new.cells c.in-Read-body.mark c.in-Read-body.made c.in-Read-body.own = block.body_at c.requires.0 _ _ block-rest
     c.read_children-body.ensures.0 c.in-Read-body.is in
     (block-body.inside, c.requires.1, c.requires.2)
 
@@ -183,9 +184,8 @@ read_block-returns-in_default-closing t c =
     let block-rest : RestAt c.args.s.now c.args.at
     c.in-Read.start = rest_at _ _ _ _ _ _ c.requires.0.in_sheet.inside c.line_rest-rest.ensures c.in-Read.is in
     let block-body : let start = c.args in
-    let read = c.body-1.given.0 in
     block.BodyAt start.s.now start.at start.cells.now start.slot (modes_of start.table.now) start.nesting.left
-    c.read_children-body.new.1.1.1.1.0 read.0 read.1.0 read.1.1.0 = block.body_at c.requires.0 _ _ block-rest
+    c.read_children-body.new.cells c.in-Read-body.mark c.in-Read-body.made c.in-Read-body.own = block.body_at c.requires.0 _ _ block-rest
     c.read_children-body.ensures.0 c.in-Read-body.is in
     (
   λ k tabs named. block.closing_refused block-body k named tabs _
@@ -198,9 +198,8 @@ read_block-returns t c =
     let block-rest : RestAt c.args.s.now c.args.at
     c.in-Read.start = rest_at _ _ _ _ _ _ c.requires.0.in_sheet.inside c.line_rest-rest.ensures c.in-Read.is in
     let block-body : let start = c.args in
-    let read = c.body-1.given.0 in
     block.BodyAt start.s.now start.at start.cells.now start.slot (modes_of start.table.now) start.nesting.left
-    c.read_children-body.new.1.1.1.1.0 read.0 read.1.0 read.1.1.0 = block.body_at c.requires.0 _ _ block-rest
+    c.read_children-body.new.cells c.in-Read-body.mark c.in-Read-body.made c.in-Read-body.own = block.body_at c.requires.0 _ _ block-rest
     c.read_children-body.ensures.0 c.in-Read-body.is in
     (
       λ k tabs named. block.block_read block-body k named tabs _ c.read_closing-closing.ensures c.in-Read-closing.is,
@@ -270,8 +269,8 @@ read_children-loop-nesting-preserved t c =
     (
       pieces_on c.loop-nesting.invariant.0 c.tab_end-mark.ensures c.starts_with.ensures c.if-starts_with.false
           c.after.ensures c.read_piece-piece.ensures.0 c.in-Read.is
-          c.read_piece-piece.auto.1.1.1.1.1.0,
-      c.read_piece-piece.auto.1.1.1.1.1.1.1.1.0 ∙ c.loop-nesting.invariant.1,
+          c.read_piece-piece.auto.cells,
+      c.read_piece-piece.auto.names ∙ c.loop-nesting.invariant.1,
       c.read_piece-piece.ensures.1 _ _ _ c.in-Read.is,
     )
 
@@ -289,10 +288,9 @@ read_concept-under-requires t c =
 pub read_concept-after-next-requires : goal.read_concept-after-next-requires
 read_concept-after-next-requires t c =
     let concept-marker : let start = c.args in
-    let read = c.form-1.given.0 in
     MarkerAt start.table.now start.index.now start.s.now start.at start.cells.now start.slot start.nesting.left
-    c.read_opening.new.1.1.1.1.0 read.0 read.1.0 read.1.1.0 read.1.1.1.0 read.1.1.1.1.0
-    read.1.1.1.1.1.0 = record {
+    c.read_opening.new.cells c.in-Opened.form c.in-Opened.to c.in-Opened.end c.in-Opened.made c.in-Opened.own
+    c.in-Opened.inside = record {
       stands = c.requires.0;
       answer = c.read_opening.result;
       opens = c.read_opening.ensures.0;
@@ -306,10 +304,9 @@ read_concept-overflow_add-at t c = omega (arith, c.requires.0.in_sheet.within, c
 pub read_concept-read_inside-body-requires : goal.read_concept-read_inside-body-requires
 read_concept-read_inside-body-requires t c =
     let concept-marker : let start = c.args in
-    let read = c.form-1.given.0 in
     MarkerAt start.table.now start.index.now start.s.now start.at start.cells.now start.slot start.nesting.left
-    c.read_opening.new.1.1.1.1.0 read.0 read.1.0 read.1.1.0 read.1.1.1.0 read.1.1.1.1.0
-    read.1.1.1.1.1.0 = record {
+    c.read_opening.new.cells c.in-Opened.form c.in-Opened.to c.in-Opened.end c.in-Opened.made c.in-Opened.own
+    c.in-Opened.inside = record {
       stands = c.requires.0;
       answer = c.read_opening.result;
       opens = c.read_opening.ensures.0;
@@ -319,7 +316,7 @@ read_concept-read_inside-body-requires t c =
       omega (arith, ahead.2, ahead.3, c.decreases),
       (
         lent_stands concept-marker c.under.ensures c.after-next.ensures
-            c.read_opening.auto.1.1.1.1.0,
+            c.read_opening.auto.cells,
         omega (arith, ahead.0),
         ahead.1,
         c.read_opening.ensures.1 _ _ _ (ap part_of c.in-Opened.is),
@@ -329,18 +326,17 @@ read_concept-read_inside-body-requires t c =
 pub read_concept-end_concept-requires : goal.read_concept-end_concept-requires
 read_concept-end_concept-requires t c =
     let concept-marker : let start = c.args in
-    let read = c.form-1.given.0 in
     MarkerAt start.table.now start.index.now start.s.now start.at start.cells.now start.slot start.nesting.left
-    c.read_opening.new.1.1.1.1.0 read.0 read.1.0 read.1.1.0 read.1.1.1.0 read.1.1.1.1.0
-    read.1.1.1.1.1.0 = record {
+    c.read_opening.new.cells c.in-Opened.form c.in-Opened.to c.in-Opened.end c.in-Opened.made c.in-Opened.own
+    c.in-Opened.inside = record {
       stands = c.requires.0;
       answer = c.read_opening.result;
       opens = c.read_opening.ensures.0;
       told = c.in-Opened.is;
     } in
     may_end concept-marker c.under.ensures c.after-next.ensures _ c.read_inside-body.ensures.0
-    (c.read_inside-body.auto.1.1.1.1.1.1.1.1.0 ∙
-    c.read_opening.auto.1.1.1.1.0)
+    (c.read_inside-body.auto.cells ∙
+    c.read_opening.auto.cells)
 
 pub read_concept-returns-in-Refused : goal.read_concept-returns-in-Refused
 read_concept-returns-in-Refused t c =
@@ -353,10 +349,9 @@ read_concept-returns-in-Refused t c =
 pub read_concept-returns-in-Opened : goal.read_concept-returns-in-Opened
 read_concept-returns-in-Opened t c =
     let concept-marker : let start = c.args in
-    let read = c.form-1.given.0 in
     MarkerAt start.table.now start.index.now start.s.now start.at start.cells.now start.slot start.nesting.left
-    c.read_opening.new.1.1.1.1.0 read.0 read.1.0 read.1.1.0 read.1.1.1.0 read.1.1.1.1.0
-    read.1.1.1.1.1.0 = record {
+    c.read_opening.new.cells c.in-Opened.form c.in-Opened.to c.in-Opened.end c.in-Opened.made c.in-Opened.own
+    c.in-Opened.inside = record {
       stands = c.requires.0;
       answer = c.read_opening.result;
       opens = c.read_opening.ensures.0;
@@ -430,13 +425,14 @@ read_piece-end_line-requires t c =
     let room = start.slot.room - start.slot.next in
     let line = drop start.at start.s.now in
     piece_of (modes_of start.table.now) bounds start.nesting.left room line
-    ≡ annotated_line (annotated_of (modes_of start.table.now) bounds start.nesting.left room line) = ⊎_elim
-    (λ w. tabs_passed c.requires.0 _ w.4.ensures w.5.left _ w.6.ensures w.8.given.1)
-    (λ w.
-    let line : Behind (byte "<") c.args.s.now c.args.at c.args.mark =
-    record { run = c.requires.1; starts = sym c.starts_with.ensures ∙ not-false _ w.left } in
-    mark_piece line _ _ _)
-    c.if-not-starts_with.branch-raw in
+    ≡ annotated_line (annotated_of (modes_of start.table.now) bounds start.nesting.left room line) = elim c.if-not-starts_with.branch [
+      | read_piece-then-not-starts_with+else-starts_with+else-is_blank_line+in-Read w ↦
+          tabs_passed c.requires.0 _ w.is_blank_line.ensures w.if-is_blank_line.false _ w.tabs_only-tabs.ensures w.in-Read.is
+      | read_piece-else-not-starts_with w ↦
+          let line : Behind (byte "<") c.args.s.now c.args.at c.args.mark =
+              record { run = c.requires.1; starts = sym c.starts_with.ensures ∙ w.if-not-starts_with.false } in
+          mark_piece line _ _ _
+    ] in
     ends_in c.requires.0 _ piece_by_lem c.read_annotated-concept.ensures.0
 
 pub read_piece-returns : goal.read_piece-returns
@@ -445,13 +441,14 @@ read_piece-returns t c =
     let room = start.slot.room - start.slot.next in
     let line = drop start.at start.s.now in
     piece_of (modes_of start.table.now) bounds start.nesting.left room line
-    ≡ annotated_line (annotated_of (modes_of start.table.now) bounds start.nesting.left room line) = ⊎_elim
-    (λ w. tabs_passed c.requires.0 _ w.4.ensures w.5.left _ w.6.ensures w.8.given.1)
-    (λ w.
-    let line : Behind (byte "<") c.args.s.now c.args.at c.args.mark =
-    record { run = c.requires.1; starts = sym c.starts_with.ensures ∙ not-false _ w.left } in
-    mark_piece line _ _ _)
-    c.if-not-starts_with.branch-raw in
+    ≡ annotated_line (annotated_of (modes_of start.table.now) bounds start.nesting.left room line) = elim c.if-not-starts_with.branch [
+      | read_piece-then-not-starts_with+else-starts_with+else-is_blank_line+in-Read w ↦
+          tabs_passed c.requires.0 _ w.is_blank_line.ensures w.if-is_blank_line.false _ w.tabs_only-tabs.ensures w.in-Read.is
+      | read_piece-else-not-starts_with w ↦
+          let line : Behind (byte "<") c.args.s.now c.args.at c.args.mark =
+              record { run = c.requires.1; starts = sym c.starts_with.ensures ∙ w.if-not-starts_with.false } in
+          mark_piece line _ _ _
+    ] in
     (
       line_made c.requires.0 _ piece_by_lem c.read_annotated-concept.ensures.0 _ c.end_line.ensures,
       names_line (ends_in c.requires.0 _ piece_by_lem c.read_annotated-concept.ensures.0) c.read_annotated-concept.ensures.1 c.end_line.ensures,
