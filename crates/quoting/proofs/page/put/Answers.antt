@@ -21,14 +21,13 @@ pub bounds-out-at : goal.bounds-out-at
 bounds-out-at c = omega arith
 
 pub loop-i-preserved : goal.loop-i-preserved
-loop-i-preserved c =
-    (
-      omega arith,
-      omega arith,
-      simp length-set (omega arith),
-      stores_more c.loop-i.out c.args.part.now c.args.at c.loop-i.i _ (omega arith) refl
-          ∙ c.loop-i.invariant.3,
-    )
+loop-i-preserved c = (
+  omega arith,
+  omega arith,
+  simp length-set (omega arith),
+  stores_more c.loop-i.out c.args.part.now c.args.at c.loop-i.i _ (omega arith) refl
+      ∙ c.loop-i.invariant.3,
+)
 
 pub overflow_add-result-2 : goal.overflow_add-result-2
 overflow_add-result-2 c = omega arith

@@ -24,14 +24,13 @@ pub bounds-out-at : goal.bounds-out-at
 bounds-out-at c = omega arith
 
 pub loop-i-preserved : goal.loop-i-preserved
-loop-i-preserved c =
-    (
-      omega arith,
-      omega arith,
-      simp length-set (omega arith),
-      stores_more c.loop-i.out (replicate c.args.tabs tab) c.args.at c.loop-i.i tab (simp length-replicate (omega arith))
-          (sym (get_or-replicate c.args.tabs c.loop-i.i tab 0 (omega arith))) ∙ c.loop-i.invariant.3,
-    )
+loop-i-preserved c = (
+  omega arith,
+  omega arith,
+  simp length-set (omega arith),
+  stores_more c.loop-i.out (replicate c.args.tabs tab) c.args.at c.loop-i.i tab (simp length-replicate (omega arith))
+      (sym (get_or-replicate c.args.tabs c.loop-i.i tab 0 (omega arith))) ∙ c.loop-i.invariant.3,
+)
 
 pub overflow_add-result-2 : goal.overflow_add-result-2
 overflow_add-result-2 c = omega arith

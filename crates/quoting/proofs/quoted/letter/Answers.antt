@@ -1,4 +1,5 @@
 -- By the definition's cases. Assumes nothing.
+use native.Mathlib.Omega.{arith}
 use borrow.Author.Tests.{ne_eqb}
 use Rattle.paper.specs.Values.{letter_means}
 use Rattle.quoting.proofs.quoted.letter.Goals as goal
@@ -17,10 +18,8 @@ returns-in-116 c = rw c.in-116.is
 
 pub returns-in_default : goal.returns-in_default
 unfolding letter_means
-returns-in_default c =
-    let rest = c.in_default.in_default-own.rest in rw (
-  ne_eqb c.args.b 110 rest.0.0.1,
-  ne_eqb c.args.b 114 rest.0.1,
-  ne_eqb
-      c.args.b 116 rest.1,
+returns-in_default c = rw (
+  ne_eqb c.args.b 110 (omega arith),
+  ne_eqb c.args.b 114 (omega arith),
+  ne_eqb c.args.b 116 (omega arith),
 )

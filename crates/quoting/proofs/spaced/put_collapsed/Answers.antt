@@ -12,27 +12,25 @@ pub loop-i-smaller-then-is_white : goal.loop-i-smaller-then-is_white
 loop-i-smaller-then-is_white c = omega arith
 
 pub loop-i-preserved-then-is_white : goal.loop-i-preserved-then-is_white
-loop-i-preserved-then-is_white c =
-    (
-      omega arith,
-      λ e. e,
-      λ next. c.loop-i.invariant.2 next ∙ ap (page c.loop-i.out c.loop-i.to)
-          (white_on c.args.w.now c.loop-i.i c.loop-i.begun c.loop-i.gap next c.loop-i-test.true
-          (sym c.is_white.ensures ∙ c.if-is_white.true)),
-    )
+loop-i-preserved-then-is_white c = (
+  omega arith,
+  λ e. e,
+  λ next. c.loop-i.invariant.2 next ∙ ap (page c.loop-i.out c.loop-i.to)
+      (white_on c.args.w.now c.loop-i.i c.loop-i.begun c.loop-i.gap next c.loop-i-test.true
+      (sym c.is_white.ensures ∙ c.if-is_white.true)),
+)
 
 pub loop-i-smaller : goal.loop-i-smaller
 loop-i-smaller c = omega arith
 
 pub loop-i-preserved : goal.loop-i-preserved
-loop-i-preserved c =
-    (
-      omega arith,
-      λ e. refl,
-      λ next. c.loop-i.invariant.2 next ∙ word_on c.args.w.now c.loop-i.i c.loop-i.begun c.loop-i.gap next
-          c.loop-i-test.true (sym c.is_white.ensures ∙ c.if-is_white.false) c.loop-i.invariant.1 c.put_gap-word.ensures
-          c.put_byte-to.ensures,
-    )
+loop-i-preserved c = (
+  omega arith,
+  λ e. refl,
+  λ next. c.loop-i.invariant.2 next ∙ word_on c.args.w.now c.loop-i.i c.loop-i.begun c.loop-i.gap next
+      c.loop-i-test.true (sym c.is_white.ensures ∙ c.if-is_white.false) c.loop-i.invariant.1 c.put_gap-word.ensures
+      c.put_byte-to.ensures,
+)
 
 pub returns : goal.returns
 returns c =

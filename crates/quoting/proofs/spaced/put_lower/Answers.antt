@@ -24,13 +24,12 @@ pub bounds-out-at : goal.bounds-out-at
 bounds-out-at c = omega arith
 
 pub loop-i-preserved : goal.loop-i-preserved
-loop-i-preserved c =
-    (
-      omega arith,
-      omega arith,
-      simp length-set (omega arith),
-      lower_more c.args.w.now c.loop-i.out c.args.at c.loop-i.i _ (omega arith) c.lower.ensures ∙ c.loop-i.invariant.3,
-    )
+loop-i-preserved c = (
+  omega arith,
+  omega arith,
+  simp length-set (omega arith),
+  lower_more c.args.w.now c.loop-i.out c.args.at c.loop-i.i _ (omega arith) c.lower.ensures ∙ c.loop-i.invariant.3,
+)
 
 pub overflow_add-result-2 : goal.overflow_add-result-2
 overflow_add-result-2 c = omega arith
