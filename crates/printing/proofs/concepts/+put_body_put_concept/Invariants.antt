@@ -1,5 +1,5 @@
--- Concepts and bodies call each other: a Concept that may still be opened falls with each. The loop over siblings has the invariant that what is left
--- of the body stands from entry `next` on, and counts down its elements. Assumes nothing.
+-- Concepts and bodies call each other: a Concept that may still be opened falls with each.
+-- The loop over siblings has the invariant that what is left of the body stands from entry `next` on, and counts down its elements. Assumes nothing.
 use Prim.Native.Nat.{ℕ, ◌+◌, ◌*◌}
 use mathlib.Core.Path.{◌≡◌}
 use lib.ListN.{length}

@@ -21,9 +21,9 @@ pub loop-i-preserved : goal.loop-i-preserved
 loop-i-preserved c = (
   elim c.if-one-eq-TRAIT.branch [ then-one-eq-TRAIT w ↦ omega arith | else-one-eq-TRAIT w ↦ omega arith ],
   λ es s e. elim c.if-one-eq-TRAIT.branch [
-    then-one-eq-TRAIT w ↦ rw w.count-is (trait_on _ _ es _ _ (c.loop-i.invariant.1 es s e) c.loop-i-test.true
+    | then-one-eq-TRAIT w ↦ rw w.count-is (trait_on _ _ es _ _ (c.loop-i.invariant.1 es s e) c.loop-i-test.true
         (sym (ap (λ (x : Entry). x.kind) c.get-one.ensures) ∙ w.if-one-eq-TRAIT.true))
-  | else-one-eq-TRAIT w ↦ rw w.count-is (other_on _ _ es _ _ (c.loop-i.invariant.1 es s e) c.loop-i-test.true
+    | else-one-eq-TRAIT w ↦ rw w.count-is (other_on _ _ es _ _ (c.loop-i.invariant.1 es s e) c.loop-i-test.true
         (λ k. w.if-one-eq-TRAIT.false (ap (λ (x : Entry). x.kind) c.get-one.ensures ∙ k)))
   ],
 )

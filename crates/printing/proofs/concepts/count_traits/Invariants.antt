@@ -9,7 +9,8 @@ use Rattle.printing.proofs.ConceptLaws.{TraitsLeft}
 use Rattle.printing.proofs.concepts.count_traits.Given as goal
 
 abbrev pub invariant-loop-i : goal.invariant-loop-i
-invariant-loop-i l = (l.count ≤ l.i) × ((es : List Entry) → Stand l.cells l.from es → l.to ≡ l.from + length es → TraitsLeft l.cells l.to es l.i l.count)
+invariant-loop-i l = (l.count ≤ l.i) ×
+    ((es : List Entry) → Stand l.cells l.from es → l.to ≡ l.from + length es → TraitsLeft l.cells l.to es l.i l.count)
 
 abbrev pub decreases-loop-i : goal.decreases-loop-i
 decreases-loop-i l = l.to - l.i

@@ -10,7 +10,8 @@ pub returns-then-s-end-ne10 : goal.returns-then-s-end-ne10
 returns-then-s-end-ne10 c = λ h. absurd (omega arith)
 
 pub returns-then-end-at : goal.returns-then-end-at
-returns-then-end-at c = λ h. empty_line _ _ _ _ c.tab_end-mark.ensures c.text_end-end.ensures (omega arith) c.if-s-end-ne10.false c.if-end-at.true
+returns-then-end-at c =
+    λ h. empty_line _ _ _ _ c.tab_end-mark.ensures c.text_end-end.ensures (omega arith) c.if-s-end-ne10.false c.if-end-at.true
 
 pub returns-then-mark-end : goal.returns-then-mark-end
 returns-then-mark-end c = λ h. absurd (omega arith)
@@ -19,4 +20,5 @@ pub returns-then-s-mark-eq32 : goal.returns-then-s-mark-eq32
 returns-then-s-mark-eq32 c = λ h. absurd (omega arith)
 
 pub returns : goal.returns
-returns c = λ h. ink_line _ _ _ _ c.tab_end-mark.ensures c.text_end-end.ensures (omega arith) c.if-s-end-ne10.false (omega arith) c.if-s-mark-eq32.false
+returns c =
+    λ h. ink_line _ _ _ _ c.tab_end-mark.ensures c.text_end-end.ensures (omega arith) c.if-s-end-ne10.false (omega arith) c.if-s-mark-eq32.false

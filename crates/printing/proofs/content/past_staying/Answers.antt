@@ -18,4 +18,5 @@ pub loop-i-smaller : goal.loop-i-smaller
 loop-i-smaller c = let further = (c.past_line-next.ensures c.if-next-i.false).inside in omega arith
 
 pub loop-i-preserved : goal.loop-i-preserved
-loop-i-preserved c = stay_on _ _ _ _ _ _ c.loop-i.invariant c.if-next-i.false (c.past_line-next.ensures c.if-next-i.false) c.if-cut-tabs.false
+loop-i-preserved c =
+    stay_on _ _ _ _ _ _ c.loop-i.invariant c.if-next-i.false (c.past_line-next.ensures c.if-next-i.false) c.if-cut-tabs.false

@@ -18,18 +18,15 @@ loop-i-smaller c =
     (omega (arith, k)) in omega arith
 
 pub loop-i-preserved : goal.loop-i-preserved
-loop-i-preserved c =
-    (
-      omega arith,
-      items_step c.args.cells.now c.args.n c.loop-i.i (sym c.kind_of.ensures ∙ c.loop-i-test.true)
-          c.loop-i.invariant.1,
-    )
+loop-i-preserved c = (
+  omega arith,
+  items_step c.args.cells.now c.args.n c.loop-i.i (sym c.kind_of.ensures ∙ c.loop-i-test.true)
+      c.loop-i.invariant.1,
+)
 
 pub returns : goal.returns
-returns c =
-    record {
+returns c = record {
   on = c.loop-i.invariant.0;
-  stops = λ q. c.loop-i-test.false
-      (c.kind_of.ensures ∙ q);
+  stops = λ q. c.loop-i-test.false (c.kind_of.ensures ∙ q);
   items = c.loop-i.invariant.1;
 }

@@ -24,8 +24,8 @@ returns c = (
       (entry_of c.get-own.result) c.get-own.ensures _ c.part-name.ensures
       c.has_three-below.result c.put_traits-traits.result.slash _ c.if-closed.put_break c.has_three-below.ensures refl
       (elim c.if-closed.branch [
-        then-closed w ↦ either_first _ w.put_break-is (w.put_break-is ∙ ap (λ (x : ℕ). eqb x 1) w.if-closed.true)
-      | else-closed w ↦ either_second refl (ne_eqb c.get-own.result.form 1 w.if-closed.false) w.put_break-is
+        | then-closed w ↦ either_first _ w.put_break-is (w.put_break-is ∙ ap (λ (x : ℕ). eqb x 1) w.if-closed.true)
+        | else-closed w ↦ either_second refl (ne_eqb c.get-own.result.form 1 w.if-closed.false) w.put_break-is
       ])
       c.put_traits-traits.result.next c.put-head.ensures c.put_traits-traits.ensures.1 c.put_break-end.ensures
       c.put_end.ensures parent place tabs k o r f,

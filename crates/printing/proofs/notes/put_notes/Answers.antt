@@ -17,12 +17,11 @@ pub loop-note-init : goal.loop-note-init
 loop-note-init c = (refl, omega arith, λ parent place notes of none. notes_all _ _ _ _ _ _ parent place notes of)
 
 pub returns-then-note-ne-ANNOTATION : goal.returns-then-note-ne-ANNOTATION
-returns-then-note-ne-ANNOTATION c =
-    (
-      c.loop-note.invariant.1,
-      λ parent place notes of none. notes_over _ _ _ _ _ _ notes (c.loop-note.invariant.2 parent place notes of none)
-          (λ k. c.if-note-ne-ANNOTATION.true (ap (λ (e : Entry). e.kind) c.get-note.ensures ∙ k)),
-    )
+returns-then-note-ne-ANNOTATION c = (
+  c.loop-note.invariant.1,
+  λ parent place notes of none. notes_over _ _ _ _ _ _ notes (c.loop-note.invariant.2 parent place notes of none)
+      (λ k. c.if-note-ne-ANNOTATION.true (ap (λ (e : Entry). e.kind) c.get-note.ensures ∙ k)),
+)
 
 pub overflow_add-next : goal.overflow_add-next
 overflow_add-next c =
@@ -35,11 +34,11 @@ loop-note-smaller c =
     c.if-note-ne-ANNOTATION.false in omega arith
 
 pub loop-note-preserved : goal.loop-note-preserved
-loop-note-preserved c =
-    (
-      omega arith,
-      omega (arith, c.loop-note.invariant.1),
-      λ parent place notes of none. notes_on _ _ _ _ _ _ notes
-          (c.loop-note.invariant.2 parent place notes of none) none (sym (ap (λ (e : Entry). e.kind) c.get-note.ensures) ∙ c.if-note-ne-ANNOTATION.false)
-          (entry_of c.get-note.result) c.get-note.ensures _ c.spelling_of.ensures c.put_note-to.ensures,
-    )
+loop-note-preserved c = (
+  omega arith,
+  omega (arith, c.loop-note.invariant.1),
+  λ parent place notes of none. notes_on _ _ _ _ _ _ notes
+      (c.loop-note.invariant.2 parent place notes of none) none
+      (sym (ap (λ (e : Entry). e.kind) c.get-note.ensures) ∙ c.if-note-ne-ANNOTATION.false)
+      (entry_of c.get-note.result) c.get-note.ensures _ c.spelling_of.ensures c.put_note-to.ensures,
+)

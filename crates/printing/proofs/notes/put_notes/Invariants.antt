@@ -11,7 +11,8 @@ use Rattle.printing.proofs.notes.put_notes.Given as goal
 
 abbrev pub invariant-loop-note : goal.invariant-loop-note
 invariant-loop-note l = (length l.out ≡ length l.initial.out) × (l.n ≤ l.next) ×
-    ((parent place : ℕ) (notes : List Annotation) → OfNotes l.s l.cells l.n parent place notes → (kind_at l.cells (l.n + length notes) ≡ 4 → ⊥)
+    ((parent place : ℕ) (notes : List Annotation) → OfNotes l.s l.cells l.n parent place notes
+    → (kind_at l.cells (l.n + length notes) ≡ 4 → ⊥)
     → NotesLeft l.s l.cells l.depth (l.n + length notes) l.initial.out l.at notes l.next l.out l.to)
 
 abbrev pub decreases-loop-note : goal.decreases-loop-note
