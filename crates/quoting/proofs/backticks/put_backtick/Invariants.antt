@@ -1,4 +1,5 @@
--- The invariant: what is left to put is what the pieces that are left stand for, collapsed. The measure is what is left of the spelling. Assumes nothing.
+-- The invariant: what is left to put is what the pieces that are left stand for, collapsed.
+-- The measure is what is left of the spelling. Assumes nothing.
 use Prim.Native.Nat.{◌-◌}
 use mathlib.Core.List.{List, []}
 use mathlib.Core.Bool.{true, false}
@@ -11,7 +12,8 @@ use Rattle.quoting.proofs.backticks.put_backtick.Given as goal
 
 abbrev pub invariant-loop-i : goal.invariant-loop-i
 invariant-loop-i l = (length l.out ≡ length l.initial.out) × Behind l.begun l.gap ×
-    ((ps : List Piece) → l.w ≡ pieces_onto ps [] → backtick_rule false ps ≡ true → Ticks l.w l.initial.out l.at ps l.i l.begun l.gap l.out l.to)
+    ((ps : List Piece) → l.w ≡ pieces_onto ps [] → backtick_rule false ps ≡ true
+    → Ticks l.w l.initial.out l.at ps l.i l.begun l.gap l.out l.to)
 
 abbrev pub decreases-loop-i : goal.decreases-loop-i
 decreases-loop-i l = length l.w - l.i

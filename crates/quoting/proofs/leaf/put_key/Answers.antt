@@ -6,11 +6,14 @@ use Rattle.quoting.proofs.leaf.put_key.Goals as goal
 
 pub returns-then-starts_with : goal.returns-then-starts_with
 unfolding elem
-returns-then-starts_with c = quoted_key c.args.w.now (byte "\"") refl (sym c.starts_with.ensures ∙ c.if-starts_with.true) c.put_quoted.ensures
+returns-then-starts_with c =
+    quoted_key c.args.w.now (byte "\"") refl (sym c.starts_with.ensures ∙ c.if-starts_with.true) c.put_quoted.ensures
 
 pub returns-then-starts_with-2 : goal.returns-then-starts_with-2
 unfolding elem
-returns-then-starts_with-2 c = quoted_key c.args.w.now (byte "'") refl (sym c.starts_with-2.ensures ∙ c.if-starts_with-2.true) c.put_quoted-then-starts_with-2.ensures
+returns-then-starts_with-2 c =
+    quoted_key c.args.w.now (byte "'") refl (sym c.starts_with-2.ensures ∙ c.if-starts_with-2.true)
+    c.put_quoted-then-starts_with-2.ensures
 
 pub returns : goal.returns
 returns c =

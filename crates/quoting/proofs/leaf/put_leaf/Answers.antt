@@ -7,7 +7,8 @@ pub returns-then-form-eq-STRING : goal.returns-then-form-eq-STRING
 returns-then-form-eq-STRING c = λ also v e q r. c.put_string.ensures also v e (sym c.if-form-eq-STRING.true ∙ q) r
 
 pub returns-then-form-eq-CHARACTER : goal.returns-then-form-eq-CHARACTER
-returns-then-form-eq-CHARACTER c = λ also v e q r. character_there also c.args.w.now c.put_quoted.ensures v e (sym c.if-form-eq-CHARACTER.true ∙ q) r
+returns-then-form-eq-CHARACTER c =
+    λ also v e q r. character_there also c.args.w.now c.put_quoted.ensures v e (sym c.if-form-eq-CHARACTER.true ∙ q) r
 
 pub returns-then-form-eq-UUID : goal.returns-then-form-eq-UUID
 returns-then-form-eq-UUID c = λ also v e q r. uuid_there also c.args.w.now c.put_lower.ensures v e (sym c.if-form-eq-UUID.true ∙ q)

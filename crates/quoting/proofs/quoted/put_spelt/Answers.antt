@@ -9,7 +9,9 @@ use Rattle.quoting.proofs.Spelling.{digits_put}
 use Rattle.quoting.proofs.quoted.put_spelt.Goals as goal
 
 pub slice_bounds-hex_value-end : goal.slice_bounds-hex_value-end
-slice_bounds-hex_value-end c = let n = length_in_lem is_hex (drop c.args.at c.args.w.now) in let d = length-drop c.args.at c.args.w.now in omega arith
+slice_bounds-hex_value-end c =
+    let n = length_in_lem is_hex (drop c.args.at c.args.w.now) in
+    let d = length-drop c.args.at c.args.w.now in omega arith
 
 pub hex_value-value-requires : goal.hex_value-value-requires
 hex_value-value-requires c = few_digits _ (c.digits_end-end.result - c.args.at) (omega arith) (omega arith)

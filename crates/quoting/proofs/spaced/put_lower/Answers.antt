@@ -12,7 +12,8 @@ pub returns-then-out-at : goal.returns-then-out-at
 returns-then-out-at c = no_room c.args.out.now c.args.at _ (map lower c.args.w.now) (omega arith) (omega arith)
 
 pub returns-then-out-at-2 : goal.returns-then-out-at-2
-returns-then-out-at-2 c = no_room c.args.out.now c.args.at _ (map lower c.args.w.now) (omega (arith, length-map c.args.w.now lower)) (omega arith)
+returns-then-out-at-2 c =
+    no_room c.args.out.now c.args.at _ (map lower c.args.w.now) (omega (arith, length-map c.args.w.now lower)) (omega arith)
 
 pub loop-i-init : goal.loop-i-init
 loop-i-init c = (omega arith, omega arith, refl, rw add-zero refl)
