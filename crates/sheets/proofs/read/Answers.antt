@@ -20,10 +20,10 @@ returns-in_default c =
 pub read_under-answer-requires : goal.read_under-answer-requires
 read_under-answer-requires c = c.read_into-modes.ensures.indexed _ _ c.in-Accepted.is
 
-fits : (c : goal.After-count) → c.count.result * entry_cells ≤ length c.read_under-answer.new.1.1.0
+fits : (c : goal.After-count) → c.count.result * entry_cells ≤ length c.read_under-answer.new.cells
 fits c =
     count_fits c.args.table.now c.args.sheet.now c.args.cells.now c.read_under-answer.result _ c.count.result
-    c.read_under-answer.ensures c.read_under-answer.auto.1.1.0 c.count.ensures
+    c.read_under-answer.ensures c.read_under-answer.auto.cells c.count.ensures
 
 pub overflow_mul-count : goal.overflow_mul-count
 overflow_mul-count c = omega (arith, (fits c))
@@ -34,6 +34,6 @@ zero_from-requires-2 c = (fits c)
 pub returns : goal.returns
 returns c =
     sheet_done c.args.table.now c.args.sheet.now c.args.cells.now c.read_under-answer.result _ c.count.result
-    c.read_under-answer.ensures c.read_under-answer.auto.1.1.0 c.count.ensures _
+    c.read_under-answer.ensures c.read_under-answer.auto.cells c.count.ensures _
     (c.read_into-modes.ensures.indexed _ _ c.in-Accepted.is).valid
     c.zero_from-2.ensures

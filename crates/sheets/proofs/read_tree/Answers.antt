@@ -48,7 +48,7 @@ read_rest-rest-requires c =
     let reads : let start =
     c.args in
     RootAt (modes_of start.table.now) start.s.now start.cells.now c.in-Read-root.end c.in-Read-root.made
-    c.in-Read-root.own c.read_root-root.new.1.1.1.1.0 = root_read _ _ _ _ leads _ _ c.new.ensures
+    c.in-Read-root.own c.read_root-root.new.cells = root_read _ _ _ _ leads _ _ c.new.ensures
     c.room.ensures _ _ c.read_root-root.ensures _ _ _ c.in-Read-root.is in
     reads.inside
 
@@ -62,7 +62,7 @@ returns-in_default-rest c =
     let reads : let start =
     c.args in
     RootAt (modes_of start.table.now) start.s.now start.cells.now c.in-Read-root.end c.in-Read-root.made
-    c.in-Read-root.own c.read_root-root.new.1.1.1.1.0 = root_read _ _ _ _ leads _ _ c.new.ensures
+    c.in-Read-root.own c.read_root-root.new.cells = root_read _ _ _ _ leads _ _ c.new.ensures
     c.room.ensures _ _ c.read_root-root.ensures _ _ _ c.in-Read-root.is in
     rest_refused _ _ _ _ _ _ _ reads _ c.read_rest-rest.ensures _ _ c.in_default-rest.is
 
@@ -76,6 +76,6 @@ returns c =
     let reads : let start =
     c.args in
     RootAt (modes_of start.table.now) start.s.now start.cells.now c.in-Read-root.end c.in-Read-root.made
-    c.in-Read-root.own c.read_root-root.new.1.1.1.1.0 = root_read _ _ _ _ leads _ _ c.new.ensures
+    c.in-Read-root.own c.read_root-root.new.cells = root_read _ _ _ _ leads _ _ c.new.ensures
     c.room.ensures _ _ c.read_root-root.ensures _ _ _ c.in-Read-root.is in
     tree_read _ _ _ _ _ _ _ reads _ c.read_rest-rest.ensures _ _ _ c.in-Read-rest.is

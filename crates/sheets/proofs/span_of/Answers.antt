@@ -1,14 +1,17 @@
 -- A law for each way out: a test of the entry fails, or none does.
-use mathlib.Core.Logic.{⊎_elim, inl, inr}
-use borrow.Author.Tests.{ltb-true, ltb-false}
-use borrow.Author.Rules.{rules}
+use mathlib.Core.Logic.{inl, inr}
 use Rattle.sheets.proofs.Views.{span_off, span_part}
+use Rattle.sheets.proofs.span_of.Goals.{then-laid-eq0-via-then-laid-eq0, then-laid-eq0-via-else-laid-eq0+then-end-start, then-laid-eq0-via-else-laid-eq0+else-end-start+then-sheet-end}
 use Rattle.sheets.proofs.span_of.Goals as goal
 
 pub returns-then-laid-eq0 : goal.returns-then-laid-eq0
 returns-then-laid-eq0 c =
     span_off _ _ _ _ c.get-laid.ensures
-    (⊎_elim (λ w. inl w.taken) (⊎_elim (λ w. inr (inl (ltb-true _ _ w.1.taken))) (λ w. inr (inr (ltb-true _ _ w.2.taken)))) c.then-laid-eq0.branch-raw)
+    (elim c.then-laid-eq0.branch [
+      | then-laid-eq0-via-then-laid-eq0 w ↦ inl w.if-laid-eq0.true
+      | then-laid-eq0-via-else-laid-eq0+then-end-start w ↦ inr (inl w.if-end-start.true)
+      | then-laid-eq0-via-else-laid-eq0+else-end-start+then-sheet-end w ↦ inr (inr w.if-sheet-end.true)
+    ])
 
 pub returns : goal.returns
 returns c =

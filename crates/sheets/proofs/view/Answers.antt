@@ -1,7 +1,6 @@
 -- By the span: its part, or none.
 use mathlib.Core.Path.{◌≡◌, sym, ◌∙◌}
 use native.Mathlib.Omega.{arith}
-use borrow.Author.Rules.{rules}
 use Rattle.sheets.specs.Sheets.{span_of}
 use Rattle.sheets.specs.declared.Span.TheVariants.{Part}
 use Rattle.sheets.proofs.Views.{part_inside, view_part, view_none}

@@ -1,6 +1,5 @@
 -- By the span: the length of its part, or 17.
 use mathlib.Core.Path.{sym, ◌∙◌}
-use borrow.Author.Rules.{rules}
 use Rattle.sheets.proofs.Views.{part_inside, answer_part, answer_none}
 use Rattle.sheets.proofs.view_answer.Goals as goal
 

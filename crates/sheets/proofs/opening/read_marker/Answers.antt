@@ -9,7 +9,6 @@ use Rattle.sheets.specs.Opening.{part_of}
 use Rattle.sheets.proofs.NameIndex.{names_on}
 use Rattle.sheets.proofs.TraitRuns.{refused_names}
 use Rattle.sheets.proofs.OpeningLaws.{traits_inside, no_room, traits_refused, TraitsAt, marker_traits, ending_refused, marker_read, marker_names}
-use borrow.Author.Rules.{rules}
 use Rattle.sheets.proofs.opening.read_marker.Goals as goal
 
 pub returns-then-is_full : goal.returns-then-is_full
@@ -47,7 +46,7 @@ returns-in-Refused-read_ending c =
     let traits : let start =
     c.args in
     TraitsAt start.s.now start.start start.to start.cells.now start.slot
-    c.read_traits.new.1.1.0 c.white_end.result
+    c.read_traits.new.cells c.white_end.result
     c.in-Read.made c.in-Read.own = marker_traits c.requires.0 c.requires.2 c.requires.1 c.args.block c.is_full.ensures c.if-is_full.false
     c.under.ensures c.read_traits.ensures.0 c.in-Read.is
     c.white_end.ensures in
@@ -61,11 +60,11 @@ returns-in-Closed c =
     let traits : let start =
     c.args in
     TraitsAt start.s.now start.start start.to start.cells.now start.slot
-    c.read_traits.new.1.1.0 c.white_end.result
+    c.read_traits.new.cells c.white_end.result
     c.in-Read.made c.in-Read.own = marker_traits c.requires.0 c.requires.2 c.requires.1 c.args.block c.is_full.ensures c.if-is_full.false
     c.under.ensures c.read_traits.ensures.0 c.in-Read.is
     c.white_end.ensures in
-    let lies : NamesBefore c.args.s.now (c.white_end.result + 1) c.read_traits.new.1.1.1.1.0 = names_on (c.read_traits.ensures.1 _ _ _ c.in-Read.is) (omega (arith, c.white_end.ensures.1)) in
+    let lies : NamesBefore c.args.s.now (c.white_end.result + 1) c.read_traits.new.names = names_on (c.read_traits.ensures.1 _ _ _ c.in-Read.is) (omega (arith, c.white_end.ensures.1)) in
     let ends = c.read_ending.ensures in
     let is = c.in-Closed.is in
     (marker_read traits _ _ ends self is refl refl, marker_names lies traits.inside _ ends self is refl)
@@ -75,11 +74,11 @@ returns-in-Block c =
     let traits : let start =
     c.args in
     TraitsAt start.s.now start.start start.to start.cells.now start.slot
-    c.read_traits.new.1.1.0 c.white_end.result
+    c.read_traits.new.cells c.white_end.result
     c.in-Read.made c.in-Read.own = marker_traits c.requires.0 c.requires.2 c.requires.1 c.args.block c.is_full.ensures c.if-is_full.false
     c.under.ensures c.read_traits.ensures.0 c.in-Read.is
     c.white_end.ensures in
-    let lies : NamesBefore c.args.s.now (c.white_end.result + 1) c.read_traits.new.1.1.1.1.0 = names_on (c.read_traits.ensures.1 _ _ _ c.in-Read.is) (omega (arith, c.white_end.ensures.1)) in
+    let lies : NamesBefore c.args.s.now (c.white_end.result + 1) c.read_traits.new.names = names_on (c.read_traits.ensures.1 _ _ _ c.in-Read.is) (omega (arith, c.white_end.ensures.1)) in
     let ends = c.read_ending.ensures in
     let is = c.in-Block.is in
     (marker_read traits _ _ ends block is refl refl, marker_names lies traits.inside _ ends block is refl)

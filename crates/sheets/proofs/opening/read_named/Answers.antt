@@ -1,13 +1,12 @@
 -- A law for each way out: the nesting, the table, and what follows a name that is admitted.
 use Prim.Native.Nat.{suc}
 use mathlib.Core.Path.{◌≡◌, sym, ap, ◌∙◌}
-use mathlib.Core.Logic.{⊎_elim}
 use native.Mathlib.Omega.{arith}
 use Rattle.text.proofs.Deepening.{one_less, no_less}
 use Rattle.sheets.specs.Opening.{part_of}
 use Rattle.sheets.proofs.TraitRuns.{refused_names}
 use Rattle.sheets.proofs.OpeningLaws.{in_children, in_content, too_deep, unlisted, listed}
-use borrow.Author.Rules.{rules}
+use Rattle.sheets.proofs.opening.read_named.Goals.{in-Children, in-Content}
 use Rattle.sheets.proofs.opening.read_named.Goals as goal
 
 pub returns-in_default : goal.returns-in_default
@@ -35,8 +34,10 @@ returns c =
     let fewer : c.args.nesting.left ≡ suc c.in-Inside.inside.left = one_less _ _ c.step.ensures _ c.in-Inside.is in
     (
       listed _ c.requires.1 c.requires.2 c.requires.3 _ fewer
-          (⊎_elim (λ w. in_children _ _ (sym w.1.given.1 ∙ c.mode_of.ensures) w.2)
-          (λ w. in_content _ _ (sym w.1.given.1 ∙ c.mode_of.ensures) w.2) c.match-mode_of.branch-raw)
+          (elim c.match-mode_of.branch [
+            | in-Children w ↦ in_children _ _ (sym w.in-Children.is ∙ c.mode_of.ensures) w.block-is
+            | in-Content w ↦ in_content _ _ (sym w.in-Content.is ∙ c.mode_of.ensures) w.block-is
+          ])
           c.read_marker.ensures.0,
       c.read_marker.ensures.1,
     )

@@ -2,7 +2,6 @@
 use mathlib.Core.Path.{refl}
 use Rattle.sheets.proofs.TraitRuns.{refused_names}
 use Rattle.sheets.proofs.OpeningLaws.{name_ends, head_refused, head_read}
-use borrow.Author.Rules.{rules}
 use Rattle.sheets.proofs.opening.read_opening.Goals as goal
 
 pub read_head-requires : goal.read_head-requires

@@ -2,7 +2,6 @@
 use Prim.Native.Nat.{◌+◌}
 use mathlib.Core.Path.{refl}
 use native.Mathlib.Omega.{arith}
-use borrow.Author.Rules.{rules}
 use Rattle.lines.proofs.Crossing.{room_left}
 use Rattle.sheets.proofs.TraitLaws.{ValueAt, value_at, trait_refused, trait_full, items_stand, Far, far_end, items_full, trait_made}
 use Rattle.sheets.proofs.traits.enter_trait.Goals as goal
@@ -39,28 +38,19 @@ pub overflow_cast-own : goal.overflow_cast-own
 overflow_cast-own c = omega (arith, (far c))
 
 pub overflow_cast-from : goal.overflow_cast-from
-overflow_cast-from c =
-    let top =
-    c in omega
-    (arith, top.pre.0.within, top.pre.0.inside, top.pre.2)
+overflow_cast-from c = omega (arith, c.requires.0.within, c.requires.0.inside, c.requires.2)
 
 pub overflow_cast-to : goal.overflow_cast-to
-overflow_cast-to c =
-    let top =
-    c in omega
-    (arith, top.pre.0.within, top.pre.0.inside)
+overflow_cast-to c = omega (arith, c.requires.0.within, c.requires.0.inside)
 
 pub overflow_cast-at : goal.overflow_cast-at
-overflow_cast-at c =
-    let top =
-    c in omega
-    (arith, top.pre.0.within, top.pre.0.inside)
+overflow_cast-at c = omega (arith, c.requires.0.within, c.requires.0.inside)
 
 pub overflow_cast-end : goal.overflow_cast-end
 overflow_cast-end c = omega (arith, (far c))
 
 pub put-requires : goal.put-requires
-put-requires c = omega (arith, c.enter_whole.auto.1.1.1.0, room_left _ _ _ c.requires.1 c.is_full.ensures c.if-is_full.false)
+put-requires c = omega (arith, c.enter_whole.auto.cells, room_left _ _ _ c.requires.1 c.is_full.ensures c.if-is_full.false)
 
 pub overflow_add-result : goal.overflow_add-result
 overflow_add-result c =

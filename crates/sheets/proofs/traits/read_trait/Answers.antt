@@ -11,7 +11,6 @@ use Rattle.earlier.proofs.Ways.{cell_in}
 use Rattle.earlier.proofs.Listing.{listed_again}
 use Rattle.sheets.proofs.TraitLaws.{behind_equals, no_name, name_twice, no_equals, trait_entered}
 use Rattle.sheets.proofs.TraitNames.{may_seek, still_before, refused_named, new_named}
-use borrow.Author.Rules.{rules}
 use Rattle.sheets.proofs.traits.read_trait.Goals as goal
 
 pub run_at-run-requires : goal.run_at-run-requires

@@ -1,10 +1,9 @@
-use Prim.Native.Nat.{◌+◌, ◌-◌, ◌≤◌, ◌<◌}
+use Prim.Native.Nat.{◌+◌, ◌≤◌, ◌<◌}
 use mathlib.Core.Path.{refl, sym, ◌∙◌}
 use native.Mathlib.Omega.{arith}
 use lib.ListN.{length}
-use borrow.Author.Rules.{rules}
 use Rattle.entries.proofs.Slots.{fits_after}
-use Rattle.sheets.proofs.TraitRuns.{SoFar, traits_begin, Begins, cell_left, lies_there, over_names, refused_names}
+use Rattle.sheets.proofs.TraitRuns.{traits_begin, Begins, cell_left, lies_there, over_names, refused_names}
 use Rattle.sheets.proofs.TraitRuns.{traits_cut, traits_over, traits_due, traits_refused, trait_ahead, traits_on}
 use Rattle.sheets.proofs.traits.read_traits.Goals as goal
 
@@ -110,4 +109,4 @@ loop-slot-preserved c =
     } in
     traits_on c.loop-slot.invariant c.white_end-mark.ensures begins c.after.ensures c.read_trait-one.ensures
     c.in-Read.is
-    c.read_trait-one.auto.1.1.1.0 c.read_trait-one.auto.1.1.1.1.1.0
+    c.read_trait-one.auto.cells c.read_trait-one.auto.names
