@@ -12,11 +12,12 @@
 #   fail WORD..             the same, and the end, with status 2
 #   is_old FILE OTHER..     whether a file is missing, or older than one of the others or what lies in them
 #   need TOOL WHY           goes on only where the program can be built with this tool
-#   prove LOG VERB NAME     has rt prove a crate, and tells on standard error how far it is; rt's words go to LOG
+#   prove LOG VERB NAME     has rt prove and build a crate, and tells on standard error how far it is; rt's words go to LOG
+#   take NAME FILE TO       puts what rt has built of a crate in its place
 
 # The folder of the kit's tools.
 toolchain() {
-    printf '%s/../on/%s/toolchain' "$(dirname "$(readlink -f "$(command -v rt)")")" "$(uname -m)"
+    printf '%s/../toolchain' "$(dirname "$(readlink -f "$(command -v rt)")")"
 }
 
 # The machine is asked of bash, not of uname, which would cost every call of ./cdx a process.
@@ -35,8 +36,9 @@ aarch64*)
     ;;
 esac
 
+# What rt makes, in a folder `out` of each crate, is no source.
 is_old() {
-    [ ! -f "$1" ] || [ -n "$(find "${@:2}" -newer "$1" -print -quit)" ]
+    [ ! -f "$1" ] || [ -n "$(find "${@:2}" -name out -prune -o -newer "$1" -print -quit)" ]
 }
 
 say() {
@@ -73,27 +75,48 @@ count_crates() { # NAME
         END { print count }'
 }
 
-# Passes on which crates rt proves, `rt: NAME proved (S s)`, with how many are left. Those that did not change are only counted.
-pass_on() { # COUNT
-    local left=$1 line
+# Passes on which crates rt proves, up to the last, with how many are left at most: of those that did not change rt says nothing.
+pass_on() { # COUNT LAST
+    local left=$1 begin=$SECONDS name='' line
     while IFS= read -r line; do
-        [[ $line == 'rt: '*' proved ('* ]] || continue
-        left=$((left - 1))
-        [[ $line == *'(unchanged'* ]] || printf '%s, %s left\n' "$line" "$left" >&2 || true
+        case $line in
+        'crate '*': modules '*)
+            name=${line#crate }
+            name=${name%%:*}
+            ;;
+        'logic=proved '*)
+            left=$((left - 1))
+            [ "$name" != "$2" ] || left=0
+            printf '%s is proved, in %s seconds; at most %s left\n' "$name" $((SECONDS - begin)) "$left" >&2 || true
+            begin=$SECONDS
+            ;;
+        esac
     done
 }
 
+# The folders `out` are made first, since a crate's own folder would look changed when rt makes one for another program.
 prove() {
-    rt "$2" "$3" 2>&1 </dev/null | tee "$1" | pass_on "$(count_crates "$3")"
+    local crate
+    for crate in crates/*/; do
+        mkdir -p "$crate"out
+    done
+    (cd "crates/$3" && rt "$2") 2>&1 </dev/null | tee "$1" | pass_on "$(count_crates "$3")" "$3"
+}
+
+take() { # NAME FILE TO
+    mkdir -p "${3%/*}"
+    cp "crates/$1/out/$2" "$3.$$"
+    mv "$3.$$" "$3"
 }
 
 # Only the crate gateway is proved again; what it stands on is taken as rt has proved it, where nothing changed since.
 archive() {
     is_old target/staticlib/libgateway.a crates crates.txt || return 0
-    prove "$1" staticlib gateway || {
+    prove "$1" lib gateway || {
         tail -n 20 "$1"
         return 1
     }
+    take gateway libgateway.a target/staticlib/libgateway.a
 }
 
 compile() {

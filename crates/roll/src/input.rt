@@ -3,45 +3,44 @@
 ghost use Rattle.std.specs.Prelude.{◌≤◌, length};
 ghost use Rattle.roll.specs.Input.{Fits};
 
-// So many bytes stand in the room, or a read failed.
-#[derive(Clone, Copy)]
-pub enum Input {
-    Bytes(usize),
-    Failed,
-}
+use std::env::Env;
+use std::fs::File;
+use std::io::{self, Read};
+use std::rt::Files;
 
-// Reads until the room is full or the input ends, however few bytes come at a time.
-pub fn read(fd: i32, room: &mut [u8]) -> Input
+// A path has fewer bytes.
+const PATH: usize = 4096;
+
+// Reads until the room is full or the input ends, however few bytes come at a time, and answers how many came.
+pub fn read(from: &mut impl Read, room: &mut [u8]) -> io::Result<usize>
     ensures { Fits result room.new }
 {
     let mut n = 0;
     while n < room.len() {
-        let got = libc::read(fd, &mut room[n..]);
-        if got < 0 {
-            return Input::Failed;
-        }
-        let more = io::count(got, &room[n..]);
+        let more = from.read(&mut room[n..])?;
         if more == 0 {
             break;
         }
         n += more;
     }
-    Input::Bytes(n)
+    Ok(n)
 }
 
 // Reads the table that the first argument names. One that is not named, cannot be opened or cannot be read counts as empty.
-pub fn table(room: &mut [u8]) -> usize
+pub fn table(rt: &(impl Env + Files), room: &mut [u8]) -> usize
     ensures { result ≤ length room.new }
 {
-    let mut path = io::buffer();
-    let named = os::arg(1, &mut path);
-    let file = os::open_read(&path[..named]);
-    if file < 0 {
+    let mut path = [0u8; PATH];
+    let Ok(named) = rt.arg(1, &mut path) else {
         return 0;
-    }
-    let input = read(file, room);
-    libc::close(file);
-    let Input::Bytes(n) = input else {
+    };
+    let Ok(path) = str::from_utf8(&path[..named]) else {
+        return 0;
+    };
+    let Ok(mut file) = File::open(rt, path) else {
+        return 0;
+    };
+    let Ok(n) = read(&mut file, room) else {
         return 0;
     };
     n

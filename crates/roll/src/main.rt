@@ -1,12 +1,13 @@
 // Prints a line for each sheet of a roll: `roll TABLE < ROLL`.
 // Document 01, "Rolls".
 #![tactic(auto)]
+
 mod input;
 mod print;
 
-use input::Input;
-use libc::STDIN_FILENO;
 use paper::Answer;
+use std::io;
+use std::process::ExitCode;
 
 // The longest mode table and the longest roll, each with one byte more: what is longer still is refused by its number all the same.
 const TABLE: usize = 4227;
@@ -18,26 +19,30 @@ const RECORDS: usize = 1280;
 
 const CELLS: usize = 8192;
 
-fn main() {
+fn main(rt: HostRuntime) -> ExitCode {
     let mut table = [0u8; TABLE];
     let mut roll = [0u8; ROLL];
-    let t = input::table(&mut table);
-    let Input::Bytes(n) = input::read(STDIN_FILENO, &mut roll) else {
-        os::fail(b"roll");
-        return;
+    let t = input::table(&rt, &mut table);
+    let printed = match input::read(&mut rt.stdin(), &mut roll) {
+        Ok(n) => print_answer(&rt, &table[..t], &roll[..n]),
+        Err(error) => Err(error),
     };
-    if !is_printed(&table[..t], &roll[..n]) {
-        os::fail(b"roll");
+    match printed {
+        Ok(()) => ExitCode::SUCCESS,
+        Err(error) => {
+            let _ = print::failure(&rt, error);
+            ExitCode::FAILURE
+        }
     }
 }
 
-// Prints what reading the roll answers. False where it could not be written.
-fn is_printed(table: &[u8], roll: &[u8]) -> bool {
+// Prints what reading the roll answers.
+fn print_answer(rt: &impl Print, table: &[u8], roll: &[u8]) -> io::Result<()> {
     let mut records = [0u32; RECORDS];
     let mut cells = [0u32; CELLS];
     let answer = rolls::read(table, roll, &mut records, &mut cells);
     let Answer::Accepted { place: _, count } = answer else {
-        return print::refusal(answer);
+        return print::refusal(rt, answer);
     };
-    print::records(&records, count)
+    print::records(rt, &records, count)
 }

@@ -1,62 +1,73 @@
 // Lines of the output: a record as five decimals, a refusal as the word, its number and its place.
-// Document 01, "Rolls". Each function answers whether all of it was written.
+// Document 01, "Rolls". Each function fails where not all of it could be written.
 ghost use Rattle.std.specs.Prelude.{◌*◌, ◌≤◌, length};
 ghost use Rattle.paper.specs.Roll.{record_cells};
 
-use libc::STDOUT_FILENO;
 use paper::Answer;
+use std::io;
 
 // The cells of a record.
 const RECORD: usize = 5;
 
 // Prints so many records, each on a line.
-pub fn records(cells: &[u32], count: usize) -> bool
+pub fn records(rt: &impl Print, cells: &[u32], count: usize) -> io::Result<()>
     requires { count * record_cells ≤ length cells.now }
 {
     let mut i = 0;
     while i < count {
         let start = i * RECORD;
         let end = start + RECORD;
-        if !record(&cells[start..end]) {
-            return false;
-        }
+        record(rt, &cells[start..end])?;
         i += 1;
     }
-    true
+    Ok(())
 }
 
 // Prints numbers as decimals split by single spaces, and a line end.
-fn record(cells: &[u32]) -> bool {
+fn record(rt: &impl Print, cells: &[u32]) -> io::Result<()> {
     let mut i = 0;
     while i < cells.len() {
-        if 0 < i && !text(b" ") {
-            return false;
+        if 0 < i {
+            text(rt, " ")?;
         }
-        if !cell(cells[i]) {
-            return false;
-        }
+        cell(rt, cells[i])?;
         i += 1;
     }
-    text(b"\n")
+    text(rt, "\n")
 }
 
-fn cell(cell: u32) -> bool {
-    number(cell as u64)
+fn cell(rt: &impl Print, cell: u32) -> io::Result<()> {
+    number(rt, cell as u64)
 }
 
 // Prints the refusal of a roll.
-pub fn refusal(answer: Answer) -> bool {
-    text(b"refused ")
-        && number(answer.number() as u64)
-        && text(b" ")
-        && number(answer.place() as u64)
-        && text(b"\n")
+pub fn refusal(rt: &impl Print, answer: Answer) -> io::Result<()> {
+    text(rt, "refused ")?;
+    number(rt, answer.number() as u64)?;
+    text(rt, " ")?;
+    number(rt, answer.place() as u64)?;
+    text(rt, "\n")
 }
 
-fn number(number: u64) -> bool {
-    io::print_decimal(STDOUT_FILENO, number)
+// Says on standard error why the program failed.
+pub fn failure(rt: &(impl Eprint + Alloc), error: io::Error) -> io::Result<()> {
+    let text = error.to_string(rt.alloc())?;
+    let reason = reason(text.as_str());
+    eprintln!(rt; "roll: {reason}")
 }
 
-fn text(text: &[u8]) -> bool {
-    io::write_all(STDOUT_FILENO, text)
+// The reason alone, without the number that the library puts behind it.
+fn reason(text: &str) -> &str {
+    match text.split_once(" (os error ") {
+        Some((reason, _)) => reason,
+        None => text,
+    }
+}
+
+fn number(rt: &impl Print, number: u64) -> io::Result<()> {
+    rt.print(number)
+}
+
+fn text(rt: &impl Print, text: &str) -> io::Result<()> {
+    rt.print(text)
 }

@@ -1,3 +1,2 @@
 -- Laws of the trials' own form.
 pub mod Spelling
-pub mod Told

@@ -72,6 +72,6 @@ module _ (t : List ℕ) (i : ℕ) (room : List ℕ) (n : ℕ) (so : Spelling t i
         agrees =
             so.agrees
             ∙ ap (onto (take n room)) (one_pair t i h a b)
-            ∙ onto_onto (take n room) _ (spelt (drop (i + 2) t))
+            ∙ onto_onto (take n room) ((hex_digit (get_or t i 0) * 16 + hex_digit (get_or t (i + 1) 0)) ∷ []) (spelt (drop (i + 2) t))
             ∙ rw (e, g, add-one n, take-suc-set);
       }

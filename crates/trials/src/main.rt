@@ -1,15 +1,19 @@
 // Runs trials: a request on each line of standard input, its answer on a line of standard output.
 // Its file stdin has trials of document 01, its file stdout their answers, worked out by hand from the paper.
 #![tactic(auto)]
+
 mod hex;
 mod print;
 mod requests;
 mod words;
 
-ghost use Rattle.std.specs.Prelude.{◌≤◌, length};
+ghost use Rattle.std.specs.Prelude.{◌≤◌, length, IfOk};
 ghost use Rattle.trials.specs.Lines.{line_limit, Fits};
 
-use libc::STDIN_FILENO;
+use std::io::{self, Read};
+
+// The longest line has so many bytes.
+const ROOM: usize = 65536;
 
 // What stands next in the input: a line of so many bytes, the end, or a line that is longer than the room.
 #[derive(Clone, Copy)]
@@ -26,66 +30,67 @@ enum Next {
     End,
 }
 
-fn main() {
-    let mut room = io::large_buffer();
-    answer_lines(&mut room);
+fn main(rt: HostRuntime) -> io::Result<()> {
+    let mut room = [0u8; ROOM];
+    answer_lines(&rt, &mut rt.reader(), &mut room)
 }
 
 // Answers line by line. A proved loop has to end, and nothing says that an input does: so the lines are counted, up to a number that no
 // run reaches.
-fn answer_lines(room: &mut [u8])
+fn answer_lines(rt: &impl Print, input: &mut impl Read, room: &mut [u8]) -> io::Result<()>
     requires { length room.old ≤ line_limit }
 {
     let mut left = u64::MAX;
-    while 0 < left && answer_next(room) {
+    while 0 < left && answer_next(rt, input, room)? {
         left -= 1;
     }
+    Ok(())
 }
 
 // Reads a line and answers it. False at the end of the input, and at a line that is longer than the room.
-fn answer_next(room: &mut [u8]) -> bool
+fn answer_next(rt: &impl Print, input: &mut impl Read, room: &mut [u8]) -> io::Result<bool>
     requires { length room.old ≤ line_limit }
 {
-    match read_line(room) {
+    match read_line(input, room)? {
         Line::Bytes(n) => {
-            requests::answer(&room[..n]);
-            true
+            requests::answer(rt, &room[..n])?;
+            Ok(true)
         }
-        Line::End => false,
+        Line::End => Ok(false),
         Line::TooLong => {
-            print::line(b"line too long");
-            false
+            print::line(rt, "line too long")?;
+            Ok(false)
         }
     }
 }
 
 // Puts the line that stands next in the input, without its LF, at the front of the room. The last one may lack its LF.
-fn read_line(room: &mut [u8]) -> Line
-    ensures { Fits result room.new }
+fn read_line(input: &mut impl Read, room: &mut [u8]) -> io::Result<Line>
+    ensures { IfOk result (λ line. Fits line room.new) }
 {
     let mut n = 0;
     loop {
-        let Next::Byte(byte) = read_byte() else {
+        let Next::Byte(byte) = read_byte(input)? else {
             if n == 0 {
-                return Line::End;
+                return Ok(Line::End);
             }
-            return Line::Bytes(n);
+            return Ok(Line::Bytes(n));
         };
         if byte == b'\n' {
-            return Line::Bytes(n);
+            return Ok(Line::Bytes(n));
         }
         if n == room.len() {
-            return Line::TooLong;
+            return Ok(Line::TooLong);
         }
         room[n] = byte;
         n += 1;
     }
 }
 
-fn read_byte() -> Next {
+fn read_byte(input: &mut impl Read) -> io::Result<Next> {
     let mut byte = [0u8; 1];
-    if io::read_full(STDIN_FILENO, &mut byte) == 0 {
-        return Next::End;
+    if input.read(&mut byte)? == 0 {
+        return Ok(Next::End);
     }
-    Next::Byte(byte[0])
+    Ok(Next::Byte(byte[0]))
 }

@@ -1,57 +1,60 @@
 // Lines of the output, piece by piece: a text, an answer, numbers, bytes.
-// Of the trials' own form: decimals split by single spaces, as document 01 has them in "Rolls".
+// Of the trials' own form: decimals split by single spaces, as document 01 has them in "Rolls". Each function fails where not all of it could
+// be written.
 ghost use Rattle.std.specs.Prelude.{◌≤◌, length};
 
-use libc::STDOUT_FILENO;
 use paper::Answer;
+use std::io;
 
 // Writes the text and a line end.
-pub fn line(text: &[u8]) {
-    io::write_all(STDOUT_FILENO, text);
-    io::write_all(STDOUT_FILENO, b"\n");
+pub fn line(rt: &impl Print, text: &str) -> io::Result<()> {
+    rt.println(text)
 }
 
 // Writes the numbers as decimals split by single spaces.
-pub fn numbers(numbers: &[u64]) {
+pub fn numbers(rt: &impl Print, numbers: &[u64]) -> io::Result<()> {
     let mut i = 0;
     while i < numbers.len() {
         if 0 < i {
-            io::write_all(STDOUT_FILENO, b" ");
+            print!(rt; " ")?;
         }
-        io::print_decimal(STDOUT_FILENO, numbers[i]);
+        print!(rt; "{}", numbers[i])?;
         i += 1;
     }
+    Ok(())
 }
 
 // Writes the numbers, and a line end.
-pub fn row(row: &[u64]) {
-    numbers(row);
-    line(b"");
+pub fn row(rt: &impl Print, row: &[u64]) -> io::Result<()> {
+    numbers(rt, row)?;
+    line(rt, "")
 }
 
 // Writes number, place and count.
-pub fn answer(answer: Answer) {
-    numbers(&[
-        answer.number() as u64,
-        answer.place() as u64,
-        answer.count() as u64,
-    ]);
+pub fn answer(rt: &impl Print, answer: Answer) -> io::Result<()> {
+    numbers(
+        rt,
+        &[
+            answer.number() as u64,
+            answer.place() as u64,
+            answer.count() as u64,
+        ],
+    )
 }
 
 // Writes each cell after a space, and a line end. Zeros behind the last cell that is not zero are left out.
-pub fn cells(cells: &[u32]) {
+pub fn cells(rt: &impl Print, cells: &[u32]) -> io::Result<()> {
     let n = used(cells);
     let mut i = 0;
     while i < n {
-        cell(cells[i]);
+        cell(rt, cells[i])?;
         i += 1;
     }
-    line(b"");
+    line(rt, "")
 }
 
-fn cell(cell: u32) {
-    io::write_all(STDOUT_FILENO, b" ");
-    io::print_decimal(STDOUT_FILENO, cell as u64);
+fn cell(rt: &impl Print, cell: u32) -> io::Result<()> {
+    print!(rt; " {cell}")
 }
 
 // How many cells there are up to the last that is not zero.
@@ -66,9 +69,9 @@ fn used(cells: &[u32]) -> usize
 }
 
 // Writes the bytes up to the last that is not zero, as `bytes` does. A form has no zeros.
-pub fn written(out: &[u8]) {
+pub fn written(rt: &impl Print, out: &[u8]) -> io::Result<()> {
     let n = written_end(out);
-    bytes(&out[..n]);
+    bytes(rt, &out[..n])
 }
 
 // How many bytes there are up to the last that is not zero.
@@ -83,18 +86,18 @@ fn written_end(out: &[u8]) -> usize
 }
 
 // Writes the bytes in hex after a space, if there are any, and a line end.
-pub fn bytes(bytes: &[u8]) {
+pub fn bytes(rt: &impl Print, bytes: &[u8]) -> io::Result<()> {
     let mut i = 0;
     while i < bytes.len() {
         if i == 0 {
-            io::write_all(STDOUT_FILENO, b" ");
+            print!(rt; " ")?;
         }
-        byte(bytes[i]);
+        byte(rt, bytes[i])?;
         i += 1;
     }
-    line(b"");
+    line(rt, "")
 }
 
-fn byte(byte: u8) {
-    io::print_hex(STDOUT_FILENO, byte as u64, 2);
+fn byte(rt: &impl Print, byte: u8) -> io::Result<()> {
+    print!(rt; "{byte:02x}")
 }

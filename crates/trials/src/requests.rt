@@ -7,6 +7,7 @@ use crate::words::{Listed, Numeral};
 use crate::{hex, print, words};
 use leaves::judged::Judged;
 use paper::Refusal;
+use std::io;
 use text::utf8;
 use values::reading;
 
@@ -28,69 +29,70 @@ const STALE: u32 = 4294967295;
 //                          writes a sheet's canonical form to so much room: number, place, count, and the bytes that the room has then
 //     p SHEET ENTRY CELL.. views an entry of these cells: number, place and count of the second call, and the part in hex
 // Any other line is answered `?`.
-pub fn answer(line: &[u8])
+pub fn answer(rt: &impl Print, line: &[u8]) -> io::Result<()>
     requires { length line.now ≤ line_limit }
 {
-    if line.len() < 2 || line[1] != b' ' || !is_answered(line) {
-        print::line(b"?");
+    if line.len() < 2 || line[1] != b' ' || !is_answered(rt, line)? {
+        print::line(rt, "?")?;
     }
+    Ok(())
 }
 
 // Answers what the letter of a line asks of the words behind it. False, and nothing is printed, where it asks nothing of such words.
-fn is_answered(line: &[u8]) -> bool
+fn is_answered(rt: &impl Print, line: &[u8]) -> io::Result<bool>
     requires { Request line.now }
 {
     match line[0] {
-        b's' | b'f' | b'p' => several(line),
-        _ => bytes(line),
+        b's' | b'f' | b'p' => several(rt, line),
+        _ => bytes(rt, line),
     }
 }
 
 // Answers a request whose one word is bytes.
-fn bytes(line: &[u8]) -> bool
+fn bytes(rt: &impl Print, line: &[u8]) -> io::Result<bool>
     requires { Request line.now }
 {
     let mut room = [0u8; ROOM];
     let hex::Spelt::Bytes(n) = hex::read(&line[2..], &mut room) else {
-        return false;
+        return Ok(false);
     };
     let bytes = &room[..n];
     match line[0] {
-        b'b' => sheet_bytes(bytes),
-        b't' => mode_table(bytes),
-        b'v' => value(bytes),
+        b'b' => sheet_bytes(rt, bytes)?,
+        b't' => mode_table(rt, bytes)?,
+        b'v' => value(rt, bytes)?,
         _ => {
-            return false;
+            return Ok(false);
         }
     }
-    true
+    Ok(true)
 }
 
-fn sheet_bytes(sheet: &[u8]) {
+fn sheet_bytes(rt: &impl Print, sheet: &[u8]) -> io::Result<()> {
     match utf8::check(sheet) {
-        utf8::Checked::Sound => print::row(&[0, sheet.len() as u64]),
+        utf8::Checked::Sound => print::row(rt, &[0, sheet.len() as u64]),
         utf8::Checked::Broken(place) => {
-            print::row(&[paper::number(Refusal::Bytes) as u64, place as u64]);
+            print::row(rt, &[paper::number(Refusal::Bytes) as u64, place as u64])
         }
     }
 }
 
-fn mode_table(table: &[u8]) {
-    print::answer(modes::read(table));
-    print::line(b"");
+fn mode_table(rt: &impl Print, table: &[u8]) -> io::Result<()> {
+    print::answer(rt, modes::read(table))?;
+    print::line(rt, "")
 }
 
-fn value(bytes: &[u8]) {
+fn value(rt: &impl Print, bytes: &[u8]) -> io::Result<()> {
     match reading::read_whole(bytes, 0) {
-        Judged::Found { form, end } => print::row(&[0, end as u64, form as u64]),
+        Judged::Found { form, end } => print::row(rt, &[0, end as u64, form as u64]),
         Judged::Refused { refusal, place } => {
-            print::row(&[paper::number(refusal) as u64, place as u64]);
+            print::row(rt, &[paper::number(refusal) as u64, place as u64])
         }
     }
 }
 
 // Answers a request of several words: two, and the rest of the line.
-fn several(line: &[u8]) -> bool
+fn several(rt: &impl Print, line: &[u8]) -> io::Result<bool>
     requires { Request line.now }
 {
     let first_end = words::end(line, 2);
@@ -101,112 +103,130 @@ fn several(line: &[u8]) -> bool
     let second = &line[second_start..second_end];
     let rest = &line[rest_start..];
     if line[0] == b'p' {
-        return part(first, second, rest);
+        return part(rt, first, second, rest);
     }
-    sheet(line[0], first, second, rest)
+    sheet(rt, line[0], first, second, rest)
 }
 
 // Answers a request whose first words are a table and a sheet in hex.
-fn sheet(letter: u8, table: &[u8], sheet: &[u8], asked: &[u8]) -> bool
+fn sheet(rt: &impl Print, letter: u8, table: &[u8], sheet: &[u8], asked: &[u8]) -> io::Result<bool>
     requires { (length table.now ≤ line_limit) × (length sheet.now ≤ line_limit) }
 {
     let mut table_room = [0u8; ROOM];
     let mut sheet_room = [0u8; ROOM];
     let hex::Spelt::Bytes(t) = hex::read(table, &mut table_room) else {
-        return false;
+        return Ok(false);
     };
     let hex::Spelt::Bytes(n) = hex::read(sheet, &mut sheet_room) else {
-        return false;
+        return Ok(false);
     };
-    of_sheet(letter, &table_room[..t], &sheet_room[..n], asked)
+    of_sheet(rt, letter, &table_room[..t], &sheet_room[..n], asked)
 }
 
 // Answers what the letter asks of a table, a sheet and the words behind them.
-fn of_sheet(letter: u8, table: &[u8], sheet: &[u8], asked: &[u8]) -> bool {
+fn of_sheet(
+    rt: &impl Print,
+    letter: u8,
+    table: &[u8],
+    sheet: &[u8],
+    asked: &[u8],
+) -> io::Result<bool> {
     if letter == b'f' {
-        form(table, sheet, asked)
+        form(rt, table, sheet, asked)
     } else {
-        reading(table, sheet, asked)
+        reading(rt, table, sheet, asked)
     }
 }
 
 // Reads a sheet with as many cells lent as are asked for.
-fn reading(table: &[u8], sheet: &[u8], asked: &[u8]) -> bool {
+fn reading(rt: &impl Print, table: &[u8], sheet: &[u8], asked: &[u8]) -> io::Result<bool> {
     let Numeral::Is(lent) = words::number(asked) else {
-        return false;
+        return Ok(false);
     };
     if CELLS < lent {
-        return false;
+        return Ok(false);
     }
-    read_lent(table, sheet, lent);
-    true
+    read_lent(rt, table, sheet, lent)?;
+    Ok(true)
 }
 
 // Reads a sheet with so many cells lent.
-fn read_lent(table: &[u8], sheet: &[u8], lent: usize)
+fn read_lent(rt: &impl Print, table: &[u8], sheet: &[u8], lent: usize) -> io::Result<()>
     requires { lent ≤ cell_limit }
 {
     let mut cells = [STALE; CELLS];
-    read_into(table, sheet, &mut cells[..lent]);
+    read_into(rt, table, sheet, &mut cells[..lent])
 }
 
-fn read_into(table: &[u8], sheet: &[u8], cells: &mut [u32]) {
-    print::answer(sheets::read(table, sheet, cells));
-    print::cells(cells);
+fn read_into(rt: &impl Print, table: &[u8], sheet: &[u8], cells: &mut [u32]) -> io::Result<()> {
+    print::answer(rt, sheets::read(table, sheet, cells))?;
+    print::cells(rt, cells)
 }
 
 // Writes a sheet's form with as many cells and as much room lent as are asked for.
-fn form(table: &[u8], sheet: &[u8], asked: &[u8]) -> bool {
+fn form(rt: &impl Print, table: &[u8], sheet: &[u8], asked: &[u8]) -> io::Result<bool> {
     let lent_end = words::end(asked, 0);
     let room_start = words::past(asked, lent_end);
     let Numeral::Is(lent) = words::number(&asked[..lent_end]) else {
-        return false;
+        return Ok(false);
     };
     let Numeral::Is(room) = words::number(&asked[room_start..]) else {
-        return false;
+        return Ok(false);
     };
     if CELLS < lent || ROOM < room {
-        return false;
+        return Ok(false);
     }
-    write_lent(table, sheet, lent, room);
-    true
+    write_lent(rt, table, sheet, lent, room)?;
+    Ok(true)
 }
 
 // Writes a sheet's form with so many cells and so much room lent.
-fn write_lent(table: &[u8], sheet: &[u8], lent: usize, room: usize)
+fn write_lent(
+    rt: &impl Print,
+    table: &[u8],
+    sheet: &[u8],
+    lent: usize,
+    room: usize,
+) -> io::Result<()>
     requires { (lent ≤ cell_limit) × (room ≤ room_limit) }
 {
     let mut cells = [STALE; CELLS];
     let mut out = [0u8; ROOM];
-    write_into(table, sheet, &mut cells[..lent], &mut out[..room]);
+    write_into(rt, table, sheet, &mut cells[..lent], &mut out[..room])
 }
 
-fn write_into(table: &[u8], sheet: &[u8], cells: &mut [u32], out: &mut [u8]) {
-    print::answer(layout::write(table, sheet, cells, out));
-    print::written(out);
+fn write_into(
+    rt: &impl Print,
+    table: &[u8],
+    sheet: &[u8],
+    cells: &mut [u32],
+    out: &mut [u8],
+) -> io::Result<()> {
+    print::answer(rt, layout::write(table, sheet, cells, out))?;
+    print::written(rt, out)
 }
 
 // Views an entry: the words are the sheet in hex, the entry's number, and the cells.
-fn part(sheet: &[u8], entry: &[u8], cells: &[u8]) -> bool
+fn part(rt: &impl Print, sheet: &[u8], entry: &[u8], cells: &[u8]) -> io::Result<bool>
     requires { length sheet.now ≤ line_limit }
 {
     let mut sheet_room = [0u8; ROOM];
     let mut cell_room = [0u32; CELLS];
     let hex::Spelt::Bytes(n) = hex::read(sheet, &mut sheet_room) else {
-        return false;
+        return Ok(false);
     };
     let Numeral::Is(number) = words::number(entry) else {
-        return false;
+        return Ok(false);
     };
     let Listed::Cells(k) = words::cells(cells, &mut cell_room) else {
-        return false;
+        return Ok(false);
     };
-    view(&sheet_room[..n], &cell_room[..k], number);
-    true
+    view(rt, &sheet_room[..n], &cell_room[..k], number)?;
+    Ok(true)
 }
 
 // Views an entry, and asks for the view's number by the second call.
-fn view(sheet: &[u8], cells: &[u32], entry: usize) {
-    print::answer(sheets::view_answer(sheet, cells, entry));
-    print::bytes(sheets::view(sheet, cells, entry));
+fn view(rt: &impl Print, sheet: &[u8], cells: &[u32], entry: usize) -> io::Result<()> {
+    print::answer(rt, sheets::view_answer(sheet, cells, entry))?;
+    print::bytes(rt, sheets::view(sheet, cells, entry))
 }

@@ -28,9 +28,10 @@ pub fn module(specs: &Path, requests: &[String]) -> std::io::Result<String> {
 /// The cases of one kind as a list, and that what is seen of them is what is due.
 fn statement(kind: &str, number: usize, cases: &[String], names: &Names) -> String {
     let list = format!("cases{kind}{number}");
+    let seen = kind.to_lowercase();
     let cases: String = cases.iter().map(|case| format!("    {case} ∷\n")).collect();
-    let holds = format!("right{kind}{number} : map seen{kind} {list} ≡ map due{kind} {list}");
-    let unfolded = format!("{list} formOf seen{kind} {}", names.unfolded());
+    let holds = format!("right{kind}{number} : map seen_{seen} {list} ≡ map due_{seen} {list}");
+    let unfolded = format!("{list} form_of seen_{seen} {}", names.unfolded());
     format!("\nunfoldable pub {list} : List {kind}Case\n{list} =\n{cases}    []\n\npub {holds}\nunfolding {unfolded}\nright{kind}{number} = refl\n")
 }
 
@@ -49,7 +50,7 @@ impl Names {
     }
 
     fn uses(&self) -> String {
-        self.0.iter().map(|(module, _)| format!("use Rattle·paper.specs.{module}\n")).collect()
+        self.0.iter().map(|(module, _)| format!("use Rattle.paper.specs.{module}\n")).collect()
     }
 
     fn unfolded(&self) -> String {
@@ -112,12 +113,12 @@ fn told(answer: Answer) -> String {
 
 /// What is seen of a case by the definitions, and what is due.
 const KINDS_OF_CASES: &str = "\
-use Prim.Native.Nat.{ℕ, _-_}
-use mathlib.Core.Path.{_≡_, refl}
-use mathlib.Core.List.{List, [], _∷_, _++_, map}
+use Prim.Native.Nat.{ℕ, ◌-◌}
+use mathlib.Core.Path.{◌≡◌, refl}
+use mathlib.Core.List.{List, [], ◌∷◌, ◌++◌, map}
 use lib.ListN.{length, replicate}
-use Rattle·paper.specs.Answer.{Told}
-use Rattle·paper.specs.Found.{found, fault}
+use Rattle.paper.specs.Answer.{Told}
+use Rattle.paper.specs.Found.{found, fault}
 
 pub record SheetCase : Type 0 where
   pub table : List ℕ
@@ -134,31 +135,31 @@ pub record SheetSeen : Type 0 where
   pub form : List ℕ
   pub again : List ℕ
 
-unfoldable pub formOf : List ℕ → ℕ → List ℕ → List ℕ
-formOf table lent s =
-    elim (Modes.modeTable table) [
+unfoldable pub form_of : List ℕ → ℕ → List ℕ → List ℕ
+form_of table lent s =
+    elim (Modes.mode_table table) [
       | fault n left ↦ []
-      | found m left ↦ elim (Reading.sheetOf m (Reading.roomOf lent) s) [ fault n left ↦ [] | found t left ↦ Canonical.canonical t ]
+      | found m left ↦ elim (Reading.sheet_of m (Reading.room_of lent) s) [ fault n left ↦ [] | found t left ↦ Canonical.canonical t ]
     ]
 
-unfoldable pub seenSheet : SheetCase → SheetSeen
-seenSheet k =
-    let read = Reading.reading (k .table) (k .sheet) (k .lent) in
-    let form = formOf (k .table) (k .lent) (k .sheet) in
-    record { answer = read .answer; cells = read .cells; form = form; again = formOf (k .table) (k .lent) form }
+unfoldable pub seen_sheet : SheetCase → SheetSeen
+seen_sheet k =
+    let read = Reading.reading k.table k.sheet k.lent in
+    let form = form_of k.table k.lent k.sheet in
+    record { answer = read.answer; cells = read.cells; form = form; again = form_of k.table k.lent form }
 
-abbrev pub dueSheet : SheetCase → SheetSeen
-dueSheet k = record { answer = k .answer; cells = k .entries ++ replicate (k .lent - length (k .entries)) 0; form = k .form; again = k .form }
+abbrev pub due_sheet : SheetCase → SheetSeen
+due_sheet k = record { answer = k.answer; cells = k.entries ++ replicate (k.lent - length k.entries) 0; form = k.form; again = k.form }
 
 pub record TableCase : Type 0 where
   pub table : List ℕ
   pub answer : Told
 
-unfoldable pub seenTable : TableCase → Told
-seenTable k = Modes.readTable (k .table)
+unfoldable pub seen_table : TableCase → Told
+seen_table k = Modes.read_table k.table
 
-abbrev pub dueTable : TableCase → Told
-dueTable k = k .answer
+abbrev pub due_table : TableCase → Told
+due_table k = k.answer
 
 pub record ViewCase : Type 0 where
   pub sheet : List ℕ
@@ -171,9 +172,9 @@ pub record ViewSeen : Type 0 where
   pub answer : Told
   pub part : List ℕ
 
-unfoldable pub seenView : ViewCase → ViewSeen
-seenView k = record { answer = View.viewAnswer (k .sheet) (k .cells) (k .entry); part = View.viewed (k .sheet) (k .cells) (k .entry) }
+unfoldable pub seen_view : ViewCase → ViewSeen
+seen_view k = record { answer = View.view_answer k.sheet k.cells k.entry; part = View.viewed k.sheet k.cells k.entry }
 
-abbrev pub dueView : ViewCase → ViewSeen
-dueView k = record { answer = k .answer; part = k .part }
+abbrev pub due_view : ViewCase → ViewSeen
+due_view k = record { answer = k.answer; part = k.part }
 ";
