@@ -9,7 +9,7 @@ use lib.ListN.{length, drop, get_or, replicate, length-replicate}
 use Rattle.paper.specs.Found.{Found}
 use Rattle.paper.specs.Tree.{Marker}
 use Rattle.paper.specs.Limits.{entry_limit}
-use Rattle.paper.specs.Reading.{trait, line_rest, content_of, closing}
+use Rattle.paper.specs.Reading.{line_rest, content_of, closing}
 use Rattle.paper.proofs.Finds.{Reads}
 use Rattle.paper.proofs.Lines.{rest_reads}
 use Rattle.paper.proofs.Markers.{closing_reads}

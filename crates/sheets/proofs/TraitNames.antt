@@ -8,7 +8,6 @@ use native.Mathlib.Omega.{arith}
 use lib.ListN.{length, get_or, set}
 use Rattle.paper.specs.declared.Refusal.{Refusal}
 use Rattle.paper.specs.Names.{is_trait_name, among}
-use Rattle.paper.specs.Reading.{trait}
 use Rattle.names.specs.Runs.{key_of, Measures}
 use Rattle.names.specs.declared.Run.{Run}
 use Rattle.entries.specs.declared.Slot.{Slot}

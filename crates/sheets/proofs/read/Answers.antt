@@ -3,7 +3,6 @@ use Prim.Native.Nat.{◌*◌, ◌≤◌}
 use native.Mathlib.Omega.{arith}
 use lib.ListN.{length}
 use Rattle.paper.specs.Entries.{entry_cells}
-use borrow.Author.Rules.{rules}
 use Rattle.modes.proofs.Chains.{fresh}
 use Rattle.sheets.proofs.SheetLaws.{table_refused, count_fits, sheet_done}
 use Rattle.sheets.proofs.read.Goals as goal

@@ -1,6 +1,5 @@
 -- A law for each way out: the blank lines, the tabs, the root, and what stands behind it.
 use native.Mathlib.Omega.{arith}
-use borrow.Author.Rules.{rules}
 use Rattle.modes.specs.Table.{modes_of}
 use Rattle.sheets.proofs.SheetLaws.{blanks_inside, before_refused, tabs_refused, Led, tabs_led, root_stands, root_refused, RootAt, root_read, rest_refused}
 use Rattle.sheets.proofs.SheetLaws.{tree_read}

@@ -1,24 +1,20 @@
-use Prim.Native.Nat.{ℕ, ◌+◌, ◌-◌, ◌*◌, ◌≤◌, ◌<◌}
+use Prim.Native.Nat.{ℕ, ◌+◌, ◌-◌, ◌≤◌, ◌<◌}
 use mathlib.Core.Path.{◌≡◌, refl, sym, ap, ◌∙◌}
-use mathlib.Core.Logic.{⊎_elim}
 use native.Mathlib.Omega.{arith}
 use lib.ListN.{length, drop}
-use borrow.Author.Rules.{rules}
 use Rattle.paper.specs.Bytes.{byte, lf}
 use Rattle.paper.specs.Reading.{is_tab, annotated_of, piece_of, bounds}
-use borrow.Author.Tests.{not-false}
 use Rattle.text.proofs.Stretch.{Stretch}
 use Rattle.modes.specs.Table.{modes_of}
 use Rattle.entries.specs.declared.Slot.{Slot}
 use Rattle.entries.proofs.Slots.{fits_after}
 use Rattle.lines.proofs.Ends.{RestAt, rest_at}
-use Rattle.sheets.specs.Traits.{NamesBefore}
 use Rattle.sheets.specs.Opening.{part_of}
 use Rattle.sheets.proofs.ConceptLaws.{inside_closed, inside_block, inside_content, marker_refused, MarkerAt, marker_ahead, lent_stands, may_end, concept_ended}
 use Rattle.sheets.proofs.Slots.{stands_on}
 use Rattle.sheets.proofs.NameIndex.{names_on, names_end, names_same, names_rest, names_closing, names_content, names_line, names_ended}
 use Rattle.sheets.proofs.TraitRuns.{refused_names}
-use Rattle.sheets.proofs.PieceLaws.{annotated_line, blank_made, tabs_refused, tabs_passed, ends_in, line_made, Pieces, pieces_begin, pieces_over, pieces_refused, piece_ahead}
+use Rattle.sheets.proofs.PieceLaws.{annotated_line, blank_made, tabs_refused, tabs_passed, ends_in, line_made, pieces_begin, pieces_over, pieces_refused, piece_ahead}
 use Rattle.sheets.proofs.PieceLaws.{pieces_on}
 use Rattle.sheets.proofs.LineStarts.{Behind, lf_blank, lf_rest, mark_piece}
 use Rattle.sheets.proofs.AnnotatedLaws as annotated

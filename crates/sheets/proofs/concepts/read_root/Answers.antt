@@ -1,7 +1,6 @@
 -- Either index has no start yet, and room for the traits of any marker of the sheet.
 use mathlib.Core.Logic.{inl, inr}
 use native.Mathlib.Omega.{arith}
-use borrow.Author.Rules.{rules}
 use Rattle.sheets.proofs.NameIndex.{no_names}
 use Rattle.sheets.proofs.concepts.read_root.Goals as goal
 
