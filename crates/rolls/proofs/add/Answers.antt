@@ -1,5 +1,4 @@
 -- A refused table or sheet is passed through; else what adding the sheet leaves, and zeros in all cells. Assumes nothing.
-use borrow.Author.Rules.{rules}
 use Prim.Native.Nat.{ℕ, ◌*◌, ◌≤◌}
 use mathlib.Core.Path.{sym, ap, ◌∙◌}
 use mathlib.Core.List.{List}
@@ -18,10 +17,9 @@ read_into-modes-requires c = fresh
 
 pub returns-in_default : goal.returns-in_default
 returns-in_default c =
-    let (AT-Start c)= c in
-    refused_added (AT-Start c) (AT-Start c) (AT-Start c) (AT-Start c) _ _ _
-    (refused_passed (AT-Start c) (AT-Start c) _ c.read_into-modes.result _ _ c.in_default.is _
-    (table_refused (AT-Start c) (AT-Start c) (AT-Start c) c.read_into-modes.result _ _ c.read_into-modes.ensures.answer
+    refused_added c.args.table.now c.args.sheet.now c.args.roll.now c.args.n _ _ _
+    (refused_passed c.args.table.now c.args.sheet.now _ c.read_into-modes.result _ _ c.in_default.is _
+    (table_refused c.args.table.now c.args.sheet.now c.args.cells.now c.read_into-modes.result _ _ c.read_into-modes.ensures.answer
     c.in_default.is _ c.zero_from.ensures))
 
 pub read_under-reading-requires : goal.read_under-reading-requires
@@ -29,10 +27,9 @@ read_under-reading-requires c = c.read_into-modes.ensures.indexed _ _ c.in-Accep
 
 pub returns-in_default-reading : goal.returns-in_default-reading
 returns-in_default-reading c =
-    let (AT-Start c)= c in
-    refused_added (AT-Start c) (AT-Start c) (AT-Start c) (AT-Start c) _ _ _
-    (refused_passed (AT-Start c) (AT-Start c) _ c.read_under-reading.result _ _ c.in_default-reading.is _
-    (sheet_done (AT-Start c) (AT-Start c) (AT-Start c) c.read_under-reading.result _ 0
+    refused_added c.args.table.now c.args.sheet.now c.args.roll.now c.args.n _ _ _
+    (refused_passed c.args.table.now c.args.sheet.now _ c.read_under-reading.result _ _ c.in_default-reading.is _
+    (sheet_done c.args.table.now c.args.sheet.now c.args.cells.now c.read_under-reading.result _ 0
     c.read_under-reading.ensures c.read_under-reading.auto.cells (none_counted _ _ _ c.in_default-reading.is) _
     (c.read_into-modes.ensures.indexed _ _ c.in-Accepted.is).valid c.zero_from-in_default-reading.ensures))
 
@@ -40,9 +37,8 @@ inside : (c : goal.In-Accepted-reading) → let mid : List ℕ = c.read_under-re
 inside c =
     let mid : List ℕ = c.read_under-reading.new.cells in
     let size : ℕ = c.in-Accepted-reading.count * entry_cells in
-    let (AT-Start c)= c in
-    cells_inside (AT-Start c) (AT-Start c) (AT-Start c) c.read_under-reading.new.cells
-    (AT-Start c) c.read_under-reading.result _ _
+    cells_inside c.args.table.now c.args.sheet.now c.args.cells.now c.read_under-reading.new.cells
+    c.args.roll.now c.read_under-reading.result _ _
     (c.read_into-modes.ensures.indexed _ _ c.in-Accepted.is).valid c.read_under-reading.ensures
     c.read_under-reading.auto.cells c.in-Accepted-reading.is
 
@@ -59,9 +55,8 @@ pub add_sheet-answer-requires : goal.add_sheet-answer-requires
 add_sheet-answer-requires c =
     let mid : List ℕ = c.read_under-reading.new.cells in
     let size : ℕ = c.in-Accepted-reading.count * entry_cells in
-    let read : Read c.args.table.now c.args.sheet.now (length c.args.cells.now) (take size mid) = let (AT-Start c)= c in
-    tree_read (AT-Start c) (AT-Start c) (AT-Start c) c.read_under-reading.new.cells
-    (AT-Start c) c.read_under-reading.result _ _
+    let read : Read c.args.table.now c.args.sheet.now (length c.args.cells.now) (take size mid) = tree_read c.args.table.now c.args.sheet.now c.args.cells.now c.read_under-reading.new.cells
+    c.args.roll.now c.read_under-reading.result _ _
     (c.read_into-modes.ensures.indexed _ _ c.in-Accepted.is).valid c.read_under-reading.ensures
     c.read_under-reading.auto.cells c.in-Accepted-reading.is in
     let r = read in
@@ -71,9 +66,8 @@ pub returns : goal.returns
 returns c =
     let mid : List ℕ = c.read_under-reading.new.cells in
     let size : ℕ = c.in-Accepted-reading.count * entry_cells in
-    let read : Read c.args.table.now c.args.sheet.now (length c.args.cells.now) (take size mid) = let (AT-Start c)= c in
-    tree_read (AT-Start c) (AT-Start c) (AT-Start c) c.read_under-reading.new.cells
-    (AT-Start c) c.read_under-reading.result _ _
+    let read : Read c.args.table.now c.args.sheet.now (length c.args.cells.now) (take size mid) = tree_read c.args.table.now c.args.sheet.now c.args.cells.now c.read_under-reading.new.cells
+    c.args.roll.now c.read_under-reading.result _ _
     (c.read_into-modes.ensures.indexed _ _ c.in-Accepted.is).valid c.read_under-reading.ensures
     c.read_under-reading.auto.cells c.in-Accepted-reading.is in
     sheet_added c.args.table.now c.args.sheet.now c.args.roll.now _ _ _ c.args.n _ _ read
