@@ -4,7 +4,15 @@ use mathlib.Core.Path.{refl}
 use native.Mathlib.Omega.{arith}
 use Rattle.lines.proofs.Crossing.{room_left}
 use Rattle.sheets.proofs.TraitLaws.{ValueAt, value_at, trait_refused, trait_full, items_stand, Far, far_end, items_full, trait_made}
+use Rattle.sheets.proofs.traits.enter_trait.Goals.{In_default, In-Items}
 use Rattle.sheets.proofs.traits.enter_trait.Goals as goal
+
+-- the value, and how far entering its items may get
+value : (c : In_default) → ValueAt c.args.s.now (c.args.to + 1)
+value c = value_at c.read_whole-value.ensures _ _ c.in_default.is
+
+far : (c : In-Items) → Far c.in-Items.end c.in-Items.made c.in-Items.own
+far c = far_end c.requires.0 c.requires.1 c.under.ensures c.enter_whole.ensures.0 c.in-Items.is
 
 pub overflow_add-at : goal.overflow_add-at
 overflow_add-at c = omega (arith, c.requires.0.within, c.requires.0.inside)
@@ -16,8 +24,7 @@ returns-in-Refused c =
 
 pub returns-then-is_full : goal.returns-then-is_full
 returns-then-is_full c =
-    let value : ValueAt c.args.s.now (c.args.to + 1) = value_at c.read_whole-value.ensures _ _ c.in_default.is in
-    λ white w n. trait_full c.requires.0 c.requires.2 c.requires.1 white w value c.is_full.ensures c.if-is_full.true
+    λ white w n. trait_full c.requires.0 c.requires.2 c.requires.1 white w (value (goal.at.returns-then-is_full c).In_default) c.is_full.ensures c.if-is_full.true
     c.refused-then-is_full.ensures
 
 pub under-requires : goal.under-requires
@@ -30,12 +37,8 @@ enter_whole-requires c =
       c.read_whole-value.ensures,
     )
 
-far : (c : goal.After-put-arg-1) → Far c.in-Items.end c.in-Items.made c.in-Items.own
-far c =
-    far_end c.requires.0 c.requires.1 c.under.ensures c.enter_whole.ensures.0 c.in-Items.is
-
 pub overflow_cast-own : goal.overflow_cast-own
-overflow_cast-own c = omega (arith, (far c))
+overflow_cast-own c = omega (arith, far (goal.at.overflow_cast-own c).In-Items)
 
 pub overflow_cast-from : goal.overflow_cast-from
 overflow_cast-from c = omega (arith, c.requires.0.within, c.requires.0.inside, c.requires.2)
@@ -47,27 +50,23 @@ pub overflow_cast-at : goal.overflow_cast-at
 overflow_cast-at c = omega (arith, c.requires.0.within, c.requires.0.inside)
 
 pub overflow_cast-end : goal.overflow_cast-end
-overflow_cast-end c = omega (arith, (far c))
+overflow_cast-end c = omega (arith, far (goal.at.overflow_cast-end c).In-Items)
 
 pub put-requires : goal.put-requires
 put-requires c = omega (arith, c.enter_whole.auto.cells, room_left _ _ _ c.requires.1 c.is_full.ensures c.if-is_full.false)
 
 pub overflow_add-result : goal.overflow_add-result
-overflow_add-result c =
-    let far : Far c.in-Items.end c.in-Items.made c.in-Items.own = far_end c.requires.0 c.requires.1 c.under.ensures c.enter_whole.ensures.0 c.in-Items.is in
-    omega (arith, far)
+overflow_add-result c = omega (arith, far (goal.at.overflow_add-result c).In-Items)
 
 pub returns-in-Full : goal.returns-in-Full
 returns-in-Full c =
-    let value : ValueAt c.args.s.now (c.args.to + 1) = value_at c.read_whole-value.ensures _ _ c.in_default.is in
-    λ white w n. items_full c.requires.0 c.requires.2 c.requires.1 white w value c.is_full.ensures
+    λ white w n. items_full c.requires.0 c.requires.2 c.requires.1 white w (value (goal.at.returns-in-Full c).In_default) c.is_full.ensures
     c.if-is_full.false
     c.under.ensures c.enter_whole.ensures.1 c.in-Full.is c.refused-in-Full.ensures
 
 pub returns-in-Items : goal.returns-in-Items
 returns-in-Items c =
-    let value : ValueAt c.args.s.now (c.args.to + 1) = value_at c.read_whole-value.ensures _ _ c.in_default.is in
-    λ white w n. trait_made c.requires.0 c.requires.2 c.requires.1 white w value c.is_full.ensures
+    λ white w n. trait_made c.requires.0 c.requires.2 c.requires.1 white w (value (goal.at.returns-in-Items c).In_default) c.is_full.ensures
     c.if-is_full.false
     c.under.ensures c.enter_whole.ensures.1 n c.in-Items.is
     c.put.ensures refl
