@@ -68,13 +68,13 @@ module _ (s cells : List ℕ) (n : ℕ) (told : Told) (asked : told ≡ view_ans
   unfolding view_of view_answer
   view_refused h =
       split (viewable s cells n)
-      (λ v. absurd (h (is_told ∙ rw v)))
-      (λ v. rw (v, view_of) (ap (λ (k : ℕ). k ∷ 0 ∷ 0 ∷ []) (is_told ∙ rw v)))
+      (λ v. absurd (h (is_told ∙ rw (v, view_answer))))
+      (λ v. rw (v, view_of) (ap (λ (k : ℕ). k ∷ 0 ∷ 0 ∷ []) (is_told ∙ rw (v, view_answer))))
 
   module _ (h : number ≡ 0) where
     can_view : viewable s cells n ≡ true
     unfolding view_answer
-    can_view = split (viewable s cells n) (λ v. v) (λ v. let z : 17 ≡ 0 = sym (is_told ∙ rw v) ∙ h in absurd (omega arith))
+    can_view = split (viewable s cells n) (λ v. v) (λ v. let z : 17 ≡ 0 = sym (is_told ∙ rw (v, view_answer)) ∙ h in absurd (omega arith))
 
     pub view_told : (e : Entry) → e ≡ entry_at cells n → 0 ∷ e.start ∷ e.end ∷ [] ≡ view_of s cells n
     unfolding view_of

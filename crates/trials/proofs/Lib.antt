@@ -1,2 +1,3 @@
 -- Laws of the trials' own form.
 pub mod Spelling
+pub mod Told
