@@ -1,6 +1,7 @@
 // The C interface: the public functions for programs that are not written in Rattle.
 // Document 01, "Refusal numbers" and the answers of "Order"; document 02, Two. include/cdx.h declares these functions for C.
 #![tactic(auto)]
+
 ghost use Rattle.std.specs.Prelude.{◌≡◌, length};
 ghost use Rattle.paper.specs.Answer.{told};
 ghost use Rattle.times.specs.Numbers.{TellsTime};

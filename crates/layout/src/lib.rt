@@ -1,6 +1,7 @@
 // Canonical form of a sheet, written to room that is lent.
 // Document 01, "Canonical form", refusal 12, and the answers of "Order".
 #![tactic(auto)]
+
 ghost use Rattle.std.specs.Prelude.{◌≡◌, min, length};
 ghost use Rattle.paper.specs.Answer.{told};
 ghost use Rattle.paper.specs.Limits.{sheet_limit};

@@ -1,6 +1,7 @@
 // Values that hold no items, by their first byte: strings, characters, backticks, times and words.
 // Document 01, "The grammar", Values; document 02, Two.
 #![tactic(auto)]
+
 pub mod escapes;
 mod iris;
 pub mod judged;

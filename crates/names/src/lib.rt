@@ -1,6 +1,7 @@
 // Names: the rule for those of Concepts and traits.
 // Document 01, "The grammar", Names, and "Sizes".
 #![tactic(auto)]
+
 ghost use Rattle.std.specs.Prelude.{◌≡◌, ◌&&◌, ◌-◌, ◌≤◌, length, leb};
 ghost use Rattle.paper.specs.Names.{name_limit, is_concept_name};
 ghost use Rattle.names.specs.Runs.{Measures};

@@ -17,7 +17,7 @@ use Rattle.paper.specs.Grammar.{in_mode}
 use Rattle.paper.specs.Limits.{sheet_limit, concept_limit}
 use Rattle.paper.specs.Entries.{item_entries, trait_size, body_size}
 use Rattle.paper.specs.ReadingValues.{value_of}
-use Rattle.paper.specs.Reading.{Bounds, bounds, blank_lines, is_blank_line, is_tab, tabs_only, line_rest, name, due, makes, text_of, annotation, annotation_turn}
+use Rattle.paper.specs.Reading.{Bounds, bounds, blank_lines, is_blank_line, is_tab, tabs_only, line_rest, due, makes, text_of, annotation, annotation_turn}
 use Rattle.paper.specs.Reading.{annotations, enters, Earlier, with_trait, trait_name, trait, trait_due, trait_turn, no_trait, Opened, opened, admitted, head, opening}
 use Rattle.paper.specs.Reading.{content_of, room_in, inside_by, annotated_by, piece_by, is_closing, concept, children_of, body, concept_of, sheet_tree, sheet_of}
 use Rattle.paper.proofs.Tests.{split}

@@ -19,7 +19,7 @@ use Rattle.paper.specs.Times.{is_time, is_local, is_offset, is_zone_byte, is_zon
 use Rattle.paper.specs.Times.{is_duration, is_reserved}
 use Rattle.paper.specs.Times.{TimeKind, zoned, local, date, year_month, month_day, time, duration, reserved, is_of, time_kinds, first_fit, time_kind}
 use Rattle.paper.proofs.Tests.{split, true_false, apart, either, or_left, or_right, below, in_range}
-use Rattle.paper.proofs.Lists.{both, and, is_not, by_front, empty_is, all_nil, all_cons, all_head, all_weaken, all_append, all_among, elem_apart, starts_append}
+use Rattle.paper.proofs.Lists.{both, is_not, by_front, empty_is, all_nil, all_cons, all_head, all_weaken, all_append, all_among, elem_apart, starts_append}
 use Rattle.paper.proofs.Lists.{front_behind, marked, front_of, behind_of, starts_off, same_is}
 use Rattle.paper.proofs.WordKinds.{digit_or}
 use Rattle.paper.proofs.TimeParts.{other, parted_splits, parted_bytes, perhaps_bytes}

@@ -1,6 +1,7 @@
 // The words that public functions answer with: document 01, "Refusal numbers" and "Order".
 // What each case is in the paper's numbers is stated once, in specs/Answer.antt.
 #![tactic(auto)]
+
 pub mod brackets;
 pub mod forms;
 pub mod kinds;

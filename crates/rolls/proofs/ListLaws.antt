@@ -181,7 +181,7 @@ module _ (table r : List ℕ) (lent : ℕ) (records : List ℕ) where
   -- the records of an acceptance, and none of a refusal
   made : (p c : ℕ) (q : Parts) → roll_records table lent (accepted p c) q ≡ records_in table lent q
   unfolding roll_records
-  made p c (parts lead sheets) = refl
+  made p c (parts lead _) = refl
 
   none_made : (why : Refusal) (p : ℕ) (q : Parts) → roll_records table lent (refused (number_of why) p) q ≡ []
   unfolding roll_records

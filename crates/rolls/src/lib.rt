@@ -1,6 +1,7 @@
 // Rolls: the record of each sheet that one holds, and a sheet added to one.
 // Document 01, "Rolls", refusals 12 to 16, and the answers of "Order".
 #![tactic(auto)]
+
 mod adding;
 mod boundaries;
 mod listing;

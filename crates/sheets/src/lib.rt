@@ -1,6 +1,7 @@
 // Sheets: reading one under a mode table, and the part of it that an entry's span names.
 // Document 01, "Entries", "Refusal numbers" and "Order".
 #![tactic(auto)]
+
 mod concepts;
 mod opening;
 mod traits;

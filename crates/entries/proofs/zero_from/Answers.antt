@@ -11,8 +11,7 @@ pub bounds-cells-i : goal.bounds-cells-i
 bounds-cells-i c = omega arith
 
 pub loop-i-preserved : goal.loop-i-preserved
-loop-i-preserved c =
-    (
+loop-i-preserved c = (
   omega arith,
   simp length-set (omega arith),
   zeros_more c.loop-i.cells (length c.args.cells.now) c.loop-i.i (omega arith) ∙ c.loop-i.invariant.2,

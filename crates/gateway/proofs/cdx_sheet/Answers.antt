@@ -9,8 +9,7 @@ pub tell-requires : goal.tell-requires
 tell-requires c = sheet_few _ _ _ _ _ c.read.ensures
 
 pub returns : goal.returns
-returns c =
-    (
+returns c = (
   ap (λ (x : Reading). x.cells) c.read.ensures,
   c.tell.ensures ∙ ap (λ (x : Reading). three_of x.answer) c.read.ensures,
 )

@@ -3,7 +3,6 @@ use Prim.Native.Nat.{ℕ, ◌*◌, ◌≤◌}
 use mathlib.Core.Path.{ap, ◌∙◌}
 use native.Mathlib.Omega.{arith}
 use lib.ListN.{length, replicate}
-use borrow.Author.Rules.{rules}
 use Rattle.paper.specs.Roll.{record_cells}
 use Rattle.sheets.proofs.SheetLaws.{all_zero}
 use Rattle.rolls.proofs.ListLaws.{records_fit, roll_done}

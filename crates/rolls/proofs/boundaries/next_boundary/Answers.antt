@@ -1,10 +1,5 @@
-use Prim.Native.Nat.{◌-◌}
 use mathlib.Core.Path.{sym, ◌∙◌}
-use mathlib.Core.Bool.{true}
 use native.Mathlib.Omega.{arith}
-use lib.ListN.{length}
-use borrow.Author.Rules.{rules}
-use Rattle.rolls.specs.Boundaries.{Passes}
 use Rattle.rolls.proofs.Passing.{passes_none, passes_then, no_boundary}
 use Rattle.rolls.proofs.boundaries.next_boundary.Goals as goal
 

@@ -1,12 +1,8 @@
 -- The invariant: no sheet begins up to `i`, where a line starts. The measure is what is left of the roll.
 use Prim.Native.Nat.{◌-◌}
-use mathlib.Core.Path.{sym, ◌∙◌}
 use mathlib.Core.Bool.{true}
-use native.Mathlib.Omega.{arith}
 use lib.ListN.{length}
-use borrow.Author.Rules.{rules}
 use Rattle.rolls.specs.Boundaries.{Passes}
-use Rattle.rolls.proofs.Passing.{passes_none, passes_then, no_boundary}
 use Rattle.rolls.proofs.boundaries.next_boundary.Given as goal
 
 abbrev pub invariant-loop-i : goal.invariant-loop-i

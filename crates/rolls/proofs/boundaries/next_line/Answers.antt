@@ -1,9 +1,5 @@
-use Prim.Native.Nat.{◌-◌}
-use mathlib.Core.Bool.{true, false}
+use mathlib.Core.Bool.{true}
 use native.Mathlib.Omega.{arith}
-use lib.ListN.{length}
-use borrow.Author.Rules.{rules}
-use Rattle.rolls.specs.Boundaries.{Passes}
 use Rattle.rolls.proofs.Passing.{passes_then, passes_end, line_passes, other_passes}
 use Rattle.rolls.proofs.boundaries.next_line.Goals as goal
 

@@ -1,11 +1,8 @@
 -- The invariant: no sheet begins up to `i`, where no line need start. The measure is what is left of the roll.
 use Prim.Native.Nat.{◌-◌}
-use mathlib.Core.Bool.{true, false}
-use native.Mathlib.Omega.{arith}
+use mathlib.Core.Bool.{false}
 use lib.ListN.{length}
-use borrow.Author.Rules.{rules}
 use Rattle.rolls.specs.Boundaries.{Passes}
-use Rattle.rolls.proofs.Passing.{passes_then, passes_end, line_passes, other_passes}
 use Rattle.rolls.proofs.boundaries.next_line.Given as goal
 
 abbrev pub invariant-loop-i : goal.invariant-loop-i

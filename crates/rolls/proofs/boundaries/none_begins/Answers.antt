@@ -1,11 +1,7 @@
-use Prim.Native.Nat.{◌+◌, ◌-◌, ◌≤◌}
 use mathlib.Core.Path.{◌≡◌}
-use mathlib.Core.Bool.{false}
 use native.Mathlib.Omega.{arith}
 use native.Mathlib.Nat.{add-zero}
-use borrow.Author.Rules.{rules}
 use borrow.Author.Tests.{eqb-true}
-use Rattle.rolls.specs.Boundaries.{Passes}
 use Rattle.rolls.proofs.Passing.{passes_none, block_on}
 use Rattle.rolls.proofs.boundaries.none_begins.Goals as goal
 

@@ -1,10 +1,4 @@
-use Prim.Native.Nat.{◌-◌}
-use mathlib.Core.Bool.{false}
 use native.Mathlib.Omega.{arith}
-use lib.ListN.{length}
-use borrow.Author.Rules.{rules}
-use borrow.Author.Tests.{not-false}
-use Rattle.rolls.specs.Boundaries.{Passes}
 use Rattle.rolls.proofs.Passing.{passes_none, passes_then}
 use Rattle.rolls.proofs.boundaries.skip_blocks.Goals as goal
 

@@ -1,9 +1,6 @@
-use Prim.Native.Nat.{◌-◌}
 use native.Mathlib.Omega.{arith}
-use lib.ListN.{length}
-use borrow.Author.Rules.{rules}
 use Rattle.rolls.specs.Records.{record_in}
-use Rattle.rolls.proofs.FindLaws.{Finding, finding_none, finding_turn, finds_over, finds_all}
+use Rattle.rolls.proofs.FindLaws.{finding_none, finding_turn, finds_over, finds_all}
 use Rattle.rolls.proofs.listing.find_sheets.Goals as goal
 
 pub loop-at-init : goal.loop-at-init

@@ -1,10 +1,7 @@
 -- The invariant: so many sheets are found, and the next one begins at `at`. The measure is what is left of the roll.
 use Prim.Native.Nat.{◌-◌}
-use native.Mathlib.Omega.{arith}
 use lib.ListN.{length}
-use borrow.Author.Rules.{rules}
-use Rattle.rolls.specs.Records.{record_in}
-use Rattle.rolls.proofs.FindLaws.{Finding, finding_none, finding_turn, finds_over, finds_all}
+use Rattle.rolls.proofs.FindLaws.{Finding}
 use Rattle.rolls.proofs.listing.find_sheets.Given as goal
 
 abbrev pub invariant-loop-at : goal.invariant-loop-at

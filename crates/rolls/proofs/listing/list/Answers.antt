@@ -2,7 +2,6 @@
 use native.Mathlib.Omega.{arith}
 use mathlib.Core.Path.{sym}
 use lib.Seq.{length-take-le}
-use borrow.Author.Rules.{rules}
 use Rattle.modes.specs.Index.{Indexed}
 use Rattle.modes.proofs.Chains.{fresh}
 use Rattle.rolls.proofs.ListLaws.{roll_long, table_bad, lead_bad, Led, lead_good, sheets_bad, all_found, roll_listed}
@@ -29,8 +28,7 @@ returns-in-Refused c =
     indexed.valid c.next_boundary-first.ensures _ c.read_rest.ensures _ _ _ c.in-Refused.is
 
 pub find_sheets-found-requires : goal.find_sheets-found-requires
-find_sheets-found-requires c =
-    (
+find_sheets-found-requires c = (
   omega (arith, c.if-roll-gt-LIMIT.false),
   c.next_boundary-first.ensures.begins,
 )
@@ -52,8 +50,7 @@ read_sheets-requires c =
     c.args.roll.now
     c.args.records.now
     c.next_boundary-first.result = lead_good c.args.table.now c.args.roll.now _ (omega (arith, c.if-roll-gt-LIMIT.false))
-    indexed.valid c.next_boundary-first.ensures _ c.read_rest.ensures _ _ _ c.in_default-read_rest.is in
-    (
+    indexed.valid c.next_boundary-first.ensures _ c.read_rest.ensures _ _ _ c.in_default-read_rest.is in (
       indexed,
       all_found led c.find_sheets-found.result c.find_sheets-found.ensures _ _ c.in-Accepted-found.is,
     )

@@ -27,8 +27,7 @@ pub read_annotated-read_notes-notes-requires : goal.read_annotated-read_notes-no
 read_annotated-read_notes-notes-requires t c = let ready = c.requires in (ready.0.in_sheet, ready.0.fits, ready.1)
 
 pub read_annotated-returns-in_default : goal.read_annotated-returns-in_default
-read_annotated-returns-in_default t c =
-    (
+read_annotated-returns-in_default t c = (
   annotated.notes_refused c.requires.0
       c.read_notes-notes.ensures _ c.in_default.is,
   refused_names c.in_default.is,
@@ -93,8 +92,7 @@ read_annotated-returns-in_default-concept t c =
     elim c.if-made-eq0.branch [
       | read_annotated-then-made-eq0 w ↦ rw w.tag-is (annotated.tabs_there notes c.requires.1 w.if-made-eq0.true)
       | read_annotated-else-made-eq0 w ↦ rw w.tag-is w.tab_end-tag.ensures
-    ] in
-    (
+    ] in (
       annotated.concept_refused annotated-notes annotated-tabs c.after.ensures _
           c.read_concept-concept.ensures.0 c.in_default-concept.is,
       refused_names c.in_default-concept.is,
@@ -131,16 +129,14 @@ read_annotated-overflow_add-result-2 t c =
     omega (arith, notes.few, notes.stands.fits.few)
 
 pub read_annotated-returns : goal.read_annotated-returns
-read_annotated-returns t c =
-    (
-      annotated.annotated_read (annotated-notes t c) (annotated-tabs t c) c.after.ensures _
-          c.read_concept-concept.ensures.0 c.in-Read-concept.is,
-      names_same c.read_concept-concept.ensures.1 c.in-Read-concept.is refl,
-    )
+read_annotated-returns t c = (
+  annotated.annotated_read (annotated-notes t c) (annotated-tabs t c) c.after.ensures _
+      c.read_concept-concept.ensures.0 c.in-Read-concept.is,
+  names_same c.read_concept-concept.ensures.1 c.in-Read-concept.is refl,
+)
 
 pub read_block-returns-in_default : goal.read_block-returns-in_default
-read_block-returns-in_default t c =
-    (
+read_block-returns-in_default t c = (
   λ k tabs named. block.rest_refused c.requires.0 _ _ k tabs _ c.line_rest-rest.ensures
       c.in_default.is,
   refused_names c.in_default.is,
@@ -158,8 +154,7 @@ read_block-read_children-body-requires t c =
 pub read_block-returns-in_default-body : goal.read_block-returns-in_default-body
 read_block-returns-in_default-body t c =
     let block-rest : RestAt c.args.s.now c.args.at
-    c.in-Read.start = rest_at _ _ _ _ _ _ c.requires.0.in_sheet.inside c.line_rest-rest.ensures c.in-Read.is in
-    (
+    c.in-Read.start = rest_at _ _ _ _ _ _ c.requires.0.in_sheet.inside c.line_rest-rest.ensures c.in-Read.is in (
       λ k tabs named. block.body_refused c.requires.0 _ _ block-rest
           c.read_children-body.ensures.0 k tabs c.in_default-body.is,
       refused_names c.in_default-body.is,
@@ -182,12 +177,11 @@ read_block-returns-in_default-closing t c =
     let block-body : let start = c.args in
     block.BodyAt start.s.now start.at start.cells.now start.slot (modes_of start.table.now) start.nesting.left
     c.read_children-body.new.cells c.in-Read-body.mark c.in-Read-body.made c.in-Read-body.own = block.body_at c.requires.0 _ _ block-rest
-    c.read_children-body.ensures.0 c.in-Read-body.is in
-    (
-  λ k tabs named. block.closing_refused block-body k named tabs _
-      c.read_closing-closing.ensures c.in_default-closing.is,
-  refused_names c.in_default-closing.is,
-)
+    c.read_children-body.ensures.0 c.in-Read-body.is in (
+      λ k tabs named. block.closing_refused block-body k named tabs _
+          c.read_closing-closing.ensures c.in_default-closing.is,
+      refused_names c.in_default-closing.is,
+    )
 
 pub read_block-returns : goal.read_block-returns
 read_block-returns t c =
@@ -196,8 +190,7 @@ read_block-returns t c =
     let block-body : let start = c.args in
     block.BodyAt start.s.now start.at start.cells.now start.slot (modes_of start.table.now) start.nesting.left
     c.read_children-body.new.cells c.in-Read-body.mark c.in-Read-body.made c.in-Read-body.own = block.body_at c.requires.0 _ _ block-rest
-    c.read_children-body.ensures.0 c.in-Read-body.is in
-    (
+    c.read_children-body.ensures.0 c.in-Read-body.is in (
       λ k tabs named. block.block_read block-body k named tabs _ c.read_closing-closing.ensures c.in-Read-closing.is,
       names_same
           (names_closing _ c.read_closing-closing.ensures block-body.inside
@@ -212,11 +205,10 @@ pub read_children-tab_end-mark-requires : goal.read_children-tab_end-mark-requir
 read_children-tab_end-mark-requires t c = c.loop-nesting.invariant.0.inside
 
 pub read_children-returns-then-starts_with : goal.read_children-returns-then-starts_with
-read_children-returns-then-starts_with t c =
-    (
-      pieces_over c.loop-nesting.invariant.0 c.tab_end-mark.ensures c.starts_with.ensures c.if-starts_with.true,
-      names_end c.loop-nesting.invariant.2 refl c.tab_end-mark.ensures.1,
-    )
+read_children-returns-then-starts_with t c = (
+  pieces_over c.loop-nesting.invariant.0 c.tab_end-mark.ensures c.starts_with.ensures c.if-starts_with.true,
+  names_end c.loop-nesting.invariant.2 refl c.tab_end-mark.ensures.1,
+)
 
 pub read_children-after-requires : goal.read_children-after-requires
 read_children-after-requires t c = omega (arith, c.loop-nesting.invariant.0.few, c.requires.0.fits.few)
@@ -233,13 +225,12 @@ read_children-read_piece-piece-requires t c =
     )
 
 pub read_children-returns-in_default : goal.read_children-returns-in_default
-read_children-returns-in_default t c =
-    (
-      pieces_refused c.loop-nesting.invariant.0 c.tab_end-mark.ensures
-          c.starts_with.ensures c.if-starts_with.false
-          c.after.ensures c.read_piece-piece.ensures.0 c.in_default.is,
-      refused_names c.in_default.is,
-    )
+read_children-returns-in_default t c = (
+  pieces_refused c.loop-nesting.invariant.0 c.tab_end-mark.ensures
+      c.starts_with.ensures c.if-starts_with.false
+      c.after.ensures c.read_piece-piece.ensures.0 c.in_default.is,
+  refused_names c.in_default.is,
+)
 
 children-ahead : (t : ℕ) (c : goal.read_children-In-Read t) → (c.loop-nesting.i < c.in-Read.end) × (c.in-Read.end ≤ length c.args.s.now)
     × (c.args.slot.next + c.loop-nesting.made + c.in-Read.more ≤ c.args.slot.room) × (c.in-Read.mine ≤ c.in-Read.more)
@@ -261,14 +252,13 @@ pub read_children-loop-nesting-smaller : goal.read_children-loop-nesting-smaller
 read_children-loop-nesting-smaller t c = let on = (children-ahead t c) in omega arith
 
 pub read_children-loop-nesting-preserved : goal.read_children-loop-nesting-preserved
-read_children-loop-nesting-preserved t c =
-    (
-      pieces_on c.loop-nesting.invariant.0 c.tab_end-mark.ensures c.starts_with.ensures c.if-starts_with.false
-          c.after.ensures c.read_piece-piece.ensures.0 c.in-Read.is
-          c.read_piece-piece.auto.cells,
-      c.read_piece-piece.auto.names ∙ c.loop-nesting.invariant.1,
-      c.read_piece-piece.ensures.1 _ _ _ c.in-Read.is,
-    )
+read_children-loop-nesting-preserved t c = (
+  pieces_on c.loop-nesting.invariant.0 c.tab_end-mark.ensures c.starts_with.ensures c.if-starts_with.false
+      c.after.ensures c.read_piece-piece.ensures.0 c.in-Read.is
+      c.read_piece-piece.auto.cells,
+  c.read_piece-piece.auto.names ∙ c.loop-nesting.invariant.1,
+  c.read_piece-piece.ensures.1 _ _ _ c.in-Read.is,
+)
 
 pub read_concept-read_opening-requires : goal.read_concept-read_opening-requires
 read_concept-read_opening-requires t c = (c.requires.0.indexed, c.requires.0.in_sheet, c.requires.0.fits, c.requires.1)
@@ -335,8 +325,7 @@ read_concept-end_concept-requires t c =
     c.read_opening.auto.cells)
 
 pub read_concept-returns-in-Refused : goal.read_concept-returns-in-Refused
-read_concept-returns-in-Refused t c =
-    (
+read_concept-returns-in-Refused t c = (
   marker_refused c.requires.0
       c.read_opening.ensures.0 _ c.in-Refused.is c.refused.ensures,
   refused_names c.refused.ensures,
@@ -352,8 +341,7 @@ read_concept-returns-in-Opened t c =
       answer = c.read_opening.result;
       opens = c.read_opening.ensures.0;
       told = c.in-Opened.is;
-    } in
-    (
+    } in (
       concept_ended concept-marker c.under.ensures
           c.after-next.ensures _ c.read_inside-body.ensures.0 c.end_concept.ensures.0
           c.end_concept.ensures.1,
@@ -367,26 +355,23 @@ pub read_inside-read_content-requires : goal.read_inside-read_content-requires
 read_inside-read_content-requires t c = (c.requires.0.in_sheet, c.requires.0.fits, c.requires.1, c.requires.2)
 
 pub read_inside-returns-in-1 : goal.read_inside-returns-in-1
-read_inside-returns-in-1 t c =
-    (
-      λ k named. inside_closed c.requires.0 _ _ _ k c.in-1.is c.past.ensures,
-      names_end c.requires.3 c.past.ensures (omega arith),
-    )
+read_inside-returns-in-1 t c = (
+  λ k named. inside_closed c.requires.0 _ _ _ k c.in-1.is c.past.ensures,
+  names_end c.requires.3 c.past.ensures (omega arith),
+)
 
 pub read_inside-returns-in-2 : goal.read_inside-returns-in-2
-read_inside-returns-in-2 t c =
-    (
-      λ k named. inside_block c.requires.0 _ _ _ k c.in-2.is
-          (c.read_block.ensures.0 k _ named),
-      c.read_block.ensures.1,
-    )
+read_inside-returns-in-2 t c = (
+  λ k named. inside_block c.requires.0 _ _ _ k c.in-2.is
+      (c.read_block.ensures.0 k _ named),
+  c.read_block.ensures.1,
+)
 
 pub read_inside-returns-in_default : goal.read_inside-returns-in_default
-read_inside-returns-in_default t c =
-    (
-      λ k named. inside_content c.requires.0 _ _ _ k c.in_default.in_default-own.rest.0.1 c.in_default.in_default-own.rest.1 (c.read_content.ensures k named),
-      names_content _ c.args.from c.args.to _ _ _ c.read_content.ensures c.requires.0.in_sheet.inside c.requires.3,
-    )
+read_inside-returns-in_default t c = (
+  λ k named. inside_content c.requires.0 _ _ _ k c.in_default.in_default-own.rest.0.1 c.in_default.in_default-own.rest.1 (c.read_content.ensures k named),
+  names_content _ c.args.from c.args.to _ _ _ c.read_content.ensures c.requires.0.in_sheet.inside c.requires.3,
+)
 
 pub read_piece-returns-then-starts_with : goal.read_piece-returns-then-starts_with
 read_piece-returns-then-starts_with t c =
@@ -397,15 +382,13 @@ read_piece-returns-then-starts_with t c =
     )
 
 pub read_piece-returns-then-is_blank_line : goal.read_piece-returns-then-is_blank_line
-read_piece-returns-then-is_blank_line t c =
-    (
-      blank_made c.requires.0 _ c.is_blank_line.ensures c.if-is_blank_line.true _ c.line_rest.ensures,
-      names_rest c.line_rest.ensures c.requires.0.in_sheet.inside c.requires.2,
-    )
+read_piece-returns-then-is_blank_line t c = (
+  blank_made c.requires.0 _ c.is_blank_line.ensures c.if-is_blank_line.true _ c.line_rest.ensures,
+  names_rest c.line_rest.ensures c.requires.0.in_sheet.inside c.requires.2,
+)
 
 pub read_piece-returns-in_default : goal.read_piece-returns-in_default
-read_piece-returns-in_default t c =
-    (
+read_piece-returns-in_default t c = (
   tabs_refused c.requires.0 _
       c.is_blank_line.ensures c.if-is_blank_line.false _
       c.tabs_only-tabs.ensures c.in_default.is,
@@ -426,7 +409,7 @@ read_piece-end_line-requires t c =
           tabs_passed c.requires.0 _ w.is_blank_line.ensures w.if-is_blank_line.false _ w.tabs_only-tabs.ensures w.in-Read.is
       | read_piece-else-not-starts_with w ↦
           let line : Behind (byte "<") c.args.s.now c.args.at c.args.mark =
-              record { run = c.requires.1; starts = sym c.starts_with.ensures ∙ w.if-not-starts_with.false } in
+          record { run = c.requires.1; starts = sym c.starts_with.ensures ∙ w.if-not-starts_with.false } in
           mark_piece line _ _ _
     ] in
     ends_in c.requires.0 _ piece_by_lem c.read_annotated-concept.ensures.0
@@ -442,10 +425,9 @@ read_piece-returns t c =
           tabs_passed c.requires.0 _ w.is_blank_line.ensures w.if-is_blank_line.false _ w.tabs_only-tabs.ensures w.in-Read.is
       | read_piece-else-not-starts_with w ↦
           let line : Behind (byte "<") c.args.s.now c.args.at c.args.mark =
-              record { run = c.requires.1; starts = sym c.starts_with.ensures ∙ w.if-not-starts_with.false } in
+          record { run = c.requires.1; starts = sym c.starts_with.ensures ∙ w.if-not-starts_with.false } in
           mark_piece line _ _ _
-    ] in
-    (
+    ] in (
       line_made c.requires.0 _ piece_by_lem c.read_annotated-concept.ensures.0 _ c.end_line.ensures,
       names_line (ends_in c.requires.0 _ piece_by_lem c.read_annotated-concept.ensures.0) c.read_annotated-concept.ensures.1 c.end_line.ensures,
     )

@@ -24,19 +24,17 @@ lies : (c : After-read_ending) → NamesBefore c.args.s.now (c.white_end.result 
 lies c = names_on (c.read_traits.ensures.1 _ _ _ c.in-Read.is) (omega (arith, c.white_end.ensures.1))
 
 pub returns-then-is_full : goal.returns-then-is_full
-returns-then-is_full c =
-    (
-      no_room c.requires.0 c.requires.2 c.requires.1 _ c.is_full.ensures c.if-is_full.true c.unopened.ensures,
-      refused_names (ap part_of c.unopened.ensures),
-    )
+returns-then-is_full c = (
+  no_room c.requires.0 c.requires.2 c.requires.1 _ c.is_full.ensures c.if-is_full.true c.unopened.ensures,
+  refused_names (ap part_of c.unopened.ensures),
+)
 
 pub read_traits-requires : goal.read_traits-requires
-read_traits-requires c =
-    (
-      c.requires.0,
-      fits_under c.requires.2 c.is_full.ensures c.if-is_full.false c.under.ensures,
-      names_on c.requires.3 c.requires.1,
-    )
+read_traits-requires c = (
+  c.requires.0,
+  fits_under c.requires.2 c.is_full.ensures c.if-is_full.false c.under.ensures,
+  names_on c.requires.3 c.requires.1,
+)
 
 pub white_end-requires : goal.white_end-requires
 white_end-requires c = traits_inside c.requires.0 c.requires.2 _ c.read_traits.ensures.0 c.in-Read.is
@@ -45,18 +43,16 @@ pub read_ending-requires : goal.read_ending-requires
 read_ending-requires c = c.white_end.ensures.2
 
 pub returns-in-Refused : goal.returns-in-Refused
-returns-in-Refused c =
-    (
-      traits_refused c.requires.0 c.requires.2 c.requires.1 _ c.is_full.ensures c.if-is_full.false c.under.ensures
-          c.read_traits.ensures.0
-          c.in-Refused.is c.unopened-in-Refused.ensures,
-      refused_names (ap part_of c.unopened-in-Refused.ensures),
-    )
+returns-in-Refused c = (
+  traits_refused c.requires.0 c.requires.2 c.requires.1 _ c.is_full.ensures c.if-is_full.false c.under.ensures
+      c.read_traits.ensures.0
+      c.in-Refused.is c.unopened-in-Refused.ensures,
+  refused_names (ap part_of c.unopened-in-Refused.ensures),
+)
 
 pub returns-in-Refused-read_ending : goal.returns-in-Refused-read_ending
 returns-in-Refused-read_ending c =
-    let at-ending = (goal.at.returns-in-Refused-read_ending c).After-read_ending in
-    (
+    let at-ending = (goal.at.returns-in-Refused-read_ending c).After-read_ending in (
       ending_refused (traits at-ending) _ _ c.read_ending.ensures c.in-Refused-read_ending.is c.unopened-in-Refused-read_ending.ensures,
       refused_names (ap part_of c.unopened-in-Refused-read_ending.ensures),
     )

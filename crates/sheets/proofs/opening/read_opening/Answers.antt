@@ -16,8 +16,7 @@ pub returns-in-Refused : goal.returns-in-Refused
 returns-in-Refused c = (head_refused c.requires.1 _ c.read_head.ensures _ c.requires.2 _ c.in-Refused.is refl, refused_names refl)
 
 pub returns-in-Read : goal.returns-in-Read
-returns-in-Read c =
-    (
-      head_read c.requires.1 _ c.read_head.ensures _ c.requires.2 _ c.in-Read.is c.read_named.ensures.0,
-      c.read_named.ensures.1,
-    )
+returns-in-Read c = (
+  head_read c.requires.1 _ c.read_head.ensures _ c.requires.2 _ c.in-Read.is c.read_named.ensures.0,
+  c.read_named.ensures.1,
+)

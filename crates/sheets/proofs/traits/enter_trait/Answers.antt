@@ -31,11 +31,10 @@ pub under-requires : goal.under-requires
 under-requires c = omega (arith, c.requires.1.few, c.requires.1.inside)
 
 pub enter_whole-requires : goal.enter_whole-requires
-enter_whole-requires c =
-    (
-      items_stand c.requires.0 c.requires.1 c.under.ensures c.is_full.ensures c.if-is_full.false,
-      c.read_whole-value.ensures,
-    )
+enter_whole-requires c = (
+  items_stand c.requires.0 c.requires.1 c.under.ensures c.is_full.ensures c.if-is_full.false,
+  c.read_whole-value.ensures,
+)
 
 pub overflow_cast-own : goal.overflow_cast-own
 overflow_cast-own c = omega (arith, far (goal.at.overflow_cast-own c).In-Items)

@@ -82,13 +82,13 @@ pub enter_trait-requires : goal.enter_trait-requires
 enter_trait-requires c =
     let at-name = (goal.at.enter_trait-requires c).In-Read in
     let equals : DueAt (byte "=") c.args.s.now c.in-Read.to c.in-Read-equals.end =
-      due_at _ _ _ _ _ _ _ (named at-name).inside c.byte_due-equals.ensures c.in-Read-equals.is in
+    due_at _ _ _ _ _ _ _ (named at-name).inside c.byte_due-equals.ensures c.in-Read-equals.is in
     (behind_equals c.requires.0 c.requires.1 equals, c.requires.1, (named at-name).ahead)
 
 pub returns : goal.returns
 returns c =
     let at-name = (goal.at.returns c).In-Read in
     let equals : DueAt (byte "=") c.args.s.now c.in-Read.to c.in-Read-equals.end =
-      due_at _ _ _ _ _ _ _ (named at-name).inside c.byte_due-equals.ensures c.in-Read-equals.is in
+    due_at _ _ _ _ _ _ _ (named at-name).inside c.byte_due-equals.ensures c.in-Read-equals.is in
     new_named c.requires.2 c.requires.3 (named at-name) (some at-name) (free (goal.at.returns c).In-New)
     (λ names f white. trait_entered c.requires.0 c.requires.1 names white (named at-name) f equals c.enter_trait.ensures)

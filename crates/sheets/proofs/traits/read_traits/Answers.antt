@@ -27,8 +27,7 @@ pub white_end-mark-requires : goal.white_end-mark-requires
 white_end-mark-requires c = c.loop-slot.invariant.inside
 
 pub returns-then-mark-s : goal.returns-then-mark-s
-returns-then-mark-s c =
-    (
+returns-then-mark-s c = (
   traits_cut c.loop-slot.invariant c.white_end-mark.ensures c.if-mark-s.true
       c.cut.ensures,
   refused_names c.cut.ensures,
@@ -38,19 +37,17 @@ pub bounds-s-mark : goal.bounds-s-mark
 bounds-s-mark c = stands (goal.at.bounds-s-mark c).Else-mark-s
 
 pub returns-then-is_one_of : goal.returns-then-is_one_of
-returns-then-is_one_of c =
-    (
-      traits_over c.loop-slot.invariant c.white_end-mark.ensures (stands (goal.at.returns-then-is_one_of c).Else-mark-s) (sym c.is_one_of.ensures ∙ c.if-is_one_of.true) refl,
-      over_names c.loop-slot.invariant refl,
-    )
+returns-then-is_one_of c = (
+  traits_over c.loop-slot.invariant c.white_end-mark.ensures (stands (goal.at.returns-then-is_one_of c).Else-mark-s) (sym c.is_one_of.ensures ∙ c.if-is_one_of.true) refl,
+  over_names c.loop-slot.invariant refl,
+)
 
 pub returns-then-mark-i : goal.returns-then-mark-i
-returns-then-mark-i c =
-    (
-      traits_due c.loop-slot.invariant c.white_end-mark.ensures (stands (goal.at.returns-then-mark-i c).Else-mark-s)
-          (sym c.is_one_of.ensures ∙ c.if-is_one_of.false) c.if-mark-i.true c.refused.ensures,
-      refused_names c.refused.ensures,
-    )
+returns-then-mark-i c = (
+  traits_due c.loop-slot.invariant c.white_end-mark.ensures (stands (goal.at.returns-then-mark-i c).Else-mark-s)
+      (sym c.is_one_of.ensures ∙ c.if-is_one_of.false) c.if-mark-i.true c.refused.ensures,
+  refused_names c.refused.ensures,
+)
 
 pub after-requires : goal.after-requires
 after-requires c = omega (arith, c.loop-slot.invariant.few, c.requires.1.few)
@@ -67,25 +64,31 @@ read_trait-one-requires c =
     )
 
 pub returns-in_default : goal.returns-in_default
-returns-in_default c =
-    (
-      traits_refused c.loop-slot.invariant c.white_end-mark.ensures (begins (goal.at.returns-in_default c).Else-mark-i) c.after.ensures
-          c.read_trait-one.ensures c.in_default.is,
-      refused_names c.in_default.is,
-    )
+returns-in_default c = (
+  traits_refused c.loop-slot.invariant c.white_end-mark.ensures (begins (goal.at.returns-in_default c).Else-mark-i) c.after.ensures
+      c.read_trait-one.ensures c.in_default.is,
+  refused_names c.in_default.is,
+)
 
 pub overflow_add-made : goal.overflow_add-made
 overflow_add-made c =
-    omega (arith, trait_ahead c.loop-slot.invariant c.white_end-mark.ensures (begins (goal.at.overflow_add-made c).Else-mark-i) c.after.ensures
-    c.read_trait-one.ensures c.in-Read.is, c.requires.1.few)
+    omega (
+      arith,
+      trait_ahead c.loop-slot.invariant c.white_end-mark.ensures (begins (goal.at.overflow_add-made c).Else-mark-i) c.after.ensures
+          c.read_trait-one.ensures c.in-Read.is,
+      c.requires.1.few,
+    )
 
 pub overflow_add-own : goal.overflow_add-own
 overflow_add-own c = omega (arith, c.loop-slot.invariant.some, c.loop-slot.invariant.few, c.requires.1.few)
 
 pub loop-slot-smaller : goal.loop-slot-smaller
 loop-slot-smaller c =
-    omega (arith, trait_ahead c.loop-slot.invariant c.white_end-mark.ensures (begins (goal.at.loop-slot-smaller c).Else-mark-i) c.after.ensures
-    c.read_trait-one.ensures c.in-Read.is)
+    omega (
+      arith,
+      trait_ahead c.loop-slot.invariant c.white_end-mark.ensures (begins (goal.at.loop-slot-smaller c).Else-mark-i) c.after.ensures
+          c.read_trait-one.ensures c.in-Read.is,
+    )
 
 pub loop-slot-preserved : goal.loop-slot-preserved
 loop-slot-preserved c =

@@ -9,19 +9,19 @@ use Rattle.text.proofs.classes.is_hex.Goals.{then-is_digit, else-is_digit}
 pub returns-then-is_within : goal.returns-then-is_within
 unfolding is_hex
 returns-then-is_within c =
-    let digit-or-capital : c.if-is_digit.value ≡ (is_digit c.args.b || within 0x41 0x46 c.args.b) = 
-        elim c.if-is_digit.branch [
-          | then-is_digit w ↦ w.value-is ∙ either_first _ c.is_digit.ensures w.if-is_digit.true
-          | else-is_digit w ↦ w.value-is ∙ either_second c.is_digit.ensures w.if-is_digit.false w.is_within.ensures
-        ] in
+    let digit-or-capital : c.if-is_digit.value ≡ (is_digit c.args.b || within 0x41 0x46 c.args.b) =
+    elim c.if-is_digit.branch [
+      | then-is_digit w ↦ w.value-is ∙ either_first _ c.is_digit.ensures w.if-is_digit.true
+      | else-is_digit w ↦ w.value-is ∙ either_second c.is_digit.ensures w.if-is_digit.false w.is_within.ensures
+    ] in
     either_first _ digit-or-capital c.if-is_within.true
 
 pub returns-else-is_within : goal.returns-else-is_within
 unfolding is_hex
 returns-else-is_within c =
-    let digit-or-capital : c.if-is_digit.value ≡ (is_digit c.args.b || within 0x41 0x46 c.args.b) = 
-        elim c.if-is_digit.branch [
-          | then-is_digit w ↦ w.value-is ∙ either_first _ c.is_digit.ensures w.if-is_digit.true
-          | else-is_digit w ↦ w.value-is ∙ either_second c.is_digit.ensures w.if-is_digit.false w.is_within.ensures
-        ] in
+    let digit-or-capital : c.if-is_digit.value ≡ (is_digit c.args.b || within 0x41 0x46 c.args.b) =
+    elim c.if-is_digit.branch [
+      | then-is_digit w ↦ w.value-is ∙ either_first _ c.is_digit.ensures w.if-is_digit.true
+      | else-is_digit w ↦ w.value-is ∙ either_second c.is_digit.ensures w.if-is_digit.false w.is_within.ensures
+    ] in
     either_second digit-or-capital c.if-is_within.false c.is_within-else-is_within.ensures

@@ -5,7 +5,7 @@ use Rattle.text.proofs.Stretch.{run_on, run_stops, run_over}
 use Rattle.text.proofs.parts.find.Goals as goal
 
 pub returns-then-is_one_of : goal.returns-then-is_one_of
-returns-then-is_one_of c =     run_stops _ _ _ _ c.loop-i.invariant c.loop-i-test.true (ap not (sym c.is_one_of.ensures ∙ c.if-is_one_of.true))
+returns-then-is_one_of c = run_stops _ _ _ _ c.loop-i.invariant c.loop-i-test.true (ap not (sym c.is_one_of.ensures ∙ c.if-is_one_of.true))
 
 pub overflow_add-i : goal.overflow_add-i
 overflow_add-i c = omega arith
@@ -14,7 +14,7 @@ pub loop-i-smaller : goal.loop-i-smaller
 loop-i-smaller c = omega arith
 
 pub loop-i-preserved : goal.loop-i-preserved
-loop-i-preserved c =     run_on _ _ _ _ c.loop-i.invariant c.loop-i-test.true (ap not (sym c.is_one_of.ensures ∙ c.if-is_one_of.false))
+loop-i-preserved c = run_on _ _ _ _ c.loop-i.invariant c.loop-i-test.true (ap not (sym c.is_one_of.ensures ∙ c.if-is_one_of.false))
 
 pub returns : goal.returns
 returns c = run_over _ _ _ _ c.loop-i.invariant c.loop-i-test.false

@@ -6,11 +6,11 @@ pub returns-then-s-place : goal.returns-then-s-place
 returns-then-s-place c = starts_cut _ _ _ _ c.loop-i-test.true c.if-s-place.true ∙ c.loop-i.invariant
 
 pub returns-then-s-place-2 : goal.returns-then-s-place-2
-returns-then-s-place-2 c =     starts_off _ _ _ _ c.loop-i-test.true c.if-s-place.false c.if-s-place-2.true
+returns-then-s-place-2 c = starts_off _ _ _ _ c.loop-i-test.true c.if-s-place.false c.if-s-place-2.true
     ∙ c.loop-i.invariant
 
 pub loop-i-preserved : goal.loop-i-preserved
-loop-i-preserved c =     starts_on _ _ _ _ c.loop-i-test.true c.if-s-place.false c.if-s-place-2.false
+loop-i-preserved c = starts_on _ _ _ _ c.loop-i-test.true c.if-s-place.false c.if-s-place-2.false
     ∙ c.loop-i.invariant
 
 pub returns : goal.returns

@@ -10,14 +10,14 @@ pub loop-i-init : goal.loop-i-init
 loop-i-init c = (omega arith, check_start _ _ refl (sym c.starts_with.ensures ∙ c.if-starts_with.false))
 
 pub returns-in-Broken : goal.returns-in-Broken
-returns-in-Broken c =     walked_broken _ _ c.walk_block.result _ c.in-Broken.is c.walk_block.ensures ∙ c.loop-i.invariant.1
+returns-in-Broken c = walked_broken _ _ c.walk_block.result _ c.in-Broken.is c.walk_block.ensures ∙ c.loop-i.invariant.1
 
 pub loop-i-smaller : goal.loop-i-smaller
-loop-i-smaller c =     let w = walked_to _ c.loop-i.i c.walk_block.result _ c.in-To.is c.walk_block.ensures in
+loop-i-smaller c = let w = walked_to _ c.loop-i.i c.walk_block.result _ c.in-To.is c.walk_block.ensures in
     omega (arith, w.0, w.1)
 
 pub loop-i-preserved : goal.loop-i-preserved
-loop-i-preserved c =     let w = walked_to _ c.loop-i.i c.walk_block.result _ c.in-To.is c.walk_block.ensures in
+loop-i-preserved c = let w = walked_to _ c.loop-i.i c.walk_block.result _ c.in-To.is c.walk_block.ensures in
     (w.1, w.2 ∙ c.loop-i.invariant.1)
 
 pub returns : goal.returns

@@ -48,13 +48,12 @@ numbers c =
     let third-bits : c.in-Six-third.d ≤ 63 = six second c.follower-third.ensures c.in-Six-third.is in
     let third : Awaits c.args.s.now c.args.at (c.args.at + 3) 0x80 0xBF 0
     (((byte - 0xF0) * 64 + c.in-Six.c) * 64 + c.in-Six-third.d) = goes_on second c.follower-third.ensures c.in-Six-third.is (omega arith) 0 refl in
-    let fourth-bits : c.in-Six-fourth.e ≤ 63 = six third c.follower-fourth.ensures c.in-Six-fourth.is in
-    (
-  omega (arith, c.type_inv.s c.args.at),
-  second-bits,
-  third-bits,
-  fourth-bits,
-)
+    let fourth-bits : c.in-Six-fourth.e ≤ 63 = six third c.follower-fourth.ensures c.in-Six-fourth.is in (
+      omega (arith, c.type_inv.s c.args.at),
+      second-bits,
+      third-bits,
+      fourth-bits,
+    )
 
 pub overflow_sub-b : goal.overflow_sub-b
 overflow_sub-b c = omega (arith, (leads_as _ _ c.requires.1).bounds)

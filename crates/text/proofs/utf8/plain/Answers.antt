@@ -8,9 +8,9 @@ pub returns-then-b-le126 : goal.returns-then-b-le126
 returns-then-b-le126 c = (
   omega arith,
   λ e. elim c.if-b-le126.either [
-      | inl tab ↦ plain_tab_lf _ (omega (arith, tab)) (omega (arith, tab))
-      | inr others ↦ elim others [ inl lf ↦ plain_tab_lf _ (omega (arith, lf.1)) (omega (arith, lf.1)) | inr shown ↦ plain_printing _ (omega (arith, shown)) (omega (arith, shown)) ]
-    ],
+    | inl tab ↦ plain_tab_lf _ (omega (arith, tab)) (omega (arith, tab))
+    | inr others ↦ elim others [ inl lf ↦ plain_tab_lf _ (omega (arith, lf.1)) (omega (arith, lf.1)) | inr shown ↦ plain_printing _ (omega (arith, shown)) (omega (arith, shown)) ]
+  ],
 )
 
 pub returns-else-b-le126 : goal.returns-else-b-le126

@@ -35,12 +35,11 @@ numbers c =
     let second-bits : c.in-Six.c ≤ 63 = six first c.follower-second.ensures c.in-Six.is in
     let second : Awaits c.args.s.now c.args.at (c.args.at + 2) 0x80 0xBF 0
     ((byte - 0xE0) * 64 + c.in-Six.c) = goes_on first c.follower-second.ensures c.in-Six.is (omega arith) 0 refl in
-    let third-bits : c.in-Six-third.d ≤ 63 = six second c.follower-third.ensures c.in-Six-third.is in
-    (
-  omega (arith, c.type_inv.s c.args.at),
-  second-bits,
-  third-bits,
-)
+    let third-bits : c.in-Six-third.d ≤ 63 = six second c.follower-third.ensures c.in-Six-third.is in (
+      omega (arith, c.type_inv.s c.args.at),
+      second-bits,
+      third-bits,
+    )
 
 pub overflow_sub-b : goal.overflow_sub-b
 overflow_sub-b c = omega (arith, (leads_as _ _ c.requires.1).bounds)

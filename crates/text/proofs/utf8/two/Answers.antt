@@ -17,11 +17,10 @@ numbers : (c : goal.After-shared_slice_known-2-1) → let byte : ℕ = get_or c.
 numbers c =
     let byte : ℕ = get_or c.args.s.now c.args.at 0 in
     let first : Awaits c.args.s.now c.args.at (c.args.at + 1) 0x80 0xBF 0 (byte - 0xC0) = awaits_two _ _ c.requires.0 c.requires.1 in
-    let second-bits : c.in-Six.c ≤ 63 = six first c.follower-second.ensures c.in-Six.is in
-    (
-  omega (arith, c.type_inv.s c.args.at),
-  second-bits,
-)
+    let second-bits : c.in-Six.c ≤ 63 = six first c.follower-second.ensures c.in-Six.is in (
+      omega (arith, c.type_inv.s c.args.at),
+      second-bits,
+    )
 
 pub overflow_sub-b : goal.overflow_sub-b
 overflow_sub-b c = let lead = leads_as _ _ c.requires.1 in omega arith

@@ -76,11 +76,10 @@ enter_items-returns-then-is_full t c =
       owned = inv.3;
       kept = inv.4;
       next_is = c.after-next.ensures;
-    } in
-    (
-  ahead_full _ _ _ _ _ _ refl,
-  c.loop-kind.invariant.5 _ _ (full_turn turn _ c.is_full.ensures _ c.if-is_full.true),
-)
+    } in (
+      ahead_full _ _ _ _ _ _ refl,
+      c.loop-kind.invariant.5 _ _ (full_turn turn _ c.is_full.ensures _ c.if-is_full.true),
+    )
 
 pub enter_items-read_label-requires : goal.enter_items-read_label-requires
 enter_items-read_label-requires t c = c.loop-kind.invariant.1
@@ -120,8 +119,7 @@ enter_items-enter-item-requires t c =
       kept = inv.4;
       next_is = c.after-next.ensures;
     } in
-    let labelled : (LabelTo c.args.kind c.args.s.now c.loop-kind.i c.in-Label.key c.in-Label.value) = label_stands _ _ _ c.read_label.ensures c.loop-kind.invariant.1 _ _ c.in-Label.is in
-    (
+    let labelled : (LabelTo c.args.kind c.args.s.now c.loop-kind.i c.in-Label.key c.in-Label.value) = label_stands _ _ _ c.read_label.ensures c.loop-kind.invariant.1 _ _ c.in-Label.is in (
       omega (arith, c.decreases),
       item_stands turn _ c.is_full.ensures c.if-is_full.false _ c.under.ensures labelled,
     )

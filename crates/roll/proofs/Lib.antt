@@ -1,0 +1,2 @@
+-- The laws that the proofs of the program apply.
+pub mod Told
