@@ -26,8 +26,8 @@ TellsForm table sheet lent out cells after answer =
 
 -- `cdx_roll` leaves these records and these cells, of both of which so many are lent, and writes this answer
 abbrev pub TellsRoll : List ℕ → List ℕ → ℕ → ℕ → List ℕ → List ℕ → List ℕ → Type 0
-TellsRoll table roll records lent recordsAfter cells answer =
-    (recordsAfter ≡ (roll_reading table roll records lent).records)
+TellsRoll table roll records lent records_after cells answer =
+    (records_after ≡ (roll_reading table roll records lent).records)
     × (cells ≡ (roll_reading table roll records lent).cells)
     × (answer ≡ three_of (roll_reading table roll records lent).answer)
 

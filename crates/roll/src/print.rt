@@ -49,9 +49,11 @@ pub fn refusal(rt: &impl Print, answer: Answer) -> io::Result<()> {
     text(rt, "\n")
 }
 
-// Says on standard error why the program failed.
+// Says on standard error why the program failed. Where there is no memory for that text, it is said with the number behind it.
 pub fn failure(rt: &(impl Eprint + Alloc), error: io::Error) -> io::Result<()> {
-    let text = error.to_string(rt.alloc())?;
+    let Ok(text) = error.to_string(rt.alloc()) else {
+        return eprintln!(rt; "roll: {error}");
+    };
     let reason = reason(text.as_str());
     eprintln!(rt; "roll: {reason}")
 }

@@ -7,8 +7,8 @@ use Rattle.paper.specs.declared.Answer.{Answer}
 
 -- `read` answers r for a table, a roll and so many lent cells for records and for entries, which are these at exit
 abbrev pub ReadsRoll : List ℕ → List ℕ → ℕ → ℕ → Answer → List ℕ → List ℕ → Type 0
-ReadsRoll table roll records lent r recordsAfter cellsAfter =
-    record { answer = told r; records = recordsAfter; cells = cellsAfter } ≡ roll_reading table roll records lent
+ReadsRoll table roll records lent r records_after cells_after =
+    record { answer = told r; records = records_after; cells = cells_after } ≡ roll_reading table roll records lent
 
 -- `add` answers r for a table, a sheet, a roll, its first n bytes and so many lent cells; roll and cells are these at exit
 abbrev pub AddsSheet : List ℕ → List ℕ → List ℕ → ℕ → ℕ → Answer → List ℕ → List ℕ → Type 0

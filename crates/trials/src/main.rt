@@ -7,7 +7,7 @@ mod print;
 mod requests;
 mod words;
 
-ghost use Rattle.std.specs.Prelude.{◌≤◌, length, IfOk};
+ghost use Rattle.std.specs.Prelude.{◌≡◌, ◌≤◌, length, IfOk, IfErr};
 ghost use Rattle.trials.specs.Lines.{line_limit, Fits};
 
 use std::io::{self, Read};
@@ -64,9 +64,11 @@ fn answer_next(rt: &impl Print, input: &mut impl Read, room: &mut [u8]) -> io::R
     }
 }
 
-// Puts the line that stands next in the input, without its LF, at the front of the room. The last one may lack its LF.
+// Puts the line that stands next in the input, without its LF, at the front of the room. The last one may lack its LF. Where a read
+// fails, that is the answer, and of the room it is told only that it is as long as before.
 fn read_line(input: &mut impl Read, room: &mut [u8]) -> io::Result<Line>
-    ensures { IfOk result (λ line. Fits line room.new) }
+    ensures line { IfOk result (λ line. Fits line room.new) }
+    ensures failed { IfErr result (λ e. length room.new ≡ length room.old) }
 {
     let mut n = 0;
     loop {
