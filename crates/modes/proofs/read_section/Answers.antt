@@ -31,7 +31,7 @@ pub returns-in_default : goal.returns-in_default
 returns-in_default c =
     section_refused
     (ends_refused _ _ _ _ _ _ c.loop-i.invariant.0 _ _ _ c.loop-i-test.true c.read_name-answer.ensures c.in_default.is
-    ∙ section_names c.args.table.now _ c.args.at (omega arith) c.if-count-gt-SECTION_LIMIT.false)
+    ∙ section_names c.args.table.now _ c.args.at (omega arith) (omega arith))
     (not_both _ _ _ c.in_default.is)
 
 pub overflow_add-letters : goal.overflow_add-letters
@@ -56,7 +56,7 @@ returns-then-find-gt0 c =
     (c.refuse-then-find-gt0.ensures
     ∙ ends_again _ _ _ _ _ _ c.loop-i.invariant.0 _ c.loop-i-test.true n _
     (stands_already _ _ _ c.loop-i.invariant.1.lists _ _ c.find.ensures c.if-find-gt0.true) refl
-    ∙ section_names c.args.table.now _ c.args.at (omega arith) c.if-count-gt-SECTION_LIMIT.false)
+    ∙ section_names c.args.table.now _ c.args.at (omega arith) (omega arith))
     (table_refused _ _ c.refuse-then-find-gt0.ensures)
 
 pub overflow_add-i : goal.overflow_add-i
@@ -67,7 +67,7 @@ overflow_add-earlier c = omega (arith, c.requires.few)
 
 pub add-requires : goal.add-requires
 add-requires c =
-    let fits = next_fits _ _ _ _ c.requires _ _ _ _ c.loop-i.invariant.0 c.loop-i.invariant.1 c.if-count-gt-SECTION_LIMIT.false c.loop-i-test.true in
+    let fits = next_fits _ _ _ _ c.requires _ _ _ _ c.loop-i.invariant.0 c.loop-i.invariant.1 (omega arith) c.loop-i-test.true in
     (fits.0, c.key-key.ensures.1, fits.1)
 
 pub loop-i-smaller : goal.loop-i-smaller
@@ -77,9 +77,9 @@ pub loop-i-preserved : goal.loop-i-preserved
 loop-i-preserved c =
     let n = name c.args.table.now c.loop-i.place c.in-Accepted.is c.read_name-answer.ensures in (
       goes_on _ _ _ _ _ _ c.loop-i.invariant.0 _ c.loop-i-test.true n _
-          (stands_not _ _ _ c.loop-i.invariant.1.lists _ _ c.find.ensures c.if-find-gt0.false) refl,
+          (stands_not _ _ _ c.loop-i.invariant.1.lists _ _ c.find.ensures (omega arith)) refl,
       rw (c.add.ensures, c.key-key.ensures.0)
-          (listed_more _ _ _ _ c.requires _ _ _ _ c.loop-i.invariant.0 c.loop-i.invariant.1 c.if-count-gt-SECTION_LIMIT.false c.loop-i-test.true _
+          (listed_more _ _ _ _ c.requires _ _ _ _ c.loop-i.invariant.0 c.loop-i.invariant.1 (omega arith) c.loop-i-test.true _
           n),
     )
 
@@ -88,5 +88,5 @@ returns c =
     let all : c.loop-i.i ≡ get_or c.args.table.now c.args.at 0 = omega (arith, c.loop-i.invariant.0.some) in
     section_accepted
     (ends_all _ _ _ _ _ _ c.loop-i.invariant.0 c.loop-i-test.false
-    ∙ section_names c.args.table.now _ c.args.at (omega arith) c.if-count-gt-SECTION_LIMIT.false)
+    ∙ section_names c.args.table.now _ c.args.at (omega arith) (omega arith))
     _ _ refl (rw all at c.loop-i.invariant.1)

@@ -13,4 +13,4 @@ returns-then-laid-eq0 c =
     ])
 
 pub returns : goal.returns
-returns c = span_part _ _ _ _ c.get-laid.ensures c.if-laid-eq0.false (omega arith) (omega arith)
+returns c = span_part _ _ _ _ c.get-laid.ensures (omega arith) (omega arith) (omega arith)

@@ -70,7 +70,7 @@ loop-number-smaller c = falls c.requires.0 c.loop-number.invariant c.loop-number
 
 pub loop-number-preserved : goal.loop-number-preserved
 loop-number-preserved c =
-    λ all l. chain_goes_on _ _ _ _ _ (turn _ _ _ _ _ (c.loop-number.invariant all l) c.loop-number-test.true) _ c.same.ensures c.if-same.false
+    λ all l. chain_goes_on _ _ _ _ _ (turn _ _ _ _ _ (c.loop-number.invariant all l) c.loop-number-test.true) _ c.same.ensures (cc)
 
 pub returns : goal.returns
 returns c = λ all l. chain_ends _ _ _ _ _ (c.loop-number.invariant all l) c.loop-number-test.false

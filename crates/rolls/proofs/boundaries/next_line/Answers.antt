@@ -14,7 +14,7 @@ returns-then-roll-i-eq10 c =
     }
 
 pub loop-i-preserved : goal.loop-i-preserved
-loop-i-preserved c = passes_then c.loop-i.invariant (other_passes _ _ (omega arith) c.if-roll-i-eq10.false)
+loop-i-preserved c = passes_then c.loop-i.invariant (other_passes _ _ (omega arith) (omega arith))
 
 pub returns : goal.returns
 returns c = record { passes = passes_end true c.loop-i.invariant c.loop-i-test.false; further = λ h. omega arith }

@@ -10,4 +10,4 @@ pub returns-then-s-at-ne58 : goal.returns-then-s-at-ne58
 returns-then-s-at-ne58 c key = colon_missing _ _ key c.if-s-at.false c.if-s-at-ne58.true
 
 pub returns : goal.returns
-returns c key = colon_there _ _ key c.if-s-at.false c.if-s-at-ne58.false _ c.end.ensures.0 (omega arith) (omega arith)
+returns c key = colon_there _ _ key c.if-s-at.false (omega arith) _ c.end.ensures.0 (omega arith) (omega arith)
