@@ -1,15 +1,17 @@
 #!/usr/bin/env python3
 """Brings this repository's own names of antt to one spelling: words in snake case (`isBlank` and `is-blank` are `is_blank`), types and
 modules in camel case. Names of the library, of Rattle source and of what a check makes keep theirs.
-Run once at the top, behind /opt/rattle/port/port.py: usage: tools/respell.py [--say]. With --say it only lists what falls together."""
+Run once at the top, behind the kit's port.py: usage: tools/respell.py [--say]. With --say it only lists what falls together."""
 
 import collections
 import glob
 import os
 import re
+import shutil
 import sys
 
-KIT = "/opt/rattle/rattle"
+# The library of the Rattle kit, beside its command.
+KIT = os.path.join(os.path.dirname(os.path.dirname(os.path.realpath(shutil.which("rt") or "rt"))), "rattle")
 TOKEN = re.compile(r"[^\s(){}\[\],;.∷:·`\"]+")
 DECLARED = re.compile(r"^\s*(?:(?:pub|abbrev|unfoldable|axiom|ruleset|instance)\s+)*([^\s(){}\[\],;.:`\"=][^(){}\[\],;.:`\"=]*?)\s*:(?=\s)")
 NAME = re.compile(r"^[a-z][^\s]*$")
