@@ -6,7 +6,9 @@ use lib.Seq.{sets}
 use Rattle.entries.proofs.zero_from.Given as goal
 
 abbrev pub invariant-loop-i : goal.invariant-loop-i
-invariant-loop-i l = (l.i ≤ length l.initial.cells) × (length l.cells ≡ length l.initial.cells) × (sets l.cells l.i (replicate (length l.initial.cells - l.i) 0) ≡ sets l.initial.cells l.at (replicate (length l.initial.cells - l.at) 0))
+invariant-loop-i l =
+    (l.i ≤ length l.initial.cells) × (length l.cells ≡ length l.initial.cells)
+    × (sets l.cells l.i (replicate (length l.initial.cells - l.i) 0) ≡ sets l.initial.cells l.at (replicate (length l.initial.cells - l.at) 0))
 
 abbrev pub decreases-loop-i : goal.decreases-loop-i
 decreases-loop-i l = length l.initial.cells - l.i

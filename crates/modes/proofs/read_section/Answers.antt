@@ -22,7 +22,10 @@ pub returns-then-at-table : goal.returns-then-at-table
 returns-then-at-table c = section_refused (c.refuse.ensures ∙ section_cut _ _ _ c.if-at-table.true) (table_refused _ _ c.refuse.ensures)
 
 pub returns-then-count-gt-SECTION_LIMIT : goal.returns-then-count-gt-SECTION_LIMIT
-returns-then-count-gt-SECTION_LIMIT c = section_refused (c.refuse-then-count-gt-SECTION_LIMIT.ensures ∙ section_over _ _ _ (omega arith) c.if-count-gt-SECTION_LIMIT.true) (table_refused _ _ c.refuse-then-count-gt-SECTION_LIMIT.ensures)
+returns-then-count-gt-SECTION_LIMIT c =
+    section_refused
+    (c.refuse-then-count-gt-SECTION_LIMIT.ensures ∙ section_over _ _ _ (omega arith) c.if-count-gt-SECTION_LIMIT.true)
+    (table_refused _ _ c.refuse-then-count-gt-SECTION_LIMIT.ensures)
 
 pub loop-i-init : goal.loop-i-init
 loop-i-init c = (begins _ _ _ _ (omega arith), listed_none _ _ _ _ c.requires)

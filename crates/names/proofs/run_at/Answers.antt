@@ -2,7 +2,8 @@ use mathlib.Core.Path.{sym, ◌∙◌}
 use native.Mathlib.Omega.{arith}
 use Rattle.names.proofs.Rule.{judged_begin, judged_capital, judged_third, judged_other, measured_here, measured_cut, lower_name, digit_name}
 use Rattle.names.proofs.run_at.Goals as goal
-use Rattle.names.proofs.run_at.Goals.{then-is_lower, else-is_lower+then-is_upper+then-capitals-eq-CAPITALS, else-is_lower+then-is_upper+else-capitals-eq-CAPITALS, else-is_lower+else-is_upper+then-is_digit}
+use Rattle.names.proofs.run_at.Goals.{then-is_lower, else-is_lower+then-is_upper+then-capitals-eq-CAPITALS}
+use Rattle.names.proofs.run_at.Goals.{else-is_lower+then-is_upper+else-capitals-eq-CAPITALS, else-is_lower+else-is_upper+then-is_digit}
 
 pub loop-i-init : goal.loop-i-init
 loop-i-init c = judged_begin _ _ (omega arith)

@@ -1,7 +1,6 @@
 -- A refused table or sheet is passed through; else what adding the sheet leaves, and zeros in all cells. Assumes nothing.
 use Prim.Native.Nat.{ℕ, ◌*◌, ◌≤◌}
 use mathlib.Core.Path.{sym, ap, ◌∙◌}
-use mathlib.Core.List.{List}
 use native.Mathlib.Omega.{arith}
 use lib.ListN.{length, take, replicate}
 use lib.Seq.{length-take-le}
@@ -10,6 +9,7 @@ use Rattle.modes.proofs.Chains.{fresh}
 use Rattle.sheets.proofs.SheetLaws.{all_zero, table_refused, sheet_done}
 use Rattle.layout.proofs.WriteLaws.{refused_passed, none_counted, cells_inside, Read, tree_read}
 use Rattle.rolls.proofs.AddLaws.{refused_added, sheet_added}
+use Rattle.rolls.proofs.add.Goals.{In-Accepted-reading}
 use Rattle.rolls.proofs.add.Goals as goal
 
 pub read_into-modes-requires : goal.read_into-modes-requires
@@ -33,43 +33,40 @@ returns-in_default-reading c =
     c.read_under-reading.ensures c.read_under-reading.auto.cells (none_counted _ _ _ c.in_default-reading.is) _
     (c.read_into-modes.ensures.indexed _ _ c.in-Accepted.is).valid c.zero_from-in_default-reading.ensures))
 
-inside : (c : goal.In-Accepted-reading) → let mid : List ℕ = c.read_under-reading.new.cells in let size : ℕ = c.in-Accepted-reading.count * entry_cells in size ≤ length mid
+-- the cells of the entries are part of those that are lent
+inside : (c : In-Accepted-reading) → c.in-Accepted-reading.count * entry_cells ≤ length c.read_under-reading.new.cells
 inside c =
-    let mid : List ℕ = c.read_under-reading.new.cells in
-    let size : ℕ = c.in-Accepted-reading.count * entry_cells in
     cells_inside c.args.table.now c.args.sheet.now c.args.cells.now c.read_under-reading.new.cells
     c.args.roll.now c.read_under-reading.result _ _
     (c.read_into-modes.ensures.indexed _ _ c.in-Accepted.is).valid c.read_under-reading.ensures
     c.read_under-reading.auto.cells c.in-Accepted-reading.is
 
+-- the tree that the sheet reads to
+read : (c : In-Accepted-reading)
+    → Read c.args.table.now c.args.sheet.now (length c.args.cells.now) (take (c.in-Accepted-reading.count * entry_cells) c.read_under-reading.new.cells)
+read c =
+    tree_read c.args.table.now c.args.sheet.now c.args.cells.now c.read_under-reading.new.cells
+    c.args.roll.now c.read_under-reading.result _ _
+    (c.read_into-modes.ensures.indexed _ _ c.in-Accepted.is).valid c.read_under-reading.ensures
+    c.read_under-reading.auto.cells c.in-Accepted-reading.is
+
 pub overflow_mul-end : goal.overflow_mul-end
-overflow_mul-end c = omega (arith, (inside c))
+overflow_mul-end c = omega (arith, inside c)
 
 pub slice_bounds-add_sheet-end : goal.slice_bounds-add_sheet-end
-slice_bounds-add_sheet-end c = (inside c)
+slice_bounds-add_sheet-end c = inside c
 
 pub slice_bounds-add_sheet-end-2 : goal.slice_bounds-add_sheet-end-2
 slice_bounds-add_sheet-end-2 c = sym (length-take-le _ _ (inside c))
 
 pub add_sheet-answer-requires : goal.add_sheet-answer-requires
 add_sheet-answer-requires c =
-    let mid : List ℕ = c.read_under-reading.new.cells in
-    let size : ℕ = c.in-Accepted-reading.count * entry_cells in
-    let read : Read c.args.table.now c.args.sheet.now (length c.args.cells.now) (take size mid) = tree_read c.args.table.now c.args.sheet.now c.args.cells.now c.read_under-reading.new.cells
-    c.args.roll.now c.read_under-reading.result _ _
-    (c.read_into-modes.ensures.indexed _ _ c.in-Accepted.is).valid c.read_under-reading.ensures
-    c.read_under-reading.auto.cells c.in-Accepted-reading.is in
-    let r = read in
+    let r = read (goal.at.add_sheet-answer-requires c).In-Accepted-reading in
     record { it = r.it; of = r.of }
 
 pub returns : goal.returns
 returns c =
-    let mid : List ℕ = c.read_under-reading.new.cells in
-    let size : ℕ = c.in-Accepted-reading.count * entry_cells in
-    let read : Read c.args.table.now c.args.sheet.now (length c.args.cells.now) (take size mid) = tree_read c.args.table.now c.args.sheet.now c.args.cells.now c.read_under-reading.new.cells
-    c.args.roll.now c.read_under-reading.result _ _
-    (c.read_into-modes.ensures.indexed _ _ c.in-Accepted.is).valid c.read_under-reading.ensures
-    c.read_under-reading.auto.cells c.in-Accepted-reading.is in
-    sheet_added c.args.table.now c.args.sheet.now c.args.roll.now _ _ _ c.args.n _ _ read
-    c.add_sheet-answer.ensures
-    (c.zero_from-2.ensures ∙ all_zero mid ∙ ap (λ (n : ℕ). replicate n 0) c.read_under-reading.auto.cells)
+    sheet_added c.args.table.now c.args.sheet.now c.args.roll.now _ _ _ c.args.n _ _
+    (read (goal.at.returns c).In-Accepted-reading) c.add_sheet-answer.ensures
+    (c.zero_from-2.ensures ∙ all_zero c.read_under-reading.new.cells
+    ∙ ap (λ (n : ℕ). replicate n 0) c.read_under-reading.auto.cells)

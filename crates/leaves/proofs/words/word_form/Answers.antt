@@ -39,4 +39,7 @@ returns-in_default-4 c =
     c.in_default.in_default-own.rest.0.0.1 c.in_default.in_default-own.rest.0.1
 
 pub returns-in-48-to-57 : goal.returns-in-48-to-57
-returns-in-48-to-57 c = c.numeral_form.ensures ∙ form_numerals _ c.if-w-eq0.false (elim c.in-48-to-57-1.branch [ in-43-1 w ↦ inl w.in-43-1.keys3 | in_default+else-this-lt48+then-this-lt58 w ↦ inr (omega arith) ])
+returns-in-48-to-57 c =
+    c.numeral_form.ensures
+    ∙ form_numerals _ c.if-w-eq0.false
+    (elim c.in-48-to-57-1.branch [ in-43-1 w ↦ inl w.in-43-1.keys3 | in_default+else-this-lt48+then-this-lt58 w ↦ inr (omega arith) ])

@@ -25,4 +25,8 @@ returns-in-97-to-122 c =
 pub returns-in_default : goal.returns-in_default
 returns-in_default c =
     c.numbered_kind.ensures (not_p c.args.w.now c.in_default-1.rest.1)
-    (not_small c.args.w.now (λ a z. elim c.in_default.branch [ in_default-via-then-this-lt97 w ↦ omega arith | in_default-via-else-this-lt97+else-this-lt123 w ↦ omega arith ]))
+    (not_small c.args.w.now
+    (λ a z. elim c.in_default.branch [
+      | in_default-via-then-this-lt97 w ↦ omega arith
+      | in_default-via-else-this-lt97+else-this-lt123 w ↦ omega arith
+    ]))
