@@ -1,19 +1,19 @@
 -- Each arm is a law of its range; what is left of the hex digits are the lower case ones.
--- none of the other two ranges
 use native.Mathlib.Omega.{arith}
-use mathlib.Core.Logic.{⊎_elim}
+use mathlib.Core.Logic.{◌⊎◌, inl, inr, ⊎_elim}
 use Prim.Native.Nat.{◌≤◌}
 use Rattle.text.proofs.HexDigits.{hex_numeral, hex_upper, lower_hex, hex_lower_lem}
 use Rattle.text.proofs.classes.hex_digit.Goals as goal
 
+-- none of the other two ranges
 lower : (c : goal.In_default) → (0x61 ≤ c.args.b) × (c.args.b ≤ 0x66)
 lower c =
-    lower_hex _ c.requires
-    (λ l h. ⊎_elim (λ w. omega arith) (⊎_elim (λ w. omega arith) (λ w. omega arith)) c.in_default.branch-raw)
-    (λ l h. ⊎_elim (λ w. omega arith) (⊎_elim (λ w. omega arith) (λ w. omega arith)) c.in_default.branch-raw)
+    let neither : ((0x30 ≤ c.args.b) × (c.args.b ≤ 0x39)) ⊎ ((0x41 ≤ c.args.b) × (c.args.b ≤ 0x46)) → ⊥ =
+    λ e. ⊎_elim (λ w. omega (arith, e)) (⊎_elim (λ w. omega (arith, e)) (λ w. omega (arith, e))) c.in_default.branch-raw in
+    lower_hex _ c.requires (λ l h. neither (inl (l, h))) (λ l h. neither (inr (l, h)))
 
 pub overflow_sub-result-in_default : goal.overflow_sub-result-in_default
-overflow_sub-result-in_default c = omega (arith, (lower c))
+overflow_sub-result-in_default c = omega (arith, lower c)
 
 pub returns-in-48-to-57 : goal.returns-in-48-to-57
 returns-in-48-to-57 c = hex_numeral _ (omega arith) (omega arith)

@@ -9,7 +9,11 @@ returns-then-b-le126 c = (
   omega arith,
   λ e. elim c.if-b-le126.either [
     | inl tab ↦ plain_tab_lf _ (omega (arith, tab)) (omega (arith, tab))
-    | inr others ↦ elim others [ inl lf ↦ plain_tab_lf _ (omega (arith, lf.1)) (omega (arith, lf.1)) | inr shown ↦ plain_printing _ (omega (arith, shown)) (omega (arith, shown)) ]
+    | inr others ↦
+        elim others [
+          | inl lf ↦ plain_tab_lf _ (omega (arith, lf.1)) (omega (arith, lf.1))
+          | inr shown ↦ plain_printing _ (omega (arith, shown)) (omega (arith, shown))
+        ]
   ],
 )
 
