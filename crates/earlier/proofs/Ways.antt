@@ -93,49 +93,69 @@ module _ (s : List ℕ) (first : ℕ) (x w : List ℕ) (some : 0 < length x) whe
   search_falls : (cell next : ℕ) (r : Reached s first x w cell) (n : Reached s first x w next) → n.step ≡ r.step + 1 → ahead x w next < ahead x w cell
   search_falls cell next r n e = omega (arith, steps_left cell r, steps_left next n, e, n.way.once)
 
-  -- one step further, past a taken cell with another name, where a cell is free: to the next cell, or from the last one to the first
-  module _ (cell : ℕ) (r : Reached s first x w cell) (taken : first ≤ get_or x cell 0) (other : same (name_at s (get_or x cell 0)) w ≡ false) (c : ℕ)
-      (within : c < length x) (free : get_or x c 0 < first) where
-    taken_on : (j : ℕ) → h ≤ j → j < r.step + 1 → first ≤ start_at x j
-    taken_on j l g =
-        up_to (j + 1) r.step (λ k. r.way.taken j l (omega arith)) (λ k. let e : j ≡ r.step = omega arith in rw (e, says_here cell r) taken)
+-- a cell that was reached is taken, with another name, and a cell is free
+pub record Passed (s : List ℕ) (first : ℕ) (x w : List ℕ) (cell : ℕ) : Type 0 where
+  pub reached : Reached s first x w cell
+  pub taken : first ≤ get_or x cell 0
+  pub other : same (name_at s (get_or x cell 0)) w ≡ false
+  pub vacant : ℕ
+  pub within : vacant < length x
+  pub free : get_or x vacant 0 < first
 
-    others_on : (j : ℕ) → h ≤ j → j < r.step + 1 → same (name_at s (start_at x j)) w ≡ false
-    others_on j l g =
-        up_to (j + 1) r.step (λ k. r.others j l (omega arith)) (λ k. let e : j ≡ r.step = omega arith in rw (e, says_here cell r) other)
+-- one step further: to the next cell, or from the last one to the first
+module _ {s : List ℕ} {first : ℕ} {x w : List ℕ} {cell : ℕ} (p : Passed s first x w cell) where
+  abbrev r : Reached s first x w cell
+  r = p.reached
 
-    not_round : r.step + 1 < h + length x
-    not_round =
-        up_to (r.step + 2) (h + length x) (λ l. omega arith)
-        (λ l. meets (length x) w some c within (λ i f g e. absurd (omega (arith, free, rw e at (taken_on i f (omega (arith, r.way.once)))))))
+  some : 0 < length x
+  some = omega (arith, p.within)
 
-    next_way : OnWay first x w (r.step + 1)
-    next_way = record { from = omega (arith, r.way.from); once = not_round; taken = taken_on }
+  says : start_at x r.step ≡ get_or x cell 0
+  says = says_here s first x w some cell r
 
-    pub search_on : (cell + 1 ≡ length x → ⊥) → Reached s first x w (cell + 1)
-    search_on n = record {
-      step = r.step + 1;
-      way = next_way;
-      is = up_to (length x) r.step
-          (λ l. let e = r.is ∙ around_past (length x) r.step l in sym (around_past (length x) (r.step + 1) (omega arith) ∙ omega (arith, e)))
-          (λ l. let e = r.is ∙ around_here (length x) r.step l in sym (around_here (length x) (r.step + 1) (omega (arith, e, n)) ∙ omega (arith, e)));
-      others = others_on;
-    }
+  begins : home (length x) w < length x
+  begins = home_in (length x) w some
 
-    pub on_fewer : (n : cell + 1 ≡ length x → ⊥) → ahead x w (cell + 1) < ahead x w cell
-    unfolding search_on
-    on_fewer n = search_falls cell (cell + 1) r (search_on n) refl
+  taken_on : (j : ℕ) → home (length x) w ≤ j → j < r.step + 1 → first ≤ start_at x j
+  taken_on j l g =
+      up_to (j + 1) r.step (λ k. r.way.taken j l (omega arith)) (λ k. let e : j ≡ r.step = omega arith in rw (e, says) p.taken)
 
-    pub search_round : cell + 1 ≡ length x → Reached s first x w 0
-    search_round n = record {
-      step = r.step + 1;
-      way = next_way;
-      is = up_to (length x) r.step
-          (λ l. let e = r.is ∙ around_past (length x) r.step l in absurd (omega (arith, e, not_round, home_in (length x) w some)))
-          (λ l. let e = r.is ∙ around_here (length x) r.step l in sym (around_past (length x) (r.step + 1) (omega (arith, e)) ∙ omega (arith, e)));
-      others = others_on;
-    }
+  others_on : (j : ℕ) → home (length x) w ≤ j → j < r.step + 1 → same (name_at s (start_at x j)) w ≡ false
+  others_on j l g =
+      up_to (j + 1) r.step (λ k. r.others j l (omega arith)) (λ k. let e : j ≡ r.step = omega arith in rw (e, says) p.other)
 
-    pub round_fewer : (n : cell + 1 ≡ length x) → ahead x w 0 < ahead x w cell
-    unfolding search_round
-    round_fewer n = search_falls cell 0 r (search_round n) refl
+  not_round : r.step + 1 < home (length x) w + length x
+  not_round =
+      up_to (r.step + 2) (home (length x) w + length x) (λ l. omega arith)
+      (λ l. meets (length x) w some p.vacant p.within (λ i f g e. absurd (omega (arith, p.free, rw e at (taken_on i f (omega (arith, r.way.once)))))))
+
+  next_way : OnWay first x w (r.step + 1)
+  next_way = record { from = omega (arith, r.way.from); once = not_round; taken = taken_on }
+
+  pub search_on : (cell + 1 ≡ length x → ⊥) → Reached s first x w (cell + 1)
+  search_on n = record {
+    step = r.step + 1;
+    way = next_way;
+    is = up_to (length x) r.step
+        (λ l. let e = r.is ∙ around_past (length x) r.step l in sym (around_past (length x) (r.step + 1) (omega arith) ∙ omega (arith, e)))
+        (λ l. let e = r.is ∙ around_here (length x) r.step l in sym (around_here (length x) (r.step + 1) (omega (arith, e, n)) ∙ omega (arith, e)));
+    others = others_on;
+  }
+
+  pub on_fewer : (n : cell + 1 ≡ length x → ⊥) → ahead x w (cell + 1) < ahead x w cell
+  unfolding search_on
+  on_fewer n = search_falls s first x w some cell (cell + 1) r (search_on n) refl
+
+  pub search_round : cell + 1 ≡ length x → Reached s first x w 0
+  search_round n = record {
+    step = r.step + 1;
+    way = next_way;
+    is = up_to (length x) r.step
+        (λ l. let e = r.is ∙ around_past (length x) r.step l in absurd (omega (arith, e, not_round, begins)))
+        (λ l. let e = r.is ∙ around_here (length x) r.step l in sym (around_past (length x) (r.step + 1) (omega (arith, e)) ∙ omega (arith, e)));
+    others = others_on;
+  }
+
+  pub round_fewer : (n : cell + 1 ≡ length x) → ahead x w 0 < ahead x w cell
+  unfolding search_round
+  round_fewer n = search_falls s first x w some cell 0 r (search_round n) refl

@@ -1,12 +1,10 @@
 -- The names of a marker's traits so far, by where they start in the sheet, and an index that finds one.
 -- Document 02, Six: no two traits of one Concept have the same name.
-use Rattle.std.specs.Prelude.{ℕ, suc, ◌+◌, ◌-◌, ◌*◌, ◌/◌, ◌≤◌, ◌<◌, ◌≡◌, true, false, List, [], ◌∷◌, length, drop, get_or, leb, ltb}
+use Rattle.std.specs.Prelude.{ℕ, suc, ◌+◌, ◌-◌, ◌*◌, ◌/◌, ◌≤◌, ◌<◌, ◌≡◌, true, false, Option, None, Some, List, [], ◌∷◌, length, drop, get_or, leb, ltb}
 use Rattle.paper.specs.Found.{pick}
 use Rattle.paper.specs.Bytes.{same, all, is_name_byte}
 use Rattle.paper.specs.Names.{run, among}
 use Rattle.names.specs.Runs.{key_limit, key_of}
-use Rattle.earlier.specs.declared.Sought.{Sought}
-use Rattle.earlier.specs.declared.Sought.TheVariants.{Again, New}
 
 -- the name that stands at a place
 abbrev pub name_at : List ℕ → ℕ → List ℕ
@@ -58,9 +56,9 @@ pub record Ready (s : List ℕ) (first : ℕ) (x : List ℕ) (key : ℕ) (w : Li
   pub free : get_or x cell 0 < first
 
 -- what a search answers
-abbrev pub Seeks : List ℕ → ℕ → List ℕ → List ℕ → Sought → Type 0
-Seeks s first x w Again = Held s first x w
-Seeks s first x w (New cell) = Reached s first x w cell × (get_or x cell 0 < first)
+abbrev pub Seeks : List ℕ → ℕ → List ℕ → List ℕ → Option ℕ → Type 0
+Seeks s first x w None = Held s first x w
+Seeks s first x w (Some cell) = Reached s first x w cell × (get_or x cell 0 < first)
 
 -- ---- what is known of the names so far
 

@@ -18,16 +18,11 @@ pub const SHORT_CELLS: usize = 128;
 
 pub const SHORT: usize = 256;
 
-// Where a name was sought: a trait has it, or it is a new one, which goes to this cell.
-#[derive(Clone, Copy)]
-pub enum Sought {
-    Again,
-    New { cell: usize },
-}
-
-// Seeks a name with this key among those of a marker's traits. The marker begins before `first`, and all of its traits start behind: a cell that has a
-// lower number is free, since it is zero, or has the start of an earlier marker's trait. So an index is zero once, for a whole sheet.
-pub fn seek(s: &[u8], first: usize, index: &[u16], key: usize, name: &[u8]) -> Sought
+// Seeks a name with this key among those of a marker's traits: none where a trait has it, and else the cell that a new name goes to. The
+// marker begins before `first`, and all of its traits start behind: a cell that has a lower number is free, since it is zero, or has the
+// start of an earlier marker's trait. So an index is zero once, for a whole sheet.
+// What ends the loop is a free cell, and no count of cells, so that a `for` over them would have an end that is never come to.
+pub fn seek(s: &[u8], first: usize, index: &[u16], key: usize, name: &[u8]) -> Option<usize>
     requires { Ready s.now first index.now key name.now }
     ensures { Seeks s.now first index.now name.now result }
 {
@@ -36,10 +31,10 @@ pub fn seek(s: &[u8], first: usize, index: &[u16], key: usize, name: &[u8]) -> S
     loop {
         let start = index[cell] as usize;
         if start < first {
-            return Sought::New { cell };
+            return Some(cell);
         }
         if is_named(s, start, name) {
-            return Sought::Again;
+            return None;
         }
         cell += 1;
         if cell == size {
@@ -53,9 +48,6 @@ fn is_named(s: &[u8], start: usize, name: &[u8]) -> bool
     requires { (start + length name.now < length s.now) × (0 < length name.now) × (all is_name_byte name.now ≡ true) }
     ensures { result ≡ same (name_at s.now start) name.now }
 {
-    if s[start] != name[0] {
-        return false;
-    }
     let end = start + name.len();
-    same(&s[start..end], name) && !is_name_byte(s[end])
+    s[start] == name[0] && same(&s[start..end], name) && !is_name_byte(s[end])
 }

@@ -1,18 +1,19 @@
 -- The entry that stands at a number: what is read from the cells, and that it is the one which was laid there. Over plain lists. Assumes nothing.
-use Prim.Native.Nat.{ℕ, zero, suc, ◌+◌, ◌*◌, ◌≤◌, ◌<◌}
+use Prim.Native.Nat.{ℕ, zero, suc, ◌+◌, ◌*◌, ◌/◌, ◌≤◌, ◌<◌}
 use mathlib.Core.Path.{◌≡◌, refl, sym, ap, ◌∙◌}
 use mathlib.Core.Bool.{Bool, true, ◌&&◌}
 use mathlib.Core.List.{List, [], ◌∷◌, ◌++◌, append_assoc}
-use native.Mathlib.Nat.{add-zero}
 use native.Mathlib.Omega.{arith}
 use lib.ListN.{length, take, drop, get_or, length-drop}
-use lib.Seq.{sets-eq, length-take-le, drop_at, drop-append-add, drop-cons, get_or-drop}
+use lib.Seq.{sets-eq, length-take-le, drop_at, drop-append-add, drop-cons, get_or-take, get_or-drop}
 use lib.Dec.{leb}
 use borrow.Author.Tests.{leb-true, le-leb, lt-leb}
+use Rattle.std.specs.Simd.{first_chunks}
 use Rattle.paper.specs.Entries.{Entry, entry_cells, cells_of, all_cells, unnamed}
 use Rattle.paper.specs.View.{cell_of, viewable}
 use Rattle.paper.proofs.Lists.{both}
 use Rattle.entries.specs.Laid.{lay, cells_at, entry_at}
+use Rattle.entries.proofs.Rows.{row_at}
 use Rattle.entries.proofs.Laying.{lay_before, lay_length}
 
 -- ---- the cells of an entry
@@ -36,24 +37,42 @@ module _ (cells : List ℕ) (n : ℕ) where
       let held : whole ≡ true = (both whole _ (both (whole && _) _ (both (whole && _ && _) _ v).0).0).0 in
       at_cells (omega (arith, leb-true (entry_cells * suc n) (length cells) held))
 
-  turned : n * entry_cells ≡ entry_cells * n
-  turned = omega arith
-
-  -- the eight cells as they are read
-  pub at_read : suc n * entry_cells ≤ length cells → record {
-    kind = get_or cells (n * entry_cells) 0;
-    form = get_or cells (n * entry_cells + 1) 0;
-    parent = get_or cells (n * entry_cells + 2) 0;
-    count = get_or cells (n * entry_cells + 3) 0;
-    name_start = get_or cells (n * entry_cells + 4) 0;
-    name_end = get_or cells (n * entry_cells + 5) 0;
-    start = get_or cells (n * entry_cells + 6) 0;
-    end = get_or cells (n * entry_cells + 7) 0;
-  } ≡ entry_at cells n
-  at_read h = rw (at_cells h, turned, add-zero (entry_cells * n))
-
   cell_behind : (i : ℕ) → cell_of cells n i ≡ get_or (drop (n * entry_cells) cells) i 0
-  cell_behind i = rw (get_or-drop (n * entry_cells) cells i 0, turned)
+  cell_behind i =
+      let turned : n * entry_cells ≡ entry_cells * n = omega arith in
+      rw (get_or-drop (n * entry_cells) cells i 0, turned)
+
+  -- the row at its number, as it is read
+  module _ (row : List ℕ) (h : n < length cells / entry_cells)
+      (is : row ≡ get_or (first_chunks entry_cells (length cells / entry_cells) cells) n row) where
+    cell_read : (i : ℕ) → i < entry_cells → get_or row i 0 ≡ cell_of cells n i
+    cell_read i l =
+        let there = is ∙ row_at entry_cells (length cells / entry_cells) cells n row h in
+        rw there (get_or-take entry_cells (drop (n * entry_cells) cells) i 0 l) ∙ sym (cell_behind i)
+
+    pub at_read : record {
+      kind = get_or row 0 0;
+      form = get_or row 1 0;
+      parent = get_or row 2 0;
+      count = get_or row 3 0;
+      name_start = get_or row 4 0;
+      name_end = get_or row 5 0;
+      start = get_or row 6 0;
+      end = get_or row 7 0;
+    } ≡ entry_at cells n
+    at_read =
+        let k : (i : ℕ) → i < entry_cells → get_or row i 0 ≡ cell_of cells n i = cell_read in
+        rw (
+          at_cells (omega arith),
+          k 0 (omega arith),
+          k 1 (omega arith),
+          k 2 (omega arith),
+          k 3 (omega arith),
+          k 4 (omega arith),
+          k 5 (omega arith),
+          k 6 (omega arith),
+          k 7 (omega arith),
+        )
 
   -- what stands at the entry's number, whatever is behind it
   pub at_drop : (e : Entry) (es : List Entry) (rest : List ℕ) → drop (n * entry_cells) cells ≡ all_cells (e ∷ es) ++ rest → entry_at cells n ≡ e

@@ -1,5 +1,5 @@
 -- Laws of cells and the entries that are laid in them.
-pub mod Zeros
+pub mod Rows
 pub mod Laying
 pub mod Getting
 pub mod Slots

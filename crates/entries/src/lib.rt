@@ -14,9 +14,9 @@ pub const CELLS: usize = 8;
 pub const LIMIT: usize = 1024;
 
 // The parent of what stands at the top.
-pub const TOP: u32 = 4294967295;
+pub const TOP: u32 = u32::MAX;
 
-#[derive(Clone, Copy)]
+#[derive(Clone, Copy, Default)]
 pub struct Entry {
     pub kind: u32,
     pub form: u32,
@@ -32,8 +32,7 @@ pub struct Entry {
 pub fn room(lent: usize) -> usize
     ensures { result ≡ room_of lent }
 {
-    let whole = lent / CELLS;
-    if LIMIT < whole { LIMIT } else { whole }
+    (lent / CELLS).min(LIMIT)
 }
 
 // An entry without a name.
@@ -52,39 +51,57 @@ pub fn nameless(kind: u32, form: u32, parent: u32, count: u32, start: u32, end: 
     }
 }
 
+// Writes row number `n` of rows that take N cells each. It is written number by number: `copy_from_slice` would first ask whether the two
+// overlap, which is five instructions more for each row.
+pub fn lay<const N: usize>(cells: &mut [u32], n: usize, row: [u32; N])
+    requires { suc n * N ≤ length cells.old }
+    ensures { cells.new ≡ sets cells.old (n * N) row.entry }
+{
+    let at = n * N;
+    for i in 0..N {
+        cells[at + i] = row[i];
+    }
+}
+
 // Writes entry number `n`.
 pub fn put(cells: &mut [u32], n: usize, e: Entry)
     requires { suc n * entry_cells ≤ length cells.old }
     ensures { cells.new ≡ lay cells.old n (entry_of e ∷ []) }
 {
-    let at = n * CELLS;
-    cells[at] = e.kind;
-    cells[at + 1] = e.form;
-    cells[at + 2] = e.parent;
-    cells[at + 3] = e.count;
-    cells[at + 4] = e.name_start;
-    cells[at + 5] = e.name_end;
-    cells[at + 6] = e.start;
-    cells[at + 7] = e.end;
+    lay(
+        cells,
+        n,
+        [
+            e.kind,
+            e.form,
+            e.parent,
+            e.count,
+            e.name_start,
+            e.name_end,
+            e.start,
+            e.end,
+        ],
+    );
 }
 
 // Entry number `n`, or one of kind 0 where it does not lie wholly in the cells.
 pub fn get(cells: &[u32], n: usize) -> Entry
     ensures { entry_of result ≡ entry_at cells.now n }
 {
-    if cells.len() / CELLS <= n {
-        return nameless(0, 0, 0, 0, 0, 0);
-    }
-    let at = n * CELLS;
+    let (rows, _) = cells.as_chunks::<CELLS>();
+    let Some(row) = rows.get(n) else {
+        return Entry::default();
+    };
+    let [kind, form, parent, count, name_start, name_end, start, end] = *row;
     Entry {
-        kind: cells[at],
-        form: cells[at + 1],
-        parent: cells[at + 2],
-        count: cells[at + 3],
-        name_start: cells[at + 4],
-        name_end: cells[at + 5],
-        start: cells[at + 6],
-        end: cells[at + 7],
+        kind,
+        form,
+        parent,
+        count,
+        name_start,
+        name_end,
+        start,
+        end,
     }
 }
 
@@ -93,11 +110,7 @@ pub fn zero_from(cells: &mut [u32], at: usize)
     requires { at ≤ length cells.old }
     ensures { cells.new ≡ sets cells.old at (replicate (length cells.old - at) 0) }
 {
-    let mut i = at;
-    while i < cells.len() {
-        cells[i] = 0;
-        i += 1;
-    }
+    cells[at..].fill(0);
 }
 
 // Where the next entry goes: its number, how many there is room for in all, and its parent.
@@ -123,8 +136,7 @@ impl Slot {
     {
         Slot {
             next: self.next + made,
-            room: self.room,
-            parent: self.parent,
+            ..self
         }
     }
 
@@ -135,8 +147,8 @@ impl Slot {
     {
         Slot {
             next: self.next + 1,
-            room: self.room,
             parent: self.next as u32,
+            ..self
         }
     }
 }

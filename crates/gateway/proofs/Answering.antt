@@ -6,7 +6,11 @@ use mathlib.Core.Bool.{true}
 use lib.ListN.{length}
 use borrow.Author.Tests.{leb-true}
 use native.Mathlib.Omega.{arith}
-use Rattle.paper.specs.Answer.{Told}
+use Rattle.std.specs.Prelude.{Ok, Err}
+use Rattle.paper.specs.Answer.{Answer, number_of, told}
+use Rattle.paper.specs.declared.Accepted.{Accepted}
+use Rattle.paper.specs.declared.Refused.{Refused}
+use Rattle.paper.specs.declared.Told.{Told}
 use Rattle.paper.specs.Modes.{read_table}
 use Rattle.paper.specs.Entries.{Entry}
 use Rattle.paper.specs.View.{viewable, view_answer}
@@ -15,6 +19,7 @@ use Rattle.paper.specs.Reading.{Reading, reading}
 use Rattle.paper.specs.Canonical.{canonical}
 use Rattle.paper.specs.Writing.{Begun, tree, unread, begin, Writing, form_fits, write_form, writing}
 use Rattle.paper.proofs.Tests.{split}
+use Rattle.paper.proofs.Numbers.{number_positive}
 use Rattle.entries.specs.Laid.{entry_at}
 use Rattle.entries.proofs.Getting.{at_viewed}
 use Rattle.gateway.specs.Answers.{Few, three_of, view_of}
@@ -60,21 +65,22 @@ form_told table s lent out t after cells answer e told =
 
 -- ---- a view
 
-module _ (s cells : List ℕ) (n : ℕ) (told : Told) (asked : told ≡ view_answer s cells n) (number : ℕ) (same : number ≡ told.number) where
-  is_told : number ≡ (view_answer s cells n).number
-  is_told = same ∙ ap (λ (t : Told). t.number) asked
-
-  pub view_refused : (number ≡ 0 → ⊥) → number ∷ 0 ∷ 0 ∷ [] ≡ view_of s cells n
+module _ (s cells : List ℕ) (n : ℕ) (r : Answer) (asked : told r ≡ view_answer s cells n) where
+  pub view_refused : (e : Refused) → r ≡ Err e → (number : ℕ) → number ≡ number_of e.refusal → number ∷ 0 ∷ 0 ∷ [] ≡ view_of s cells n
   unfolding view_of view_answer
-  view_refused h =
+  view_refused e is number same =
+      let number_is : number ≡ (view_answer s cells n).number = same ∙ ap (λ (t : Told). t.number) (ap told (sym is) ∙ asked) in
       split (viewable s cells n)
-      (λ v. absurd (h (is_told ∙ rw (v, view_answer))))
-      (λ v. rw (v, view_of) (ap (λ (k : ℕ). k ∷ 0 ∷ 0 ∷ []) (is_told ∙ rw (v, view_answer))))
+      (λ v. absurd (number_positive e.refusal (sym same ∙ number_is ∙ rw (v, view_answer))))
+      (λ v. rw (v, view_of) (ap (λ (k : ℕ). k ∷ 0 ∷ 0 ∷ []) (number_is ∙ rw (v, view_answer))))
 
-  module _ (h : number ≡ 0) where
+  module _ (a : Accepted) (is : r ≡ Ok a) where
     can_view : viewable s cells n ≡ true
     unfolding view_answer
-    can_view = split (viewable s cells n) (λ v. v) (λ v. let z : 17 ≡ 0 = sym (is_told ∙ rw (v, view_answer)) ∙ h in absurd (omega arith))
+    can_view =
+        split (viewable s cells n) (λ v. v)
+        (λ v. let seventeen : (view_answer s cells n).number ≡ 17 = rw (v, view_answer) in
+        let z : 0 ≡ 17 = ap (λ (t : Told). t.number) (ap told (sym is) ∙ asked) ∙ seventeen in absurd (omega arith))
 
     pub view_told : (e : Entry) → e ≡ entry_at cells n → 0 ∷ e.start ∷ e.end ∷ [] ≡ view_of s cells n
     unfolding view_of

@@ -8,7 +8,7 @@ use lib.ListN.{length, take, length-append, length-replicate}
 use lib.Dec.{leb, ltb}
 use borrow.Author.Tests.{leb-true, lt-ltb, le-ltb, ltb-false}
 use native.Mathlib.Omega.{arith}
-use Rattle.paper.specs.Answer.{Told}
+use Rattle.paper.specs.declared.Told.{Told}
 use Rattle.paper.specs.Found.{Found, found, fault}
 use Rattle.paper.specs.Bytes.{lf}
 use Rattle.paper.specs.Modes.{Modes, mode_table, read_table}

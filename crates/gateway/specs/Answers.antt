@@ -1,7 +1,7 @@
 -- Answers for C: three numbers each.
 -- Document 01, the answers of "Order" and the value view.
 use Rattle.std.specs.Prelude.{ℕ, ◌<◌, ◌^◌, true, false, List, [], ◌∷◌}
-use Rattle.paper.specs.Answer.{Told}
+use Rattle.paper.specs.declared.Told.{Told}
 use Rattle.paper.specs.View.{span_start, span_end, viewable}
 
 -- every number of an answer is one of 32 bits

@@ -10,7 +10,7 @@ ghost use Rattle.gateway.specs.Promises.{TellsTable, TellsSheet, TellsView, Tell
 
 use entries::get;
 use layout::write;
-use paper::Answer;
+use paper::{Answer, Told};
 use sheets::{read, view_answer};
 use times::kinds::value_kind;
 
@@ -36,9 +36,8 @@ pub extern "C" fn cdx_sheet(table: &[u8], sheet: &[u8], cells: &mut [u32], answe
 pub extern "C" fn cdx_view(sheet: &[u8], cells: &[u32], entry: u64, answer: &mut [u32; 3])
     ensures { TellsView sheet.now cells.now entry answer.new }
 {
-    let number = view_answer(sheet, cells, entry as usize).number();
-    if number != 0 {
-        *answer = [number, 0, 0];
+    if let Err(refused) = view_answer(sheet, cells, entry as usize) {
+        *answer = [refused.refusal.into(), 0, 0];
         return;
     }
     let laid = get(cells, entry as usize);
@@ -50,7 +49,10 @@ pub extern "C" fn cdx_view(sheet: &[u8], cells: &[u32], entry: u64, answer: &mut
 pub extern "C" fn cdx_time(value: &[u8]) -> u32
     ensures { TellsTime value.now result }
 {
-    value_kind(value)
+    match value_kind(value) {
+        Some(kind) => kind.number(),
+        None => 0,
+    }
 }
 
 // Writes the canonical form of a sheet that reads without refusal to the room lent, and leaves all behind it as it came; a refusal
@@ -108,5 +110,6 @@ fn tell(given: Answer, answer: &mut [u32; 3])
     requires { Few (told given) }
     ensures { answer.new ≡ three_of (told given) }
 {
-    *answer = [given.number(), given.place() as u32, given.count() as u32];
+    let given = Told::from(given);
+    *answer = [given.number, given.place as u32, given.count as u32];
 }

@@ -7,10 +7,9 @@ use native.Mathlib.Omega.{arith}
 use native.Mathlib.Nat.{zero-add}
 use lib.ListN.{length, take, drop}
 use lib.Seq.{take_at, drop_at}
-use Rattle.paper.specs.declared.Answer.{Answer}
-use Rattle.paper.specs.declared.Answer.TheVariants.{Accepted, Refused}
+use Rattle.std.specs.Prelude.{Ok, Err}
 use Rattle.paper.specs.declared.Refusal.{Refusal}
-use Rattle.paper.specs.Answer.{accepted}
+use Rattle.paper.specs.Answer.{Answer, accepted_at, refused_at, accepted}
 use Rattle.paper.specs.Modes.{Modes, ValidTable}
 use Rattle.paper.specs.Tree.{Sheet}
 use Rattle.paper.specs.Grammar.{Derives}
@@ -20,7 +19,7 @@ use Rattle.paper.specs.Reading.{room_of, Reading}
 use Rattle.paper.specs.Canonical.{meaning, canonical}
 use Rattle.paper.specs.Writing.{Begun, tree, unread, begin, Writing, written_at, form_fits, write_form, writing}
 use Rattle.paper.proofs.Tests.{split}
-use Rattle.paper.proofs.Told.{number_positive, told_injective}
+use Rattle.paper.proofs.Numbers.{number_positive, told_injective}
 use Rattle.paper.proofs.Tables.{table_exactly}
 use Rattle.paper.proofs.Beginning.{Sound, Begins, begins, reads_tree}
 use Rattle.paper.proofs.Meant.{again}
@@ -42,17 +41,17 @@ pub record SameTree (table sheet form : List ℕ) (lent : ℕ) (r r' : Answer) (
   pub back : Sheet
   pub derives_back : Derives modes form back
   pub means : meaning back ≡ meaning tree
-  pub reads : (r ≡ Accepted (length sheet) (length (entries tree))) × (cells ≡ filled lent (entries tree))
-  pub reads_back : (r' ≡ Accepted (length form) (length (entries back))) × (cells' ≡ filled lent (entries back))
+  pub reads : (r ≡ Ok (accepted_at (length sheet) (length (entries tree)))) × (cells ≡ filled lent (entries tree))
+  pub reads_back : (r' ≡ Ok (accepted_at (length form) (length (entries back)))) × (cells' ≡ filled lent (entries back))
   pub shapes : map shape (entries back) ≡ map shape (entries tree)
   pub tell : AllTell sheet (entries tree) (senses (meaning tree))
   pub tell_back : AllTell form (entries back) (senses (meaning tree))
 
 reads_as : {table s : List ℕ} {lent : ℕ} {t : Sheet} → Sound table s lent t → (r : Answer) (cells : List ℕ) → ReadsSheet table s lent r cells
-    → (r ≡ Accepted (length s) (length (entries t))) × (cells ≡ filled lent (entries t))
+    → (r ≡ Ok (accepted_at (length s) (length (entries t)))) × (cells ≡ filled lent (entries t))
 reads_as {table} {s} {lent} {t} h r cells e =
     let q = e ∙ reads_tree h in
-    (told_injective r (Accepted (length s) (length (entries t))) (ap (λ (x : Reading). x.answer) q), ap (λ (x : Reading). x.cells) q)
+    (told_injective r (Ok (accepted_at (length s) (length (entries t)))) (ap (λ (x : Reading). x.answer) q), ap (λ (x : Reading). x.cells) q)
 
 -- the form of a tree reads to a tree of the same meaning
 same_tree : (table sheet : List ℕ) (lent : ℕ) (t : Sheet) → Sound table sheet lent t → length (canonical t) ≤ sheet_limit
@@ -82,7 +81,7 @@ behind : (lent : ℕ) (out w : List ℕ) (k : ℕ) → length w ≡ k → drop k
 behind lent out w k e = drop_at w _ k e ∙ ap (λ (n : ℕ). drop n out) (zero-add (length w) ∙ e)
 
 -- `write` accepted the sheet with a count of k, and left the output as `after`
-module _ (table sheet : List ℕ) (lent : ℕ) (out : List ℕ) (k : ℕ) (after cells : List ℕ) (e : WritesSheet table sheet lent out (Accepted 0 k) after cells) where
+module _ (table sheet : List ℕ) (lent : ℕ) (out : List ℕ) (k : ℕ) (after cells : List ℕ) (e : WritesSheet table sheet lent out (Ok (accepted_at 0 k)) after cells) where
   accepts : (writing table sheet lent out).answer ≡ accepted 0 k
   accepts = sym (ap (λ (x : Writing). x.answer) e)
 
@@ -108,18 +107,18 @@ module _ (table sheet : List ℕ) (lent : ℕ) (out : List ℕ) (k : ℕ) (after
 
   -- written again, into any room that is large enough, they are the same, and every byte behind them is as it came
   pub write_fixed : (other : List ℕ) (r' : Answer) (after' cells' : List ℕ) → k ≤ length other → WritesSheet table (take k after) lent other r' after' cells'
-      → (r' ≡ Accepted 0 k) × (take k after' ≡ take k after) × (drop k after' ≡ drop k other)
+      → (r' ≡ Ok (accepted_at 0 k)) × (take k after' ≡ take k after) × (drop k after' ≡ drop k other)
   write_fixed other r' after' cells' l f =
       let q = f ∙ subst (λ (o : List ℕ). writing table (take k o) lent other ≡ written_at lent other 0 (take k o)) (sym (ap (λ (x : Writing). x.out) e))
       (canonical_fixed table sheet lent out k other accepts l) in (
-        told_injective r' (Accepted 0 k) (ap (λ (x : Writing). x.answer) q ∙ ap (accepted 0) (zero-add (length (take k after)) ∙ size)),
+        told_injective r' (Ok (accepted_at 0 k)) (ap (λ (x : Writing). x.answer) q ∙ ap (accepted 0) (zero-add (length (take k after)) ∙ size)),
         ap (λ (x : Writing). take k x.out) q ∙ take_at (take k after) _ k size,
         ap (λ (x : Writing). drop k x.out) q ∙ behind lent other (take k after) k size,
       )
 
 -- a refusal leaves the output as it came
 pub write_refused_keeps : (table sheet : List ℕ) (lent : ℕ) (out : List ℕ) (why : Refusal) (place : ℕ) (after cells : List ℕ)
-    → WritesSheet table sheet lent out (Refused why place) after cells → after ≡ out
+    → WritesSheet table sheet lent out (Err (refused_at why place)) after cells → after ≡ out
 unfolding writing write_form
 write_refused_keeps table sheet lent out why place after cells e = by_tree (begin table sheet lent) refl
   where

@@ -2,9 +2,9 @@
 use Prim.Native.Nat.{ℕ}
 use mathlib.Core.Path.{◌≡◌, sym, ap, ◌∙◌}
 use mathlib.Core.List.{List}
+use Rattle.paper.specs.Answer.{Answer}
 use Rattle.paper.specs.Writing.{Writing}
-use Rattle.paper.specs.declared.Answer.{Answer}
-use Rattle.paper.proofs.Told.{told_injective}
+use Rattle.paper.proofs.Numbers.{told_injective}
 use Rattle.layout.specs.Promises.{WritesSheet}
 
 pub one_answer_layout_write : (table sheet : List ℕ) (lent : ℕ) (out : List ℕ) (r r' : Answer) (after after' cells cells' : List ℕ)

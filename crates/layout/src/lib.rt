@@ -5,12 +5,12 @@
 ghost use Rattle.std.specs.Prelude.{◌≡◌, min, length};
 ghost use Rattle.paper.specs.Answer.{told};
 ghost use Rattle.paper.specs.Limits.{sheet_limit};
-ghost use Rattle.layout.specs.Promises.{WritesSheet, FormWritten};
+ghost use Rattle.layout.specs.Promises.{WritesSheet, WritesUnder, FormWritten};
 
 use entries::{CELLS, zero_from};
-use paper::{Answer, Refusal};
+use modes::Modes;
+use paper::{Accepted, Answer, Refusal};
 use printing::concepts::put_sheet;
-use quoting::page::put;
 use sheets::read_under;
 use text::utf8::Cursor;
 
@@ -21,20 +21,29 @@ pub fn write(table: &[u8], sheet: &[u8], cells: &mut [u32], out: &mut [u8]) -> A
         result out.new cells.new }
 {
     let mut index = [0; modes::index::CELLS];
-    let modes = modes::read_into(table, &mut index);
-    let Answer::Accepted { place: _, count: _ } = modes else {
-        zero_from(cells, 0);
-        return modes;
+    let answer = match modes::read_into(table, &mut index) {
+        Ok(_) => write_under(
+            Modes {
+                table,
+                index: &index,
+            },
+            sheet,
+            cells,
+            out,
+        ),
+        refused => refused,
     };
-    let reading = read_under(table, sheet, cells, &index);
-    let Answer::Accepted { place: _, count } = reading else {
-        zero_from(cells, 0);
-        return reading;
-    };
-    let end = count * CELLS;
-    let answer = write_form(sheet, &cells[..end], out);
     zero_from(cells, 0);
     answer
+}
+
+// Writes the form under a table that is in order. What it leaves in the cells is not told.
+fn write_under(modes: Modes, sheet: &[u8], cells: &mut [u32], out: &mut [u8]) -> Answer
+    ensures { WritesUnder modes.entry.table.now sheet.now (length cells.old) out.old (told result) out.new }
+{
+    let read = read_under(modes, sheet, cells)?;
+    let end = read.count * CELLS;
+    write_form(sheet, &cells[..end], out)
 }
 
 // Writes the canonical form of the sheet that has just these entries. It is laid out on a page first, so that nothing is written where it
@@ -45,31 +54,18 @@ pub fn write_form(sheet: &[u8], cells: &[u32], out: &mut [u8]) -> Answer
     let mut form = [0; Cursor::LIMIT];
     let end = put_sheet(&mut form, sheet, cells);
     if room(out.len()) < end {
-        return no_room();
+        return Err(Refusal::NoRoom.at(0));
     }
-    put(out, 0, &form[..end]);
-    Answer::Accepted {
+    out[..end].copy_from_slice(&form[..end]);
+    Ok(Accepted {
         place: 0,
         count: end,
-    }
+    })
 }
 
 // The longest form that is written where so many bytes are lent.
 fn room(lent: usize) -> usize
     ensures { result ≡ min lent sheet_limit }
 {
-    if lent < Cursor::LIMIT {
-        lent
-    } else {
-        Cursor::LIMIT
-    }
-}
-
-fn no_room() -> Answer
-    ensures { result ≡ Answer.Refused Refusal.NoRoom 0 }
-{
-    Answer::Refused {
-        refusal: Refusal::NoRoom,
-        place: 0,
-    }
+    lent.min(Cursor::LIMIT)
 }

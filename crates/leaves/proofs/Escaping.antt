@@ -10,8 +10,13 @@ use lib.ListN.{length, get_or, take, drop, length-take, length-drop, drop_of_len
 use lib.Seq.{drop-drop, length-take-le}
 use lib.Dec.{eqb}
 use borrow.Author.Tests.{ne_eqb}
+use Rattle.std.specs.Prelude.{Result}
+use Rattle.std.specs.Bool.{then_some}
+use Rattle.std.specs.Option.{ok_or}
+use Rattle.paper.specs.declared.Refused.{Refused}
 use Rattle.paper.specs.declared.Refusal.TheVariants.{Value}
-use Rattle.paper.specs.Found.{Found, fault, pick}
+use Rattle.paper.specs.Answer.{refused_at}
+use Rattle.paper.specs.Found.{Found, fault}
 use Rattle.paper.specs.Bytes.{byte, bytes, within, is_hex, all, starts_with, length_in}
 use Rattle.paper.specs.Values.{Piece, escaped, four, braces, spells_scalar, piece_rule}
 use Rattle.paper.specs.ReadingValues.{judged, four_digits, braced_digits, escape}
@@ -21,17 +26,17 @@ use Rattle.paper.proofs.Pieces.{judged_keeps, judged_breaks, four_there, four_cu
 use Rattle.paper.proofs.Pieces.{braced_cut, braced_closed, braced_not, escape_four, escape_braces, escape_letter}
 use Rattle.text.proofs.Places.{here}
 use Rattle.text.proofs.Stretch.{Stretch, front_at, behind_none, behind_some}
-use Rattle.leaves.specs.declared.judged.Judged.{Judged}
-use Rattle.leaves.specs.Shown.{Judges, no_form}
+use Rattle.leaves.specs.Shown.{Ends, no_form}
 use Rattle.leaves.proofs.Showing.{finds, no_value}
 use Rattle.leaves.proofs.Runs.{all_front}
 
 -- ---- an escape that is judged by its rule
 
 pub by_rule : (quote : ℕ) (s : List ℕ) (at end : ℕ) (p : Piece) (x : Found Piece) → at < end → end ≤ length s → x ≡ judged quote (drop at s) p (drop end s)
-    → (holds : Bool) → holds ≡ piece_rule quote p → (r : Judged) → r ≡ pick holds (Judged.Found 0 end) (Judged.Refused Value at) → Judges no_form s at x r
-by_rule quote s at end p x h k e true t r q = rw q (finds no_form s at x 0 end p h k refl (e ∙ judged_keeps quote (drop at s) p (drop end s) (sym t)))
-by_rule quote s at end p x h k e false t r q = no_value no_form s at x r at q (omega arith) (e ∙ judged_breaks quote (drop at s) p (drop end s) (sym t))
+    → (holds : Bool) → holds ≡ piece_rule quote p → (r : Result ℕ Refused) → (w : Refused) → w ≡ refused_at Value at → r ≡ ok_or (then_some holds end) w → Ends s at x r
+by_rule quote s at end p x h k e true t r w v q = rw q (finds no_form s at x end p h k refl (e ∙ judged_keeps quote (drop at s) p (drop end s) (sym t)))
+by_rule quote s at end p x h k e false t r w v q =
+    rw q (no_value no_form s at x w at v (omega arith) (e ∙ judged_breaks quote (drop at s) p (drop end s) (sym t)))
 
 -- ---- hex digits
 

@@ -1,50 +1,43 @@
 -- Words by their first byte: which kinds can fit, and tokens. Over plain lists. Assumes nothing.
 -- Document 01, "The grammar", Values.
-use Prim.Native.Nat.{ℕ, ◌+◌, ◌≤◌, ◌<◌}
-use mathlib.Core.Path.{◌≡◌, refl, sym, ◌∙◌}
-use mathlib.Core.Bool.{Bool, true, false, ◌||◌}
+use Prim.Native.Nat.{ℕ, ◌≤◌, ◌<◌}
+use mathlib.Core.Path.{◌≡◌, refl, sym, ap, ◌∙◌}
+use mathlib.Core.Bool.{true, false, ◌||◌}
 use mathlib.Core.List.Memᴰ.{head as first}
 use mathlib.Core.List.Memᴰ.{tail as later}
 use mathlib.Core.List.{List, [], ◌∷◌, Memᴰ as Among}
 use mathlib.Core.Logic.{◌⊎◌, inl, inr, ⊎_elim}
 use native.Mathlib.Omega.{arith}
-use lib.ListN.{length, get_or, drop, length-drop, drop_of_length-le}
+use lib.ListN.{length, get_or}
 use lib.Dec.{eqb}
-use borrow.Author.Tests.{eqb-true, eqb-false, eq-eqb, ne_eqb}
+use borrow.Author.Tests.{eqb-true, eq-eqb}
 use Rattle.paper.specs.Found.{pick}
 use Rattle.paper.specs.Bytes.{byte, bytes, within, is_upper, is_lower, is_digit, is_letter, is_name_byte, is_hex, elem, same, starts_in, length_in}
 use Rattle.paper.specs.Values.{is_token, is_uuid, is_iri, word_form}
-use Rattle.paper.proofs.Tests.{split, true_false, either, in_range}
+use Rattle.paper.proofs.Tests.{true_false, either, in_range, up_to}
 use Rattle.paper.proofs.WordKinds.{Kind, boolean, integer, decimal, scientific, fraction, pascal, camel, uuid, iri}
 use Rattle.paper.proofs.WordKinds.{fits, form_of, first_form, kinds, word_form_lem, by_kind, digit_or, hex_dash, beginning, kind_first, by_first}
-use Rattle.text.proofs.Places.{here}
+use Rattle.text.proofs.Places.{part_rest}
+use Rattle.leaves.proofs.Runs.{starts_first, from}
+use Rattle.leaves.proofs.Integers.{one_of_two}
 use Rattle.leaves.specs.Kinds.{number_form, is_named, lettered_form, numeral_form}
 use Rattle.paper.proofs.Lists.{all_run}
 
 -- ---- tokens
 
-module _ (low high : ℕ) (w : List ℕ) where
-  pub token_short : length w < 2 → false ≡ is_named low high (drop 1 w)
-  unfolding is_named starts_in
-  token_short h = let k : length w ≤ 1 = omega arith in rw (drop_of_length-le w k)
+pub named_empty : (low high : ℕ) (w : List ℕ) → length w < 1 → false ≡ is_named low high w
+unfolding is_named starts_in
+named_empty low high [] h = refl
+named_empty low high (b ∷ w) h = absurd (omega arith)
 
-  module _ (h : 2 ≤ length w) where
-    behind_sign : drop 1 w ≡ get_or w 1 0 ∷ drop 2 w
-    behind_sign = here w 1 (omega arith)
+module _ (low high : ℕ) (w : List ℕ) (h : 1 ≤ length w) where
+  pub named_other : within low high (get_or w 0 0) ≡ false → false ≡ is_named low high w
+  unfolding is_named
+  named_other e = rw (starts_first (within low high) w h, e)
 
-    pub token_other : within low high (get_or w 1 0) ≡ false → false ≡ is_named low high (drop 1 w)
-    unfolding is_named starts_in
-    token_other e = rw (behind_sign, e)
-
-    pub token_run : (end : ℕ) → end ≡ 1 + length_in is_name_byte (drop 1 w) → within low high (get_or w 1 0) ≡ true
-        → eqb end (length w) ≡ is_named low high (drop 1 w)
-    unfolding is_named starts_in
-    token_run end r e =
-        let s : starts_in (within low high) (drop 1 w) ≡ true = rw behind_sign e in
-        rw (s, ← all_run is_name_byte (drop 1 w))
-        (split (eqb end (length w))
-        (λ q. rw (q, eq-eqb (length_in is_name_byte (drop 1 w)) (length (drop 1 w)) (omega (arith, eqb-true end (length w) q, length-drop 1 w))))
-        (λ q. rw (q, ne_eqb (length_in is_name_byte (drop 1 w)) (length (drop 1 w)) (λ k. eqb-false end (length w) q (omega (arith, length-drop 1 w))))))
+  pub named_run : (end : ℕ) → end ≡ length_in is_name_byte w → within low high (get_or w 0 0) ≡ true → eqb end (length w) ≡ is_named low high w
+  unfolding is_named
+  named_run end r e = rw (starts_first (within low high) w h, e, ← all_run is_name_byte w) (ap (λ (k : ℕ). eqb k (length w)) r)
 
 -- ---- the bytes that a class of first bytes has
 
@@ -85,6 +78,22 @@ Letter b = ((0x41 ≤ b) × (b ≤ 0x5A)) ⊎ ((0x61 ≤ b) × (b ≤ 0x7A))
 
 abbrev pub Numeral : ℕ → Type 0
 Numeral b = ((b ≡ byte "+") ⊎ (b ≡ byte "-")) ⊎ ((0x30 ≤ b) × (b ≤ 0x39))
+
+pub letter_of : (b : ℕ) → 0x41 ≤ b → b ≤ 0x7A → (0x5A < b → 0x61 ≤ b) → Letter b
+letter_of b l h gap = up_to b 0x5A (λ k. inl (l, k)) (λ k. inr (gap k, h))
+
+pub numeral_of : (b : ℕ) → (b < 0x30 → (b ≡ byte "+" → ⊥) → b ≡ byte "-") → b ≤ 0x39 → Numeral b
+numeral_of b signed h = up_to 0x30 b (λ k. inr (k, h)) (λ k. inl (one_of_two b (byte "+") (byte "-") (signed k)))
+
+-- a byte that begins no word
+pub record Beginless (b : ℕ) : Type 0 where
+  pub pascal : b ≡ byte "$" → ⊥
+  pub camel : b ≡ byte "~" → ⊥
+  pub plus : b ≡ byte "+" → ⊥
+  pub minus : b ≡ byte "-" → ⊥
+  pub digit : 0x30 ≤ b → b ≤ 0x39 → ⊥
+  pub upper : 0x41 ≤ b → b ≤ 0x5A → ⊥
+  pub lower : 0x61 ≤ b → b ≤ 0x7A → ⊥
 
 letter_bounds : (b : ℕ) → Letter b → (0x41 ≤ b) × (b ≤ 0x7A)
 letter_bounds b l = ⊎_elim (λ h. omega arith) (λ h. omega arith) l
@@ -148,51 +157,52 @@ unfolding starts_in
 form_empty [] h = sym (by_kind kinds [] (λ k e q. true_false (sym (kind_first k [] e))) (λ z. word_form_lem [] ∙ z))
 form_empty (b ∷ l) h = absurd (omega arith)
 
-pub form_letters : (w : List ℕ) → (length w ≡ 0 → ⊥) → Letter (get_or w 0 0) → lettered_form w ≡ word_form w
+pub form_letters : (w : List ℕ) → Letter (get_or w 0 0) → lettered_form w ≡ word_form w
 unfolding lettered_form first_form
-form_letters [] h l = absurd (h refl)
-form_letters (b ∷ w) h l = sym (by_first (boolean ∷ uuid ∷ iri ∷ []) b w (letter_kinds b l))
+form_letters [] l = absurd (omega (arith, letter_bounds 0 l))
+form_letters (b ∷ w) l = sym (by_first (boolean ∷ uuid ∷ iri ∷ []) b w (letter_kinds b l))
 
-pub form_numerals : (w : List ℕ) → (length w ≡ 0 → ⊥) → Numeral (get_or w 0 0) → numeral_form w ≡ word_form w
+pub form_numerals : (w : List ℕ) → Numeral (get_or w 0 0) → numeral_form w ≡ word_form w
 unfolding numeral_form number_form first_form
-form_numerals [] h n = absurd (h refl)
-form_numerals (b ∷ w) h n = sym (by_first (uuid ∷ integer ∷ decimal ∷ scientific ∷ fraction ∷ []) b w (numeral_kinds b n))
+form_numerals [] n = absurd (omega (arith, numeral_bounds 0 n))
+form_numerals (b ∷ w) n = sym (by_first (uuid ∷ integer ∷ decimal ∷ scientific ∷ fraction ∷ []) b w (numeral_kinds b n))
 
-pub form_none : (w : List ℕ) → (length w ≡ 0 → ⊥) → (Letter (get_or w 0 0) → ⊥) → (Numeral (get_or w 0 0) → ⊥) → (get_or w 0 0 ≡ byte "$" → ⊥)
-    → (get_or w 0 0 ≡ byte "~" → ⊥) → 0 ≡ word_form w
+pub form_none : (w : List ℕ) → (1 ≤ length w → Beginless (get_or w 0 0)) → 0 ≡ word_form w
 unfolding first_form
-form_none [] h l n p c = absurd (h refl)
-form_none (b ∷ w) h l n p c = sym (by_first [] b w (no_kinds b l n [] (λ e. absurd (p (eqb-true b (byte "$") e))) (λ e. absurd (c (eqb-true b (byte "~") e)))))
+form_none [] none = form_empty [] refl
+form_none (b ∷ w) none =
+    let n = none (omega arith) in
+    sym (by_first [] b w (no_kinds b (⊎_elim (λ r. n.upper r.0 r.1) (λ r. n.lower r.0 r.1)) (⊎_elim (⊎_elim n.plus n.minus) (λ r. n.digit r.0 r.1)) []
+    (λ e. absurd (n.pascal (eqb-true b (byte "$") e))) (λ e. absurd (n.camel (eqb-true b (byte "~") e)))))
 
 -- a token of a kind that its sign tells
 module _ (k : Kind) (sign low high : ℕ) (named : (w : List ℕ) → fits k (sign ∷ w) ≡ is_named low high w)
     (only : (j : Kind) → beginning j sign ≡ true → Among j (k ∷ [])) where
-  token_form : (f : ℕ) (o : Bool) (w : List ℕ) → (length w ≡ 0 → ⊥) → get_or w 0 0 ≡ sign → f ≡ pick o (form_of k) 0 → o ≡ is_named low high (drop 1 w)
-      → f ≡ word_form w
+  token_form : (f : ℕ) (w : List ℕ) → 1 ≤ length w → get_or w 0 0 ≡ sign → f ≡ pick (is_named low high (from w 1)) (form_of k) 0 → f ≡ word_form w
   unfolding first_form
-  token_form f o [] h q e n = absurd (h refl)
-  token_form f o (b ∷ w) h q e n = rw q (e ∙ rw (n, ← named w) (sym (by_first (k ∷ []) sign w only)))
+  token_form f [] h q e = absurd (omega arith)
+  token_form f (b ∷ w) h q e = rw q (e ∙ rw (part_rest (b ∷ w) 1, ← named w) (sym (by_first (k ∷ []) sign w only)))
 
 token_named : (sign low high : ℕ) (w : List ℕ) → is_token sign (within low high) (sign ∷ w) ≡ is_named low high w
 unfolding is_token is_named
 token_named sign low high w = rw (eq-eqb sign sign refl)
 
-module _ (f : ℕ) (o : Bool) (w : List ℕ) (some : length w ≡ 0 → ⊥) where
-  pub form_pascal : get_or w 0 0 ≡ byte "$" → f ≡ pick o 8 0 → o ≡ is_named 0x41 0x5A (drop 1 w) → f ≡ word_form w
+module _ (f : ℕ) (w : List ℕ) (some : 1 ≤ length w) where
+  pub form_pascal : get_or w 0 0 ≡ byte "$" → f ≡ pick (is_named 0x41 0x5A (from w 1)) 8 0 → f ≡ word_form w
   unfolding is_upper
   form_pascal =
       token_form pascal (byte "$") 0x41 0x5A (token_named (byte "$") 0x41 0x5A)
       (no_kinds (byte "$") (λ l. omega (arith, letter_bounds (byte "$") l)) (λ n. omega (arith, numeral_bounds (byte "$") n)) _ (λ z. first refl)
       (λ z. true_false (sym z)))
-      f o w some
+      f w some
 
-  pub form_camel : get_or w 0 0 ≡ byte "~" → f ≡ pick o 9 0 → o ≡ is_named 0x61 0x7A (drop 1 w) → f ≡ word_form w
+  pub form_camel : get_or w 0 0 ≡ byte "~" → f ≡ pick (is_named 0x61 0x7A (from w 1)) 9 0 → f ≡ word_form w
   unfolding is_lower
   form_camel =
       token_form camel (byte "~") 0x61 0x7A (token_named (byte "~") 0x61 0x7A)
       (no_kinds (byte "~") (λ l. omega (arith, letter_bounds (byte "~") l)) (λ n. omega (arith, numeral_bounds (byte "~") n)) _ (λ z. true_false (sym z))
       (λ z. first refl))
-      f o w some
+      f w some
 
 -- ---- the form of a word that begins with a letter, or with a digit or a sign
 
@@ -211,9 +221,9 @@ module _ (w : List ℕ) where
       unfolding lettered_form
       lettered_uuid e = rw (t, f, e)
 
-      pub lettered_iri : is_uuid w ≡ false → (form : ℕ) (o : Bool) → form ≡ pick o 11 0 → o ≡ is_iri w → form ≡ lettered_form w
+      pub lettered_iri : is_uuid w ≡ false → (form : ℕ) → form ≡ pick (is_iri w) 11 0 → form ≡ lettered_form w
       unfolding lettered_form
-      lettered_iri e form o q i = q ∙ rw (t, f, e, i)
+      lettered_iri e form q = q ∙ rw (t, f, e)
 
   pub numeral_uuid : is_uuid w ≡ true → 10 ≡ numeral_form w
   unfolding numeral_form

@@ -11,7 +11,7 @@ use lib.Dec.{eqb}
 use borrow.Author.Tests.{eqb-true, eqb-false, eq-eqb, ne_eqb}
 use Rattle.paper.specs.Bytes.{byte, bytes, is_digit, is_hex, all, starts_with, length_in, behind, up_to, past, is}
 use Rattle.paper.specs.Values.{hex_groups, is_uuid}
-use Rattle.paper.proofs.Tests.{split, apart}
+use Rattle.paper.proofs.Tests.{split, apart, true_false}
 use Rattle.paper.proofs.Lists.{both, front_all, length_in_lem, all_run}
 use Rattle.leaves.specs.Kinds.{is_group}
 use Rattle.leaves.proofs.Runs.{ends_at, mark_ends, no_mark_ends, up_to_run, up_to_more}
@@ -86,37 +86,57 @@ module _ (w : List ℕ) (at size end : ℕ) (run : end ≡ at + length_in is_hex
   unfolding is_group
   not_group e = rw (ne_eqb (end - at) size e, ne_eqb (length_in is_hex (drop at w)) size (λ q. e (omega arith)))
 
--- ---- a UUID, group by group: what it is from a place on
+-- ---- what code leaves of `p && q`: the first half where that fails, else the second
+
+pub both_first : {v p : Bool} (q : Bool) → p ≡ false → v ≡ p → v ≡ (p && q)
+both_first q e f = f ∙ rw e
+
+pub both_second : {v p q : Bool} → p ≡ true → v ≡ q → v ≡ (p && q)
+both_second e f = rw e f
+
+-- ---- a UUID: its size, and one group after another
+
+-- the groups but the last, and the size
+abbrev pub up_to_last : List ℕ → Bool
+up_to_last w = (((eqb (length w) 36 && is_group 8 w) && is_group 4 (drop 9 w)) && is_group 4 (drop 14 w)) && is_group 4 (drop 19 w)
+
+group_is : (n k : ℕ) (ns w : List ℕ) → 1 ≤ k → hex_groups (n ∷ k ∷ ns) w ≡ (is_group n w && hex_groups (k ∷ ns) (drop (n + 1) w))
+group_is n k ns w some = split (is_group n w) (λ e. rw e (group_there n k ns w e)) (λ e. rw e (group_missing n k ns w some e))
 
 module _ (w : List ℕ) where
-  module _ (at n k : ℕ) (ns : List ℕ) (rest : is_uuid w ≡ hex_groups (n ∷ k ∷ ns) (drop at w)) where
-    pub group_off : 1 ≤ k → is_group n (drop at w) ≡ false → false ≡ is_uuid w
-    group_off some e = sym (rest ∙ group_missing n k ns (drop at w) some e)
+  uuid_is : is_uuid w ≡ (is_group 8 w && (is_group 4 (drop 9 w) && (is_group 4 (drop 14 w) && (is_group 4 (drop 19 w)
+      && (eqb (length (drop 24 w)) 12 && eqb (length_in is_hex (drop 24 w)) 12)))))
+  uuid_is =
+      group_is 8 4 _ w (omega arith)
+      ∙ rw (
+        group_is 4 4 (4 ∷ 12 ∷ []) (drop 9 w) (omega arith),
+        drop-drop 5 9 w,
+        group_is 4 4 (12 ∷ []) (drop 14 w) (omega arith),
+        drop-drop 5 14 w,
+        group_is 4 12 [] (drop 19 w) (omega arith),
+        drop-drop 5 19 w,
+        last_group 12 (drop 24 w),
+      )
 
-    pub group_on : is_group n (drop at w) ≡ true → is_uuid w ≡ hex_groups (k ∷ ns) (drop (at + (n + 1)) w)
-    group_on e = rest ∙ group_there n k ns (drop at w) e ∙ rw drop-drop
+  pub uuid_of : (end : ℕ) → end ≡ 24 + length_in is_hex (drop 24 w) → up_to_last w ≡ true → eqb end 36 ≡ is_uuid w
+  uuid_of end run e =
+      let d = both (((eqb (length w) 36 && is_group 8 w) && is_group 4 (drop 9 w)) && is_group 4 (drop 14 w)) (is_group 4 (drop 19 w)) e in
+      let c = both ((eqb (length w) 36 && is_group 8 w) && is_group 4 (drop 9 w)) (is_group 4 (drop 14 w)) d.0 in
+      let b = both (eqb (length w) 36 && is_group 8 w) (is_group 4 (drop 9 w)) c.0 in
+      let a = both (eqb (length w) 36) (is_group 8 w) b.0 in
+      let n : length (drop 24 w) ≡ 12 = omega (arith, length-drop 24 w, eqb-true (length w) 36 a.0) in
+      rw (uuid_is, a.1, b.1, c.1, d.1, eq-eqb (length (drop 24 w)) 12 n)
+      (split (eqb (length_in is_hex (drop 24 w)) 12)
+      (λ q. let m = eqb-true (length_in is_hex (drop 24 w)) 12 q in rw (q, eq-eqb end 36 (omega arith)))
+      (λ q. rw (q, ne_eqb end 36 (λ m. eqb-false (length_in is_hex (drop 24 w)) 12 q (omega arith)))))
 
-  -- the last group
-  module _ (rest : is_uuid w ≡ hex_groups (12 ∷ []) (drop 24 w)) where
-    by_size : is_uuid w ≡ (eqb (length (drop 24 w)) 12 && eqb (length_in is_hex (drop 24 w)) 12)
-    by_size = rest ∙ last_group 12 (drop 24 w)
-
-    no_last : (length w ≡ 36 → ⊥) → false ≡ is_uuid w
-    no_last n = sym (by_size ∙ rw (ne_eqb (length (drop 24 w)) 12 (λ q. n (omega (arith, length-drop 24 w)))))
-
-    pub last_digits : length w ≡ 36 → (end : ℕ) → end ≡ 24 + length_in is_hex (drop 24 w) → eqb end 36 ≡ is_uuid w
-    last_digits e end run =
-        sym (by_size ∙ rw (eq-eqb (length (drop 24 w)) 12 (omega (arith, length-drop 24 w))) (split (eqb (length_in is_hex (drop 24 w)) 12)
-        (λ q. let n = eqb-true (length_in is_hex (drop 24 w)) 12 q in rw (q, eq-eqb end 36 (omega arith)))
-        (λ q. rw (q, ne_eqb end 36 (λ n. eqb-false (length_in is_hex (drop 24 w)) 12 q (omega arith))))))
-
-  -- a word of any other size is none
-  next_group : (at n k : ℕ) (ns : List ℕ) → 1 ≤ k → is_uuid w ≡ hex_groups (n ∷ k ∷ ns) (drop at w)
-      → (is_uuid w ≡ hex_groups (k ∷ ns) (drop (at + (n + 1)) w) → false ≡ is_uuid w) → false ≡ is_uuid w
-  next_group at n k ns some rest then =
-      split (is_group n (drop at w)) (λ e. then (group_on at n k ns rest e)) (λ e. group_off at n k ns rest some e)
-
-  pub other_size : (length w ≡ 36 → ⊥) → false ≡ is_uuid w
-  other_size n =
-      next_group 0 8 4 _ (omega arith) refl (λ a. next_group 9 4 4 _ (omega arith) a (λ b. next_group 14 4 4 _ (omega arith) b
-      (λ c. next_group 19 4 12 _ (omega arith) c (λ d. no_last d n))))
+  pub uuid_not : up_to_last w ≡ false → false ≡ is_uuid w
+  uuid_not e =
+      rw uuid_is
+      (split (is_group 8 w) (λ a. rw a
+      (split (is_group 4 (drop 9 w)) (λ b. rw b
+      (split (is_group 4 (drop 14 w)) (λ c. rw c
+      (split (is_group 4 (drop 19 w)) (λ d. rw d
+      (let size : eqb (length w) 36 ≡ false = split (eqb (length w) 36) (λ s. true_false (rw (s, a, b, c, d) at e)) (λ s. s) in
+      rw (ne_eqb (length (drop 24 w)) 12 (λ n. eqb-false (length w) 36 size (omega (arith, length-drop 24 w))))))
+      (λ d. rw d))) (λ c. rw c))) (λ b. rw b))) (λ a. rw a))

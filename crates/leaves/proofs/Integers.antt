@@ -4,18 +4,22 @@ use Prim.Native.Nat.{ℕ, zero, suc, ◌+◌, ◌-◌, ◌≤◌, ◌<◌}
 use mathlib.Core.Path.{◌≡◌, refl, sym, ap, ◌∙◌}
 use mathlib.Core.Bool.{Bool, true, false, not, ◌&&◌, ◌||◌, and-false, or-true}
 use mathlib.Core.List.{List, [], ◌∷◌, ◌++◌, append-nil}
+use mathlib.Core.Logic.{◌⊎◌, inl, inr, ⊎_elim}
 use native.Mathlib.Omega.{arith}
+use Rattle.std.specs.Prelude.{None, Some}
+use Rattle.std.specs.Option.{option_eq}
+use Rattle.std.proofs.lemmas.Option.{none-some, same_Some}
 use lib.ListN.{length, get_or, take, drop}
 use lib.Seq.{take-length, length-take-le}
 use lib.Dec.{leb, eqb}
-use borrow.Author.Tests.{leb-false, le-leb, lt-leb, eqb-true, eqb-false, eq-eqb, ne_eqb, not-true}
+use borrow.Author.Tests.{leb-true, leb-false, le-leb, lt-leb, eqb-true, eqb-false, eq-eqb, ne_eqb, not-true}
 use Rattle.paper.specs.Bytes.{byte, bytes, is_digit, all, elem, starts_in, length_in, is, are_digits}
 use Rattle.paper.specs.Values.{is_count, unsigned, is_integer}
 use Rattle.paper.proofs.Tests.{split, true_false, either, or_left, or_right}
 use Rattle.paper.proofs.Lists.{both, all_cons, all_weaken, front_all, behind_stops, front_length, length_in_lem}
 use Rattle.text.proofs.Places.{here, part_rest, parts_at}
 use Rattle.leaves.proofs.Runs.{starts_first}
-use Rattle.leaves.specs.Kinds.{sign_length, count_length, integer_length}
+use Rattle.leaves.specs.Kinds.{sign_length, count_length, integer_length, some_length}
 
 -- ---- digits with no leading zero
 
@@ -156,23 +160,38 @@ unsigned_take b l e (suc n) = rw (e, unsigned)
 
 -- ---- how the functions find them
 
-pub sign_empty : (w : List ℕ) → length w ≡ 0 → 0 ≡ sign_length w
-sign_empty [] h = sym sign_none
-sign_empty (b ∷ l) h = absurd (omega arith)
+pub one_of_two : (b c d : ℕ) → ((b ≡ c → ⊥) → b ≡ d) → (b ≡ c) ⊎ (b ≡ d)
+one_of_two b c d h = split (eqb b c) (λ e. inl (eqb-true b c e)) (λ e. inr (h (eqb-false b c e)))
 
-pub sign_missing : (w : List ℕ) → (length w ≡ 0 → ⊥) → elem (get_or w 0 0) (bytes "+-") ≡ false → 0 ≡ sign_length w
-sign_missing [] h e = absurd (h refl)
-sign_missing (b ∷ l) h e = sym (not_signed b l e).0
+abbrev pub Sign : ℕ → Type 0
+Sign b = (b ≡ byte "+") ⊎ (b ≡ byte "-")
 
-pub sign_there : (w : List ℕ) → (length w ≡ 0 → ⊥) → elem (get_or w 0 0) (bytes "+-") ≡ true → 1 ≡ sign_length w
-sign_there [] h e = absurd (h refl)
-sign_there (b ∷ l) h e = sym (signed b l e).0
+pub sign_there : (w : List ℕ) → 1 ≤ length w → Sign (get_or w 0 0) → 1 ≡ sign_length w
+unfolding elem
+sign_there [] h e = absurd (omega arith)
+sign_there (b ∷ l) h e = sym (signed b l (⊎_elim (λ p. rw p) (λ m. rw m) e)).0
+
+pub sign_missing : (w : List ℕ) → (1 ≤ length w → Sign (get_or w 0 0) → ⊥) → 0 ≡ sign_length w
+unfolding elem
+sign_missing [] n = sym sign_none
+sign_missing (b ∷ l) n =
+    let k : (Sign b → ⊥) = n (omega arith) in
+    sym (not_signed b l (rw (ne_eqb b (byte "+") (λ e. k (inl e)), ne_eqb b (byte "-") (λ e. k (inr e))))).0
+
+-- a length that is answered is no 0
+pub some_is : (n size : ℕ) → some_length n ≡ Some size → (size ≡ n) × (0 < n)
+some_is zero size e = absurd (none-some size e)
+some_is (suc n) size e = (sym (same_Some (suc n) size e), omega arith)
+
+pub none_is : (n : ℕ) → some_length n ≡ None → n ≡ 0
+none_is zero e = refl
+none_is (suc n) e = absurd (none-some (suc n) (sym e))
+
+pub some_of : (n size : ℕ) → 0 < size → size ≡ n → Some size ≡ some_length n
+some_of zero size h e = absurd (omega arith)
+some_of (suc n) size h e = ap Some e
 
 module _ (w : List ℕ) (n : ℕ) (size : n ≡ length_in is_digit w) where
-  pub count_few : n < 2 → n ≡ count_length w
-  unfolding count_length
-  count_few h = rw (← size, lt-leb 2 n h)
-
   first_byte : 2 ≤ n → starts_in (is (byte "0")) w ≡ eqb (get_or w 0 0) (byte "0")
   first_byte h = starts_first (is (byte "0")) w (omega (arith, length_in_lem is_digit w))
 
@@ -180,9 +199,12 @@ module _ (w : List ℕ) (n : ℕ) (size : n ≡ length_in is_digit w) where
   unfolding count_length
   count_zero h e = rw (← size, le-leb 2 n h, first_byte h, eq-eqb (get_or w 0 0) (byte "0") e)
 
-  pub count_many : 2 ≤ n → (get_or w 0 0 ≡ byte "0" → ⊥) → n ≡ count_length w
+  pub count_fits : (2 ≤ n → get_or w 0 0 ≡ byte "0" → ⊥) → n ≡ count_length w
   unfolding count_length
-  count_many h e = rw (← size, le-leb 2 n h, first_byte h, ne_eqb (get_or w 0 0) (byte "0") e)
+  count_fits none =
+      split (leb 2 n)
+      (λ e. let h = leb-true 2 n e in rw (← size, e, first_byte h, ne_eqb (get_or w 0 0) (byte "0") (none h)))
+      (λ e. rw (← size, e))
 
 module _ (w : List ℕ) (sign n : ℕ) (before : sign ≡ sign_length w) (size : n ≡ count_length (take (length w - sign) (drop sign w))) where
   count_behind : count_length (unsigned w) ≡ n
@@ -256,9 +278,8 @@ module _ {kind : List ℕ → Bool} {size : List ℕ → ℕ} (m : Measures kind
       rw e (sym (ap kind (parts_at w (size w) k) ∙ m.broken (take (size w) w) _ _ (omega (arith, length-take-le (size w) w h)) (next_digit some k))))
 
   -- the whole word is of the kind
-  module _ (n : ℕ) (e : n ≡ size w) where
-    pub measured_none : n ≡ 0 → not (eqb n 0) ≡ kind w
-    measured_none z = rw z (sym (whole_none (sym e ∙ z)))
-
-    pub measured_some : (n ≡ 0 → ⊥) → n ≤ length w → eqb n (length w) ≡ kind w
-    measured_some some h = rw e (whole_some (rw e at some) (rw e at h))
+  pub measured : size w ≤ length w → option_eq eqb (some_length (size w)) (Some (length w)) ≡ kind w
+  measured h =
+      split (eqb (size w) 0)
+      (λ e. let z = eqb-true (size w) 0 e in rw z (sym (whole_none z)))
+      (λ e. let some = eqb-false (size w) 0 e in rw (← some_of (size w) (size w) (omega arith) refl) (whole_some some h))

@@ -1,12 +1,12 @@
 -- IRIs: the scalar values of a body, the body step by step, and the scheme in front. Over plain lists. Assumes nothing.
 -- Document 01, "The grammar", Values; 001 §14, with the ranges of RFC 3987's ucschar; document 02, One.
-use Prim.Native.Nat.{ℕ, zero, suc, ◌+◌, ◌%◌, ◌≤◌, ◌<◌}
-use mathlib.Core.Path.{◌≡◌, refl, sym, ap, ◌∙◌}
+use Prim.Native.Nat.{ℕ, zero, suc, ◌+◌, ◌-◌, ◌%◌, ◌≤◌, ◌<◌}
+use mathlib.Core.Path.{◌≡◌, refl, sym, ◌∙◌}
 use mathlib.Core.Bool.{Bool, true, false, not, ◌&&◌, ◌||◌, and-false, and-true}
 use mathlib.Core.List.{List, [], ◌∷◌}
 use mathlib.Core.Logic.{◌⊎◌, inl, inr, ⊎_elim}
 use native.Mathlib.Omega.{arith}
-use lib.ListN.{length, get_or, drop, length-drop, drop_of_length-le}
+use lib.ListN.{length, get_or, drop, length-drop}
 use lib.Seq.{drop-drop}
 use lib.Dec.{leb}
 use borrow.Author.Tests.{le-leb, leb-true, leb-false, ne_eqb}
@@ -14,16 +14,16 @@ use Rattle.paper.specs.Found.{Found, found, fault}
 use Rattle.paper.specs.Bytes.{byte, bytes, within, is_upper, is_lower, is_digit, is_letter, is_name_byte}
 use Rattle.paper.specs.Bytes.{all, elem, starts_in, starts_with, length_in, front, behind, scalar, up_to, onward, is}
 use Rattle.paper.specs.Values.{ucschar, barred, in_ranges, is_iri_scalar, is_iri_body, is_scheme, is_iri}
-use Rattle.paper.proofs.Tests.{split, apart, or_right, inside, above, by_range}
+use Rattle.paper.proofs.Tests.{split, true_false, apart, or_right, inside, above, by_range, in_range}
 use Rattle.paper.proofs.Lists.{both, elem_apart, front_all}
 use Rattle.paper.proofs.Scalars.{row_one, scalar_one, scalar_shorter}
-use Rattle.text.specs.declared.utf8.Cursor.{Cursor}
 use Rattle.text.specs.declared.utf8.Step.{Step}
 use Rattle.text.specs.Steps.{step_at}
-use Rattle.text.proofs.Places.{here}
+use Rattle.text.proofs.Places.{here, part_rest}
+use Rattle.leaves.specs.Kinds.{stands_ascii}
 use Rattle.text.proofs.Steps.{Stepped, ended, failed}
 use Rattle.leaves.proofs.Ranges.{every, every_in, clear, clear_out, covered, covered_in, planes, in_planes}
-use Rattle.leaves.proofs.Runs.{starts_one, ends_at, mark_ends, no_mark_ends, up_to_run, up_to_more}
+use Rattle.leaves.proofs.Runs.{from, part_size, one_there, one_missing, starts_one, ends_at, mark_ends, no_mark_ends, up_to_run, up_to_more}
 
 -- ---- scalar values
 
@@ -92,6 +92,15 @@ agree_same false false e = refl
 abbrev in_ascii : ℕ → Bool
 in_ascii b = (within (byte "#") (byte ";") b || within (byte "?") (byte "[") b) || (is_lower b || elem b (bytes "!=]_~"))
 
+pub record Outside (b : ℕ) : Type 0 where
+  pub first : byte "#" ≤ b → b ≤ byte ";" → ⊥
+  pub second : byte "?" ≤ b → b ≤ byte "[" → ⊥
+  pub mark : b ≡ byte "!" → ⊥
+  pub equals : b ≡ byte "=" → ⊥
+  pub square : b ≡ byte "]" → ⊥
+  pub under : b ≡ byte "_" → ⊥
+  pub tilde : b ≡ byte "~" → ⊥
+
 abbrev Single : ℕ → Type 0
 Single b = (b ≡ byte "!") ⊎ ((b ≡ byte "=") ⊎ ((b ≡ byte "]") ⊎ ((b ≡ byte "_") ⊎ (b ≡ byte "~"))))
 
@@ -103,32 +112,56 @@ module _ (b : ℕ) (h : b ≤ 0x7F) where
   ascii_in : in_ascii b ≡ true → true ≡ is_iri_scalar b
   ascii_in e = sym e ∙ in_ascii_lem
 
-  pub ascii_first : byte "#" ≤ b → b ≤ byte ";" → true ≡ is_iri_scalar b
+  ascii_first : byte "#" ≤ b → b ≤ byte ";" → true ≡ is_iri_scalar b
   ascii_first l k = ascii_in (rw (inside (byte "#") (byte ";") b l k))
 
-  pub ascii_second : byte "?" ≤ b → b ≤ byte "[" → true ≡ is_iri_scalar b
+  ascii_second : byte "?" ≤ b → b ≤ byte "[" → true ≡ is_iri_scalar b
   ascii_second l k = ascii_in (rw (outside b (byte "#") (byte ";") (λ p q. omega arith), inside (byte "?") (byte "[") b l k))
 
-  pub ascii_lower : is_lower b ≡ true → true ≡ is_iri_scalar b
+  ascii_lower : is_lower b ≡ true → true ≡ is_iri_scalar b
   ascii_lower e = ascii_in (or_right (within (byte "#") (byte ";") b || within (byte "?") (byte "[") b) _ (rw e))
 
-  pub ascii_single : Single b → true ≡ is_iri_scalar b
+  ascii_single : Single b → true ≡ is_iri_scalar b
   unfolding is_iri_scalar in_ranges is_name_byte is_letter is_upper is_lower is_digit elem
   ascii_single = ⊎_elim (λ q. rw q) (⊎_elim (λ q. rw q) (⊎_elim (λ q. rw q) (⊎_elim (λ q. rw q) (λ q. rw q))))
 
-  pub ascii_none : is_lower b ≡ false → (Single b → ⊥) → (byte "#" ≤ b → b ≤ byte ";" → ⊥) → (byte "?" ≤ b → b ≤ byte "[" → ⊥) → false ≡ is_iri_scalar b
+  ascii_out : is_lower b ≡ false → Outside b → false ≡ is_iri_scalar b
   unfolding elem
-  ascii_none e n f g =
+  ascii_out e n =
       rw (
-        outside b (byte "#") (byte ";") f,
-        outside b (byte "?") (byte "[") g,
+        outside b (byte "#") (byte ";") n.first,
+        outside b (byte "?") (byte "[") n.second,
         e,
-        ne_eqb b (byte "!") (λ q. n (inl q)),
-        ne_eqb b (byte "=") (λ q. n (inr (inl q))),
-        ne_eqb b (byte "]") (λ q. n (inr (inr (inl q)))),
-        ne_eqb b (byte "_") (λ q. n (inr (inr (inr (inl q))))),
-        ne_eqb b (byte "~") (λ q. n (inr (inr (inr (inr q))))),
+        ne_eqb b (byte "!") n.mark,
+        ne_eqb b (byte "=") n.equals,
+        ne_eqb b (byte "]") n.square,
+        ne_eqb b (byte "_") n.under,
+        ne_eqb b (byte "~") n.tilde,
       ) at in_ascii_lem
+
+  ascii_within : (Outside b → ⊥) → true ≡ is_iri_scalar b
+  ascii_within n =
+      split (is_iri_scalar b) (λ e. sym e)
+      (λ e. absurd (n (record {
+        first = λ l k. true_false (ascii_first l k ∙ e);
+        second = λ l k. true_false (ascii_second l k ∙ e);
+        mark = λ q. true_false (ascii_single (inl q) ∙ e);
+        equals = λ q. true_false (ascii_single (inr (inl q)) ∙ e);
+        square = λ q. true_false (ascii_single (inr (inr (inl q))) ∙ e);
+        under = λ q. true_false (ascii_single (inr (inr (inr (inl q)))) ∙ e);
+        tilde = λ q. true_false (ascii_single (inr (inr (inr (inr q)))) ∙ e);
+      })))
+
+module _ (b : ℕ) where
+  pub lower_stands : is_lower b ≡ true → true ≡ stands_ascii b
+  unfolding is_lower
+  lower_stands e = let h : b ≤ 0x7F = omega (arith, in_range 0x61 0x7A b e) in rw (le-leb b 0x7F h) (ascii_lower b h e)
+
+  pub ascii_stands : b ≤ 0x7F → (Outside b → ⊥) → true ≡ stands_ascii b
+  ascii_stands h n = rw (le-leb b 0x7F h) (ascii_within b h n)
+
+  pub ascii_falls : is_lower b ≡ false → Outside b → false ≡ stands_ascii b
+  ascii_falls e n = split (leb b 0x7F) (λ k. rw k (ascii_out b (leb-true b 0x7F k) e n)) (λ k. rw k)
 
 -- ---- a body, one scalar value at a time
 
@@ -175,20 +208,15 @@ pub body_whole : (s : List ℕ) (o : Bool) → o ≡ body_at s 0 → (fuel : ℕ
 body_whole s o e fuel h = e ∙ body_fuel (length s) fuel s (omega arith) h
 
 module _ (s : List ℕ) (at : ℕ) where
-  pub body_ends : length s ≤ at → true ≡ body_at s at
-  body_ends h = rw (drop_of_length-le s h) (sym (body_nil 0))
+  pub body_ends : Step.End ≡ step_at s at → true ≡ body_at s at
+  body_ends e = rw (ended s at e) (sym (body_nil 0))
 
-  body_broken : Step.Broken ≡ step_at s at → false ≡ body_at s at
+  -- what begins no sequence
+  pub body_broken : Step.Broken ≡ step_at s at → false ≡ body_at s at
   body_broken e =
       let f = failed s at e in
       let r : scalar (get_or s at 0 ∷ drop (at + 1) s) ≡ fault f.number f.left = rw (here s at f.inside) at f.reads in
       rw (here s at f.inside) (sym (body_fault (length (drop (at + 1) s)) _ _ f.number f.left r))
-
-  -- what begins no sequence
-  pub body_unread : at < length s → (x : Step) → x ≡ step_at s at → ((v : ℕ) (next : Cursor) → x ≡ Step.Scalar v next → ⊥) → false ≡ body_at s at
-  body_unread h (Step.Scalar v next) e z = absurd (z v next refl)
-  body_unread h Step.Broken e z = body_broken e
-  body_unread h Step.End e z = absurd (omega (arith, length-drop at s, ap length (ended s at e)))
 
   -- a byte of ASCII is a scalar value
   pub ascii_stepped : at < length s → get_or s at 0 ≤ 0x7F → Stepped s at (get_or s at 0) (at + 1)
@@ -210,6 +238,19 @@ module _ (s : List ℕ) (at : ℕ) where
         rw (here s at inside_here)
         (body_fuel (length (drop next s)) (length (drop (at + 1) s)) (drop next s) (omega arith) (omega (arith, length-drop (at + 1) s, length-drop next s))
         ∙ sym (body_good (length (drop (at + 1) s)) _ _ v (drop next s) reads_here e))
+
+-- bytes of ASCII that may stand
+body_more : (n : ℕ) (s : List ℕ) (at end : ℕ) → at + n ≡ end → end ≤ length s → ((i : ℕ) → at ≤ i → i < end → stands_ascii (get_or s i 0) ≡ true)
+    → body_at s end ≡ body_at s at
+body_more zero s at end q h each = let e : at ≡ end = omega arith in rw e
+body_more (suc n) s at end q h each =
+    let e = both (leb (get_or s at 0) 0x7F) (is_iri_scalar (get_or s at 0)) (each at (omega arith) (omega arith)) in
+    let step = ascii_stepped s at (omega arith) (leb-true (get_or s at 0) 0x7F e.0) in
+    body_more n s (at + 1) end (omega arith) h (λ i l k. each i (omega arith) k) ∙ body_goes s at (get_or s at 0) (at + 1) step e.1
+
+pub body_over : (s : List ℕ) (at end : ℕ) → at ≤ end → end ≤ length s → ((i : ℕ) → at ≤ i → i < end → stands_ascii (get_or s i 0) ≡ true)
+    → body_at s end ≡ body_at s at
+body_over s at end l = body_more (end - at) s at end (omega arith)
 
 -- ---- the scheme in front
 
@@ -233,32 +274,33 @@ first_letter : (b : ℕ) (l : List ℕ) → is_letter b ≡ true → starts_in i
 unfolding length_in starts_in
 first_letter b l e = rw (letter_in b e, length_in) e
 
-pub iri_empty : (w : List ℕ) → length w ≡ 0 → false ≡ is_iri w
-unfolding is_iri is_scheme starts_in length_in
-iri_empty [] h = refl
-iri_empty (b ∷ l) h = absurd (omega arith)
+module _ (w : List ℕ) (n : ℕ) (run : n ≡ length_in in_scheme w) where
+  pub iri_no_colon : (1 ≤ length (from w n) → get_or (from w n) 0 0 ≡ byte ":" → ⊥) → false ≡ is_iri w
+  unfolding is_iri is_scheme starts_in
+  iri_no_colon none =
+      let colon = is (byte ":") in
+      let e : starts_with (bytes ":") (drop n w) ≡ false = rw (part_rest w n) at (one_missing (byte ":") (from w n) none) in
+      split (ends_at colon (behind in_scheme w))
+      (λ f. let g : drop n w ≡ [] = no_mark_ends (byte ":") (drop n w) e (rw run f) in
+      let o : onward colon w ≡ [] = rw (up_to_run in_scheme colon colon_apart w f, ← run) g in
+      rw (o, and-false (is_scheme (up_to colon w))))
+      (λ f. rw (up_to_more in_scheme colon colon_apart w f, and-false (starts_in is_letter (up_to colon w))))
 
-pub iri_no_letter : (w : List ℕ) → (length w ≡ 0 → ⊥) → is_letter (get_or w 0 0) ≡ false → false ≡ is_iri w
-unfolding is_iri is_scheme
-iri_no_letter [] h e = absurd (h refl)
-iri_no_letter (b ∷ l) h e = rw (no_letter (is (byte ":")) b l e)
+  module _ (h : 1 ≤ length (from w n)) where
+    pub iri_long : 0 < length w
+    iri_long = omega (arith, part_size w n)
 
-pub iri_no_colon : (w : List ℕ) (n : ℕ) → n ≡ length_in in_scheme w → starts_with (bytes ":") (drop n w) ≡ false → false ≡ is_iri w
-unfolding is_iri is_scheme starts_in
-iri_no_colon w n q e =
-    let colon = is (byte ":") in
-    split (ends_at colon (behind in_scheme w))
-    (λ f. let g : drop n w ≡ [] = no_mark_ends (byte ":") (drop n w) e (rw q f) in
-    let o : onward colon w ≡ [] = rw (up_to_run in_scheme colon colon_apart w f, ← q) g in
-    rw (o, and-false (is_scheme (up_to colon w))))
-    (λ f. rw (up_to_more in_scheme colon colon_apart w f, and-false (starts_in is_letter (up_to colon w))))
+    pub iri_no_letter : is_letter (get_or w 0 0) ≡ false → false ≡ is_iri w
+    unfolding is_iri is_scheme
+    iri_no_letter e =
+        rw (here w 0 iri_long, no_letter (is (byte ":")) (get_or w 0 0) (drop 1 w) e)
 
-pub iri_body : (w : List ℕ) (n : ℕ) → n ≡ length_in in_scheme w → (length w ≡ 0 → ⊥) → is_letter (get_or w 0 0) ≡ true
-    → starts_with (bytes ":") (drop n w) ≡ true → is_iri_body (length w) (drop (n + 1) w) ≡ is_iri w
-unfolding is_iri is_scheme starts_in
-iri_body [] n q h l e = absurd (h refl)
-iri_body (b ∷ w) n q h l e =
-    let colon = is (byte ":") in
-    let f : ends_at colon (behind in_scheme (b ∷ w)) ≡ true = rw (← q) (mark_ends (byte ":") (drop n (b ∷ w)) e) in
-    let c : starts_in colon (drop n (b ∷ w)) ≡ true = sym (starts_one (byte ":") (drop n (b ∷ w))) ∙ e in
-    rw (up_to_run in_scheme colon colon_apart (b ∷ w) f, first_letter b w l, front_all in_scheme (b ∷ w), ← q, c, drop-drop)
+    pub iri_body : get_or (from w n) 0 0 ≡ byte ":" → is_letter (get_or w 0 0) ≡ true → is_iri_body (length w) (from (from w n) 1) ≡ is_iri w
+    unfolding is_iri is_scheme starts_in
+    iri_body q l =
+        let colon = is (byte ":") in
+        let e : starts_with (bytes ":") (drop n w) ≡ true = rw (part_rest w n) at (one_there (byte ":") (from w n) h q) in
+        let f : ends_at colon (behind in_scheme w) ≡ true = rw (← run) (mark_ends (byte ":") (drop n w) e) in
+        let c : starts_in colon (drop n w) ≡ true = sym (starts_one (byte ":") (drop n w)) ∙ e in
+        let s : starts_in is_letter (front in_scheme w) ≡ true = rw (here w 0 iri_long) (first_letter (get_or w 0 0) (drop 1 w) l) in
+        rw (part_rest (from w n) 1, part_rest w n, up_to_run in_scheme colon colon_apart w f, s, front_all in_scheme w, ← run, c, drop-drop)

@@ -1,6 +1,7 @@
 -- Laws of reading a value that holds no items at a place, over the definitions of the paper.
 pub mod Runs
 pub mod Showing
+pub mod Forms
 pub mod HexDigits
 pub mod Escaping
 pub mod Quotes

@@ -1,13 +1,13 @@
 -- The forms of numbers, by what stands behind the integer in front: a law for each way out of their functions. Assumes nothing.
 -- Document 01, "The grammar", Values, Numbers; 001 §12.
-use Prim.Native.Nat.{ℕ, ◌+◌, ◌-◌, ◌<◌}
+use Prim.Native.Nat.{ℕ, ◌≤◌, ◌<◌}
 use mathlib.Core.Path.{◌≡◌, refl, sym, ap, ◌∙◌}
 use mathlib.Core.Bool.{Bool, true, false, not, ◌&&◌}
 use mathlib.Core.List.{List, [], ◌∷◌, ◌++◌, append-nil, append_assoc}
 use mathlib.Core.Logic.{◌⊎◌, inl, inr, ⊎_elim}
 use native.Mathlib.Omega.{arith}
-use lib.ListN.{length, get_or, take, drop}
-use lib.Seq.{take-length}
+use lib.ListN.{length, get_or, take, take-append-drop}
+use lib.Seq.{take_all}
 use lib.Dec.{eqb}
 use borrow.Author.Tests.{ne_eqb}
 use Rattle.paper.specs.Found.{pick}
@@ -15,8 +15,9 @@ use Rattle.paper.specs.Bytes.{byte, is_digit, all, elem, starts_in, length_in, f
 use Rattle.paper.specs.Values.{is_count, is_integer, is_decimal, is_exponent, is_scientific, is_fraction}
 use Rattle.paper.proofs.Tests.{split, true_false, apart, or_left}
 use Rattle.paper.proofs.Lists.{all_head, all_weaken, front_all, front_behind, behind_stops, is_not}
-use Rattle.text.proofs.Places.{here, part_rest, parts_at}
+use Rattle.text.proofs.Places.{here, part_rest}
 use Rattle.leaves.specs.Kinds.{integer_length, number_form, point_form}
+use Rattle.leaves.proofs.Runs.{part_size, from}
 use Rattle.leaves.proofs.Integers.{in_integer, integer_made, integer_broken, digits_broken, Begun, integers, none_before, whole_none}
 
 -- ---- a word in two parts at the first mark
@@ -105,6 +106,16 @@ module _ (v : List ℕ) (good : is_integer v ≡ true) (c : ℕ) (d : is_digit c
 
 -- ---- the form of a word that begins with an integer
 
+-- the byte in front of an exponent
+abbrev pub Exponent : ℕ → Type 0
+Exponent b = (b ≡ byte "E") ⊎ (b ≡ byte "e")
+
+-- what is left from a place on, behind what stands before it
+behind : (w : List ℕ) (n : ℕ) → 1 ≤ length (from w n) → w ≡ take n w ++ (get_or (from w n) 0 0 ∷ from (from w n) 1)
+behind w n h =
+    sym (take-append-drop n w)
+    ∙ ap (λ (x : List ℕ). take n w ++ x) (sym (part_rest w n) ∙ here (from w n) 0 h ∙ ap (λ (x : List ℕ). get_or (from w n) 0 0 ∷ x) (sym (part_rest (from w n) 1)))
+
 module _ (v : List ℕ) (good : is_integer v ≡ true) (c : ℕ) (d : is_digit c ≡ false) (r : List ℕ) where
   form_point : c ≡ byte "." → point_form r ≡ number_form (v ++ (c ∷ r))
   unfolding number_form point_form elem
@@ -177,35 +188,35 @@ number_none w z =
 
 -- ---- at the end of the integer in front
 
-module _ (w : List ℕ) (n : ℕ) (size : n ≡ integer_length w) (some : n ≡ 0 → ⊥) where
+module _ (w : List ℕ) (n : ℕ) (size : n ≡ integer_length w) (some : 0 < n) where
   begun : Begun is_integer w n
-  begun = rw size (integers.begins w (rw size at some))
+  begun = let k : integer_length w ≡ 0 → ⊥ = λ z. omega arith in rw size (integers.begins w k)
 
-  pub number_integer : n ≡ length w → 4 ≡ number_form w
+  pub number_integer : length (from w n) < 1 → 4 ≡ number_form w
   unfolding number_form
-  number_integer e = rw (rw (e, take-length w) at begun.good)
+  number_integer h =
+      let l : length w ≤ n = omega (arith, part_size w n) in
+      rw (rw (take_all n w l) at begun.good)
 
-  module _ (h : n < length w) where
-    next : is_digit (get_or w n 0) ≡ false
+  module _ (h : 1 ≤ length (from w n)) where
+    parts : w ≡ take n w ++ (get_or (from w n) 0 0 ∷ from (from w n) 1)
+    parts = behind w n h
+
+    next : is_digit (get_or (from w n) 0 0) ≡ false
     unfolding starts_in
-    next = rw (here w n h) at begun.stops
+    next = rw (here (from w n) 0 h) at (rw (← part_rest w n) at begun.stops)
 
-    pub number_point : get_or w n 0 ≡ byte "." → point_form (drop (n + 1) w) ≡ number_form w
-    number_point e = form_point (take n w) begun.good (get_or w n 0) next (drop (n + 1) w) e ∙ ap number_form (sym (parts_at w n h))
+    pub number_point : get_or (from w n) 0 0 ≡ byte "." → point_form (from (from w n) 1) ≡ number_form w
+    number_point e = form_point (take n w) begun.good (get_or (from w n) 0 0) next (from (from w n) 1) e ∙ ap number_form (sym parts)
 
-    pub number_exponent : (get_or w n 0 ≡ byte "E") ⊎ (get_or w n 0 ≡ byte "e") → pick (is_integer (drop (n + 1) w)) 6 0 ≡ number_form w
-    number_exponent e = form_exponent (take n w) begun.good (get_or w n 0) next (drop (n + 1) w) e ∙ ap number_form (sym (parts_at w n h))
+    pub number_exponent : Exponent (get_or (from w n) 0 0) → pick (is_integer (from (from w n) 1)) 6 0 ≡ number_form w
+    number_exponent e = form_exponent (take n w) begun.good (get_or (from w n) 0 0) next (from (from w n) 1) e ∙ ap number_form (sym parts)
 
-    pub number_fraction : get_or w n 0 ≡ byte "/" → pick (is_count (drop (n + 1) w)) 7 0 ≡ number_form w
-    number_fraction e = form_fraction (take n w) begun.good (get_or w n 0) next (drop (n + 1) w) e ∙ ap number_form (sym (parts_at w n h))
+    pub number_fraction : get_or (from w n) 0 0 ≡ byte "/" → pick (is_count (from (from w n) 1)) 7 0 ≡ number_form w
+    number_fraction e = form_fraction (take n w) begun.good (get_or (from w n) 0 0) next (from (from w n) 1) e ∙ ap number_form (sym parts)
 
-    pub number_other : (get_or w n 0 ≡ byte "." → ⊥) → ((get_or w n 0 ≡ byte "E") ⊎ (get_or w n 0 ≡ byte "e") → ⊥) → (get_or w n 0 ≡ byte "/" → ⊥) → 0 ≡ number_form w
-    number_other p x s = form_other (take n w) begun.good (get_or w n 0) next (drop (n + 1) w) p x s ∙ ap number_form (sym (parts_at w n h))
-
--- the form by a rule for the part that is left
-pub part_form : (rule : List ℕ → Bool) (w : List ℕ) (i k f : ℕ) (o : Bool) → f ≡ pick o k 0 → o ≡ rule (take (length w - i) (drop i w))
-    → f ≡ pick (rule (drop i w)) k 0
-part_form rule w i k f o e q = e ∙ ap (λ (x : Bool). pick x k 0) (q ∙ ap rule (part_rest w i))
+    pub number_other : (get_or (from w n) 0 0 ≡ byte "." → ⊥) → (Exponent (get_or (from w n) 0 0) → ⊥) → (get_or (from w n) 0 0 ≡ byte "/" → ⊥) → 0 ≡ number_form w
+    number_other p x s = form_other (take n w) begun.good (get_or (from w n) 0 0) next (from (from w n) 1) p x s ∙ ap number_form (sym parts)
 
 -- ---- behind a point
 
@@ -231,34 +242,39 @@ module _ (w : List ℕ) (n : ℕ) (size : n ≡ length_in is_digit w) (some : n 
   unfolding are_digits
   digits = rw (all_digits, size, starts_front is_digit w (omega arith))
 
-  pub point_decimal : n ≡ length w → 5 ≡ point_form w
+  pub point_decimal : length (from w n) < 1 → 5 ≡ point_form w
   unfolding point_form
-  point_decimal e = rw (rw (e, take-length w) at digits)
+  point_decimal h =
+      let l : length w ≤ n = omega (arith, part_size w n) in
+      rw (rw (take_all n w l) at digits)
 
-  module _ (h : n < length w) where
-    next_other : is_digit (get_or w n 0) ≡ false
+  module _ (h : 1 ≤ length (from w n)) where
+    parts_digits : w ≡ take n w ++ (get_or (from w n) 0 0 ∷ from (from w n) 1)
+    parts_digits = behind w n h
+
+    next_other : is_digit (get_or (from w n) 0 0) ≡ false
     unfolding starts_in
-    next_other = rw (here w n h) at (rw (← size) at (behind_stops is_digit w))
+    next_other = rw (here (from w n) 0 h) at (rw (← part_rest w n) at (rw (← size) at (behind_stops is_digit w)))
 
     not_digits : are_digits w ≡ false
-    not_digits = ap are_digits (parts_at w n h) ∙ digits_broken (take n w) (get_or w n 0) (drop (n + 1) w) next_other
+    not_digits = ap are_digits parts_digits ∙ digits_broken (take n w) (get_or (from w n) 0 0) (from (from w n) 1) next_other
 
     made : all in_integer (take n w) ≡ true
     made = all_weaken is_digit in_integer (λ b d. or_left (is_digit b) _ d) (take n w) all_digits
 
-    pub point_exponent : (get_or w n 0 ≡ byte "E") ⊎ (get_or w n 0 ≡ byte "e") → pick (is_integer (drop (n + 1) w)) 6 0 ≡ point_form w
+    pub point_exponent : Exponent (get_or (from w n) 0 0) → pick (is_integer (from (from w n) 1)) 6 0 ≡ point_form w
     unfolding point_form elem
     point_exponent e =
-        let k = mark_parts is_exponent exponent_apart (take n w) made (get_or w n 0) (drop (n + 1) w) (⊎_elim (λ q. rw q) (λ q. rw q) e) in
-        let u : up_to is_exponent w ≡ take n w = ap (up_to is_exponent) (parts_at w n h) ∙ k.0 in
-        let p : past is_exponent w ≡ drop (n + 1) w = ap (past is_exponent) (parts_at w n h) ∙ k.1 in
+        let k = mark_parts is_exponent exponent_apart (take n w) made (get_or (from w n) 0 0) (from (from w n) 1) (⊎_elim (λ q. rw q) (λ q. rw q) e) in
+        let u : up_to is_exponent w ≡ take n w = ap (up_to is_exponent) parts_digits ∙ k.0 in
+        let p : past is_exponent w ≡ from (from w n) 1 = ap (past is_exponent) parts_digits ∙ k.1 in
         rw (not_digits, u, p, digits)
 
-    pub point_other : ((get_or w n 0 ≡ byte "E") ⊎ (get_or w n 0 ≡ byte "e") → ⊥) → 0 ≡ point_form w
+    pub point_other : (Exponent (get_or (from w n) 0 0) → ⊥) → 0 ≡ point_form w
     unfolding point_form elem
     point_other x =
-        let no : is_exponent (get_or w n 0) ≡ false = rw (ne_eqb (get_or w n 0) (byte "e") (λ q. x (inr q)), ne_eqb (get_or w n 0) (byte "E") (λ q. x (inl q))) in
-        let k = other_parts is_exponent exponent_apart (take n w) made (get_or w n 0) (drop (n + 1) w) no in
-        let u : are_digits (up_to is_exponent w) ≡ false = ap (λ (y : List ℕ). are_digits (up_to is_exponent y)) (parts_at w n h)
+        let no : is_exponent (get_or (from w n) 0 0) ≡ false = rw (ne_eqb (get_or (from w n) 0 0) (byte "e") (λ q. x (inr q)), ne_eqb (get_or (from w n) 0 0) (byte "E") (λ q. x (inl q))) in
+        let k = other_parts is_exponent exponent_apart (take n w) made (get_or (from w n) 0 0) (from (from w n) 1) no in
+        let u : are_digits (up_to is_exponent w) ≡ false = ap (λ (y : List ℕ). are_digits (up_to is_exponent y)) parts_digits
         ∙ rw k.0 (digits_broken (take n w) _ _ next_other) in
         rw (not_digits, u)

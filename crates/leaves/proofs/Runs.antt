@@ -6,6 +6,7 @@ use mathlib.Core.List.{List, [], ◌∷◌}
 use native.Mathlib.Omega.{arith}
 use lib.Dec.{eqb}
 use lib.ListN.{length, get_or, take, drop, length-drop}
+use borrow.Author.Tests.{eq-eqb, ne_eqb}
 use Rattle.paper.specs.Bytes.{all, starts_in, starts_with, length_in, behind, up_to, is}
 use Rattle.paper.proofs.Tests.{split, true_false}
 use Rattle.paper.proofs.Lists.{all_nil, all_cons}
@@ -22,6 +23,10 @@ module _ (class : ℕ → Bool) where
       (λ e. all_cons class b (take n l) e (all_front n l (omega (arith, rw (e, length_in) at h))))
       (λ e. absurd (omega (arith, rw (e, length_in) at h)))
 
+-- what is left of a word from a place on, as a part of it
+abbrev pub from : List ℕ → ℕ → List ℕ
+from w i = take (length w - i) (drop i w)
+
 pub part_size : (w : List ℕ) (i : ℕ) → length (take (length w - i) (drop i w)) ≡ length w - i
 part_size w i = ap length (part_rest w i) ∙ length-drop i w
 
@@ -30,6 +35,16 @@ pub starts_one : (c : ℕ) (s : List ℕ) → starts_with (c ∷ []) s ≡ start
 unfolding starts_with starts_in
 starts_one c [] = refl
 starts_one c (b ∷ l) = split (eqb b c) (λ e. rw (e, starts_with)) (λ e. rw (e, starts_with))
+
+pub one_there : (c : ℕ) (s : List ℕ) → 1 ≤ length s → get_or s 0 0 ≡ c → starts_with (c ∷ []) s ≡ true
+unfolding starts_with
+one_there c [] h e = absurd (omega arith)
+one_there c (b ∷ l) h e = rw (eq-eqb b c e, starts_with)
+
+pub one_missing : (c : ℕ) (s : List ℕ) → (1 ≤ length s → get_or s 0 0 ≡ c → ⊥) → starts_with (c ∷ []) s ≡ false
+unfolding starts_with
+one_missing c [] n = refl
+one_missing c (b ∷ l) n = rw (ne_eqb b c (n (omega arith)), starts_with)
 
 -- the first byte of a list that has one
 pub starts_first : (class : ℕ → Bool) (w : List ℕ) → 0 < length w → starts_in class w ≡ class (get_or w 0 0)

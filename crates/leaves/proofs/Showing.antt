@@ -5,69 +5,70 @@ use mathlib.Core.Path.{◌≡◌, sym, ap, ◌∙◌}
 use mathlib.Core.List.{List, []}
 use native.Mathlib.Omega.{arith}
 use lib.ListN.{length, drop}
-use Rattle.paper.specs.declared.Refusal.{Refusal}
+use Rattle.std.specs.Prelude.{Result, Ok, Err, IsErrAnd}
+use Rattle.paper.specs.declared.Refused.{Refused}
 use Rattle.paper.specs.declared.Refusal.TheVariants.{Value, Cut}
-use Rattle.paper.specs.Answer.{number_of}
+use Rattle.paper.specs.Answer.{number_of, refused_at}
 use Rattle.paper.specs.Found.{Found, found, fault}
 use Rattle.paper.proofs.Finds.{Reads}
 use Rattle.text.proofs.Places.{place_back}
 use Rattle.text.proofs.Answers.{Tells, FoundTo, found_to, FaultAt, fault_to}
-use Rattle.leaves.specs.declared.judged.Judged.{Judged}
-use Rattle.leaves.specs.Shown.{Shown, refused_at, shown, shown_of, Judges}
+use Rattle.leaves.specs.Shown.{Shown, refused_at as refused_shown, shown, shown_of, Answers}
 
 -- ---- an answer from a reading
 
-module _ {A : Type 0} (form : A → ℕ) (s : List ℕ) (at : ℕ) (x : Found A) where
-  pub finds : (f end : ℕ) (a : A) → at < end → end ≤ length s → form a ≡ f → x ≡ found a (drop end s) → Judges form s at x (Judged.Found f end)
-  finds f end a h k g e =
+module _ {A T : Type 0} {form_of end_of : T → ℕ} (form : A → ℕ) (s : List ℕ) (at : ℕ) (x : Found A) where
+  pub finds : (v : T) (a : A) → at < end_of v → end_of v ≤ length s → form a ≡ form_of v → x ≡ found a (drop (end_of v) s)
+      → Answers form_of end_of form s at x (Ok v)
+  finds v a h k g e =
       record {
-        same = rw (e, g, place_back s end k);
-        ahead = λ f' end' q. let p : end ≡ end' = cc in omega arith;
-        inside = λ why place q. let z : ◌≡◌ {A = ℕ} 0 1 = cc in absurd (omega arith);
+        same = rw (e, g, place_back s (end_of v) k);
+        ahead = λ w q. let p : v ≡ w = cc in let b : (at < end_of v) × (end_of v ≤ length s) = (h, k) in rw p at b;
+        inside = λ w q. let z : ◌≡◌ {A = ℕ} 0 1 = cc in absurd (omega arith);
       }
 
-  pub refuses : (r : Judged) (why : Refusal) (place : ℕ) → r ≡ Judged.Refused why place → place ≤ length s → refused_at (number_of why) place ≡ shown_of form s x
-      → Judges form s at x r
-  refuses r why place q h e =
+  pub refuses : (e : Refused) → e.place ≤ length s → refused_shown (number_of e.refusal) e.place ≡ shown_of form s x → Answers form_of end_of form s at x (Err e)
+  refuses e h q =
       record {
-        same = rw q e;
-        ahead = λ f end p. let z : ◌≡◌ {A = ℕ} 0 1 = cc in absurd (omega arith);
-        inside = λ why' place' p. let n : place ≡ place' = cc in omega arith;
+        same = q;
+        ahead = λ v p. let z : ◌≡◌ {A = ℕ} 0 1 = cc in absurd (omega arith);
+        inside = λ w p. let n : e ≡ w = cc in rw n at h;
       }
 
   -- no value kind fits, at a place
-  pub no_value : (r : Judged) (place : ℕ) → r ≡ Judged.Refused Value place → place ≤ length s → x ≡ fault 6 (drop place s) → Judges form s at x r
-  no_value r place q h e = refuses r Value place q h (rw (e, place_back s place h))
+  pub no_value : (e : Refused) (place : ℕ) → e ≡ refused_at Value place → place ≤ length s → x ≡ fault 6 (drop place s) → Answers form_of end_of form s at x (Err e)
+  no_value e place q h y = rw q (refuses (refused_at Value place) h (rw (y, place_back s place h)))
 
   -- the end of input cuts it
-  pub cut_off : (r : Judged) → r ≡ Judged.Refused Cut (length s) → x ≡ fault 9 [] → Judges form s at x r
-  cut_off r q e = refuses r Cut (length s) q (omega arith) (rw e (ap (refused_at 9) (omega arith)))
+  pub cut_off : (e : Refused) → e ≡ refused_at Cut (length s) → x ≡ fault 9 [] → Answers form_of end_of form s at x (Err e)
+  cut_off e q y = rw q (refuses (refused_at Cut (length s)) (omega arith) (rw y (ap (refused_shown 9) (omega arith))))
 
 -- ---- a reading from an answer
 
-module _ {A : Type 0} {form : A → ℕ} {s : List ℕ} {at : ℕ} {x : Found A} {r : Judged} (e : Judges form s at x r) where
+module _ {A T : Type 0} {form_of end_of : T → ℕ} {form : A → ℕ} {s : List ℕ} {at : ℕ} {x : Found A} {r : Result T Refused}
+    (e : Answers form_of end_of form s at x r) where
   -- the number and the place of an answer are those of what is found
-  tells : (y : Judged) → r ≡ y → Tells s x (shown y).number (shown y).place
-  tells y q = go x (ap shown (sym q) ∙ e.same)
+  tells : (y : Result T Refused) → r ≡ y → Tells s x (shown form_of end_of y).number (shown form_of end_of y).place
+  tells y q = go x (ap (shown form_of end_of) (sym q) ∙ e.same)
     where
-      go : (x : Found A) → shown y ≡ shown_of form s x → Tells s x (shown y).number (shown y).place
+      go : (x : Found A) → shown form_of end_of y ≡ shown_of form s x → Tells s x (shown form_of end_of y).number (shown form_of end_of y).place
       go (found a left) k = (ap (λ (y : Shown). y.number) k, ap (λ (y : Shown). y.place) k)
       go (fault n left) k = (ap (λ (y : Shown). y.number) k, ap (λ (y : Shown). y.place) k)
 
-  pub stands : (P : A → List ℕ → Type 0) → Reads (drop at s) P x → (f end : ℕ) → r ≡ Judged.Found f end → FoundTo P s at x end
-  stands P h f end q = found_to P s at x end (tells (Judged.Found f end) q) h (omega (arith, e.ahead f end q))
+  pub stands : (P : A → List ℕ → Type 0) → Reads (drop at s) P x → (v : T) → r ≡ Ok v → FoundTo P s at x (end_of v)
+  stands P h v q = found_to P s at x (end_of v) (tells (Ok v) q) h (omega (arith, e.ahead v q))
 
-  pub fails : (why : Refusal) (place : ℕ) → r ≡ Judged.Refused why place → FaultAt s x why place
-  fails why place q = fault_to s x why place (tells (Judged.Refused why place) q)
+  pub fails : (w : Refused) → r ≡ Err w → FaultAt s x w.refusal w.place
+  fails w q = fault_to s x w.refusal w.place (tells (Err w) q)
 
   -- what keeps the faults of an inner reading has its refusal as it stands
-  pub passes : {B : Type 0} (outer : B → ℕ) (from : ℕ) (y : Found B) (why : Refusal) (place : ℕ) → r ≡ Judged.Refused why place
-      → ((left : List ℕ) → x ≡ fault (number_of why) left → y ≡ fault (number_of why) left) → Judges outer s from y r
-  passes outer from y why place q keeps =
-      let f = fails why place q in
-      refuses outer s from y r why place q (e.inside why place q) (ap shown (sym q) ∙ e.same ∙ rw (f.faults, keeps f.left f.faults))
+  pub passes : {B U : Type 0} {form_to end_to : U → ℕ} (outer : B → ℕ) (from : ℕ) (y : Found B) (w : Refused) → r ≡ Err w
+      → ((left : List ℕ) → x ≡ fault (number_of w.refusal) left → y ≡ fault (number_of w.refusal) left) → Answers form_to end_to outer s from y (Err w)
+  passes outer from y w q keeps =
+      let f = fails w q in
+      refuses outer s from y w (e.inside w q) (ap (shown form_of end_of) (sym q) ∙ e.same ∙ rw (f.faults, keeps f.left f.faults))
 
 -- a reading that sees the same from further on
-pub moved : {A : Type 0} {form : A → ℕ} {s : List ℕ} {next : ℕ} {y : Found A} {r : Judged} → Judges form s next y r → (at : ℕ) (x : Found A)
-    → at ≤ next → shown_of form s y ≡ shown_of form s x → Judges form s at x r
-moved e at x h q = record { same = e.same ∙ q; ahead = λ f end p. omega (arith, e.ahead f end p); inside = e.inside }
+pub moved : {A T : Type 0} {form_of end_of : T → ℕ} {form : A → ℕ} {s : List ℕ} {next : ℕ} {y : Found A} {r : Result T Refused}
+    → Answers form_of end_of form s next y r → (at : ℕ) (x : Found A) → at ≤ next → shown_of form s y ≡ shown_of form s x → Answers form_of end_of form s at x r
+moved e at x h q = record { same = e.same ∙ q; ahead = λ v p. omega (arith, e.ahead v p); inside = e.inside }

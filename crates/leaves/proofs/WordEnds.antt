@@ -1,14 +1,13 @@
 -- Where a word ends: a law for each way out of the test, and for each way on or out of the loop. Over plain lists. Assumes nothing.
 -- Document 01, "The grammar", Values: words.
 use Prim.Native.Nat.{ℕ, ◌+◌, ◌≤◌, ◌<◌}
-use mathlib.Core.Path.{◌≡◌, refl, sym, ◌∙◌}
-use mathlib.Core.Bool.{Bool, true, false, ◌||◌, or-false}
+use mathlib.Core.Path.{◌≡◌, refl, ◌∙◌}
+use mathlib.Core.Bool.{Bool, true, false, ◌||◌}
 use mathlib.Core.List.{List, [], ◌∷◌}
 use native.Mathlib.Nat.{add-zero}
 use native.Mathlib.Omega.{arith}
 use lib.ListN.{length, get_or, drop, drop_of_length-le}
-use lib.Dec.{eqb}
-use borrow.Author.Tests.{eq-eqb, ne_eqb}
+use borrow.Author.Tests.{ne_eqb}
 use Rattle.paper.specs.declared.brackets.Bracket.{Bracket}
 use Rattle.paper.specs.Bytes.{byte, bytes, is_blank, is_line_end, is_white, elem, starts_with}
 use Rattle.paper.specs.Values.{enders, is_ender, ends_word}
@@ -20,24 +19,15 @@ use Rattle.leaves.specs.declared.words.Around.{Around}
 use Rattle.leaves.specs.Kinds.{enders_of, inside_of}
 use Rattle.leaves.proofs.Runs.{starts_one}
 
--- ---- a byte that is one of these: the first of them, or one behind it
+-- ---- a byte that is none of these
 
-module _ (b c : ℕ) (l : List ℕ) where
-  pub first_of : b ≡ c → eqb b c ≡ elem b (c ∷ l)
-  unfolding elem
-  first_of e = rw (eq-eqb b c e)
-
-  pub later_of : {r : Bool} → (b ≡ c → ⊥) → r ≡ elem b l → r ≡ elem b (c ∷ l)
-  unfolding elem
-  later_of n e = rw (ne_eqb b c n) e
-
-pub last_of : (b c : ℕ) → eqb b c ≡ elem b (c ∷ [])
+pub none_of_two : (b c d : ℕ) → (b ≡ c → ⊥) × (b ≡ d → ⊥) → false ≡ elem b (c ∷ d ∷ [])
 unfolding elem
-last_of b c = sym (or-false (eqb b c))
+none_of_two b c d n = rw (ne_eqb b c n.0, ne_eqb b d n.1)
 
-pub none_of : (b : ℕ) → false ≡ elem b []
+pub none_of_three : (b c d e : ℕ) → (b ≡ c → ⊥) × (b ≡ d → ⊥) × (b ≡ e → ⊥) → false ≡ elem b (c ∷ d ∷ e ∷ [])
 unfolding elem
-none_of b = refl
+none_of_three b c d e n = rw (ne_eqb b c n.0, ne_eqb b d n.1, ne_eqb b e n.2)
 
 -- ---- the test
 

@@ -2,9 +2,9 @@
 // Document 01, "The grammar", Values; 001 §14, with the ranges of RFC 3987's ucschar; document 02, One.
 ghost use Rattle.std.specs.Prelude.{◌≡◌, ℕ, ◌≤◌, length};
 ghost use Rattle.paper.specs.Values.{is_iri_scalar, is_iri_body, is_iri};
+ghost use Rattle.leaves.specs.Kinds.{stands_ascii};
 
-use text::parts::starts_with;
-use text::runs::Class;
+use text::runs::{Scheme, skip};
 use text::utf8::{Cursor, Step};
 use text::{classes, runs};
 
@@ -12,44 +12,26 @@ use text::{classes, runs};
 pub fn is_iri(w: &[u8]) -> bool
     ensures { result ≡ is_iri w.now }
 {
-    if w.len() == 0 {
-        return false;
+    let colon = runs::end::<Scheme>(w, 0);
+    match &w[colon..] {
+        [b':', body @ ..] => classes::is_letter(w[0]) && is_body(body),
+        _ => false,
     }
-    if !classes::is_letter(w[0]) {
-        return false;
-    }
-    let colon = runs::end(w, 0, Class::Scheme);
-    if !starts_with(w, colon, b":") {
-        return false;
-    }
-    let body = colon + 1;
-    is_body(&w[body..])
 }
 
 // Whether every scalar value may stand in an IRI. A byte of ASCII is one by itself, and needs no step.
 fn is_body(body: &[u8]) -> bool
     ensures { (fuel : ℕ) → length body.now ≤ fuel → result ≡ is_iri_body fuel body.now }
 {
-    let mut i = 0;
-    while i < body.len() {
-        let b = body[i];
-        if b <= 0x7F {
-            if !may_stand_ascii(b) {
-                return false;
-            }
-            i += 1;
-        } else {
-            let cursor = Cursor::new(i);
-            let Step::Scalar(v, next) = cursor.step(body) else {
-                return false;
-            };
-            if !may_stand(v) {
-                return false;
-            }
-            i = next.at;
+    let mut cursor = Cursor::new(0);
+    loop {
+        let at = skip(cursor.at, body.len(), |i| may_stand_ascii(body[i]));
+        match Cursor::new(at).step(body) {
+            Step::Scalar(v, next) if may_stand(v) => cursor = next,
+            Step::End => return true,
+            _ => return false,
         }
     }
-    true
 }
 
 // Whether the scalar value may stand in an IRI. The gaps up to U+D7FF are request One's list, in the order of numbers.
@@ -73,16 +55,10 @@ fn may_stand(v: u32) -> bool
     }
 }
 
-// Whether the byte of ASCII may stand in an IRI. Small letters are asked for first, since most are.
+// Whether the byte is of ASCII and may stand in an IRI. Small letters are asked for first, since most are.
 fn may_stand_ascii(b: u8) -> bool
-    requires { b ≤ 0x7F }
-    ensures { result ≡ is_iri_scalar b }
+    ensures { result ≡ stands_ascii b }
 {
-    if classes::is_lower(b) {
-        return true;
-    }
-    match b {
-        b'!' | b'#'..=b';' | b'=' | b'?'..=b'[' | b']' | b'_' | b'~' => true,
-        _ => false,
-    }
+    classes::is_lower(b)
+        || matches!(b, b'!' | b'#'..=b';' | b'=' | b'?'..=b'[' | b']' | b'_' | b'~')
 }

@@ -18,58 +18,55 @@ ghost use Rattle.leaves.specs.Kinds.{enders_of};
 
 use crate::judged::Judged;
 use crate::words::Around;
-use paper::forms;
+use paper::forms::Form;
+use paper::{Refusal, Refused};
 use text::parts::find;
-use times::kinds;
-use times::kinds::kind;
+use times::kinds::kind_of;
 
 // Reads the value that stands at `at` and begins with no bracket.
-pub fn read_leaf(s: &[u8], at: usize, around: Around) -> Judged
+pub fn read_leaf(s: &[u8], at: usize, around: Around) -> Result<Judged, Refused>
     ensures { JudgesAt leaf_form (leaf_of (enders_of around)) s.now at result }
 {
-    if s.len() <= at {
-        return judged::cut(s);
-    }
-    match s[at] {
-        b'"' => quoted::string_end(s, at),
-        b'\'' => quoted::character_end(s, at),
-        b'`' => quoted::backtick_end(s, at),
-        b'{' => read_time(s, at),
-        _ => read_word(s, at, around),
+    match s.get(at) {
+        None => Err(Refusal::Cut.at(s.len())),
+        Some(b'"') => quoted::string_end(s, at),
+        Some(b'\'') => quoted::character_end(s, at),
+        Some(b'`') => quoted::backtick_end(s, at),
+        Some(b'{') => read_time(s, at),
+        Some(_) => read_word(s, at, around),
     }
 }
 
 // Reads the time whose brace stands at `at`; it is judged only where a brace closes it.
-fn read_time(s: &[u8], at: usize) -> Judged
+fn read_time(s: &[u8], at: usize) -> Result<Judged, Refused>
     requires { at < length s.now }
     ensures { JudgesAt leaf_form time_of s.now at result }
 {
     let start = at + 1;
     let end = find(s, start, b"}");
     if end == s.len() {
-        return judged::cut(s);
+        return Err(Refusal::Cut.at(s.len()));
     }
-    if kind(&s[start..end]) == kinds::NONE {
-        return judged::no_value(at);
+    if kind_of(&s[start..end]).is_none() {
+        return Err(Refusal::Value.at(at));
     }
-    Judged::Found {
-        form: forms::TIME,
+    Ok(Judged {
+        form: Form::Time,
         end: end + 1,
-    }
+    })
 }
 
 // Reads the word that stands at `at`; it is judged only where something ends it.
-fn read_word(s: &[u8], at: usize, around: Around) -> Judged
+fn read_word(s: &[u8], at: usize, around: Around) -> Result<Judged, Refused>
     requires { at ≤ length s.now }
     ensures { JudgesAt leaf_form (word_leaf (enders_of around)) s.now at result }
 {
     let end = words::word_end(s, at, around);
     if end == s.len() {
-        return judged::cut(s);
+        return Err(Refusal::Cut.at(s.len()));
     }
-    let form = words::word_form(&s[at..end]);
-    if form == forms::NONE {
-        return judged::no_value(at);
-    }
-    Judged::Found { form, end }
+    let Some(form) = words::word_form(&s[at..end]) else {
+        return Err(Refusal::Value.at(at));
+    };
+    Ok(Judged { form, end })
 }

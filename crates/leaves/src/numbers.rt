@@ -1,49 +1,39 @@
 // Numbers: the form of a word that is one.
 // Document 01, "The grammar", Values, Numbers; 001 §12.
 ghost use Rattle.std.specs.Prelude.{◌≡◌, ◌≤◌, length};
+ghost use Rattle.paper.specs.Forms.{number_or_none};
 ghost use Rattle.paper.specs.Values.{is_count, is_integer};
-ghost use Rattle.leaves.specs.Kinds.{sign_length, count_length, integer_length, number_form, point_form};
+ghost use Rattle.leaves.specs.Kinds.{sign_length, count_length, integer_length, some_length, number_form, point_form};
 
-use paper::forms;
-use paper::forms::only_if;
-use text::runs::Class;
-use text::{classes, runs};
+use paper::forms::Form;
+use text::runs::{self, Digit};
 
 // The form of a number, none where the word is no number: an integer, and behind it perhaps a point, an exponent or a denominator.
-pub fn number_form(w: &[u8]) -> u32
-    ensures { result ≡ number_form w.now }
+pub fn number_form(w: &[u8]) -> Option<Form>
+    ensures { number_or_none result ≡ number_form w.now }
 {
-    let size = integer_length(w);
-    if size == 0 {
-        return forms::NONE;
-    }
-    if size == w.len() {
-        return forms::INTEGER;
-    }
-    let rest = size + 1;
-    match w[size] {
-        b'.' => point_form(&w[rest..]),
-        b'e' | b'E' => only_if(is_integer(&w[rest..]), forms::SCIENTIFIC),
-        b'/' => only_if(is_count(&w[rest..]), forms::FRACTION),
-        _ => forms::NONE,
+    let size = integer_length(w)?;
+    match &w[size..] {
+        [] => Some(Form::Integer),
+        [b'.', rest @ ..] => point_form(rest),
+        [b'e' | b'E', rest @ ..] => is_integer(rest).then_some(Form::Scientific),
+        [b'/', rest @ ..] => is_count(rest).then_some(Form::Fraction),
+        _ => None,
     }
 }
 
 // The form of a number by what stands behind its point: digits, and perhaps an exponent.
-fn point_form(w: &[u8]) -> u32
-    ensures { result ≡ point_form w.now }
+fn point_form(w: &[u8]) -> Option<Form>
+    ensures { number_or_none result ≡ point_form w.now }
 {
-    let size = runs::end(w, 0, Class::Digit);
+    let size = runs::end::<Digit>(w, 0);
     if size == 0 {
-        return forms::NONE;
+        return None;
     }
-    if size == w.len() {
-        return forms::DECIMAL;
-    }
-    let rest = size + 1;
-    match w[size] {
-        b'e' | b'E' => only_if(is_integer(&w[rest..]), forms::SCIENTIFIC),
-        _ => forms::NONE,
+    match &w[size..] {
+        [] => Some(Form::Decimal),
+        [b'e' | b'E', rest @ ..] => is_integer(rest).then_some(Form::Scientific),
+        _ => None,
     }
 }
 
@@ -51,53 +41,44 @@ fn point_form(w: &[u8]) -> u32
 fn is_integer(w: &[u8]) -> bool
     ensures { result ≡ is_integer w.now }
 {
-    let size = integer_length(w);
-    size != 0 && size == w.len()
+    integer_length(w) == Some(w.len())
 }
 
 // Whether the word is digits with no leading zero.
 fn is_count(w: &[u8]) -> bool
     ensures { result ≡ is_count w.now }
 {
-    let size = count_length(w);
-    size != 0 && size == w.len()
+    count_length(w) == Some(w.len())
 }
 
-// How many bytes the integer in front takes, 0 where none stands there.
-fn integer_length(w: &[u8]) -> usize
-    ensures { (result ≡ integer_length w.now) × (result ≤ length w.now) }
+// How many bytes the integer in front takes, if one stands there.
+fn integer_length(w: &[u8]) -> Option<usize>
+    ensures { (result ≡ some_length (integer_length w.now)) × (integer_length w.now ≤ length w.now) }
 {
     let sign = sign_length(w);
-    let size = count_length(&w[sign..]);
-    if size == 0 {
-        return 0;
-    }
-    sign + size
+    Some(sign + count_length(&w[sign..])?)
 }
 
-// Whether a sign stands in front, as how many bytes it takes.
+// How many bytes a sign in front takes.
 fn sign_length(w: &[u8]) -> usize
     ensures { (result ≡ sign_length w.now) × (result ≤ length w.now) }
 {
-    if w.len() == 0 {
-        return 0;
+    match w {
+        [b'+' | b'-', ..] => 1,
+        _ => 0,
     }
-    if !classes::is_one_of(w[0], b"+-") {
-        return 0;
-    }
-    1
 }
 
-// How many digits stand in front, 0 where they have a leading zero.
-fn count_length(w: &[u8]) -> usize
-    ensures { (result ≡ count_length w.now) × (result ≤ length w.now) }
+// How many digits stand in front with no leading zero, if any do.
+fn count_length(w: &[u8]) -> Option<usize>
+    ensures { (result ≡ some_length (count_length w.now)) × (count_length w.now ≤ length w.now) }
 {
-    let size = runs::end(w, 0, Class::Digit);
-    if size < 2 {
-        return size;
+    let size = runs::end::<Digit>(w, 0);
+    if size == 0 {
+        return None;
     }
-    if w[0] == b'0' {
-        return 0;
+    if 1 < size && w[0] == b'0' {
+        return None;
     }
-    size
+    Some(size)
 }

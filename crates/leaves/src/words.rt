@@ -1,7 +1,8 @@
 // Words: where one ends, and its form.
 // Document 01, "The grammar", Values: true and false, "$" and "~", UUIDs, numbers and IRIs.
-ghost use Rattle.std.specs.Prelude.{◌≡◌, [], ◌∷◌, ◌+◌, ◌≤◌, ◌<◌, length, get_or, drop};
-ghost use Rattle.paper.specs.Bytes.{byte, elem};
+ghost use Rattle.std.specs.Prelude.{◌≡◌, ◌+◌, ◌≤◌, ◌<◌, length, drop};
+ghost use Rattle.paper.specs.Bytes.{elem};
+ghost use Rattle.paper.specs.Forms.{number_or_none};
 ghost use Rattle.paper.specs.Values.{is_uuid, word_form, ends_word};
 ghost use Rattle.paper.specs.ReadingValues.{word_length};
 ghost use Rattle.leaves.specs.Kinds.{enders_of, inside_of, is_named, lettered_form, numeral_form, is_group};
@@ -9,10 +10,9 @@ ghost use Rattle.leaves.specs.Kinds.{enders_of, inside_of, is_named, lettered_fo
 use crate::iris::is_iri;
 use crate::numbers::number_form;
 use paper::brackets::Bracket;
-use paper::forms;
-use paper::forms::only_if;
+use paper::forms::Form;
 use text::parts::{same, starts_with};
-use text::runs::Class;
+use text::runs::{Hex, Name};
 use text::{classes, runs};
 
 // What stands around a word directly, which decides where it ends: nothing; a bracket of whose items it is one, closed by "]" or by ")"; or
@@ -31,10 +31,20 @@ impl Around {
         ensures { result ≡ inside_of kind }
     {
         match kind {
-            Bracket::List => Around::Square,
-            Bracket::Set => Around::Square,
-            Bracket::Map => Around::Square,
+            Bracket::List | Bracket::Set | Bracket::Map => Around::Square,
             Bracket::Tuple => Around::Round,
+        }
+    }
+
+    // Whether the byte ends such a word, beside those that end every word.
+    fn ends(self, b: u8) -> bool
+        ensures { result ≡ elem b (enders_of self) }
+    {
+        match self {
+            Around::Nothing => false,
+            Around::Square => matches!(b, b',' | b']'),
+            Around::Round => matches!(b, b',' | b')'),
+            Around::Key => matches!(b, b':' | b',' | b']'),
         }
     }
 }
@@ -44,14 +54,12 @@ pub fn word_end(s: &[u8], at: usize, around: Around) -> usize
     requires { at ≤ length s.now }
     ensures { (result ≡ at + word_length (enders_of around) (drop at s.now)) × (at ≤ result) × (result ≤ length s.now) }
 {
-    let mut i = at;
-    while i < s.len() {
+    for i in at..s.len() {
         if ends_word(s, i, around) {
             return i;
         }
-        i += 1;
     }
-    i
+    s.len()
 }
 
 // Whether a word ends before the byte at `at`.
@@ -59,110 +67,69 @@ pub fn ends_word(s: &[u8], at: usize, around: Around) -> bool
     requires { at < length s.now }
     ensures { result ≡ ends_word (enders_of around) (drop at s.now) }
 {
-    let b = s[at];
-    match b {
+    match s[at] {
         b'>' => true,
         b'/' => starts_with(s, at, b"/>"),
-        _ => classes::is_white(b) || ends_item(s, at, around),
+        b => classes::is_white(b) || around.ends(b),
     }
-}
-
-// Whether what stands around a word ends it before `at`.
-fn ends_item(s: &[u8], at: usize, around: Around) -> bool
-    requires { at < length s.now }
-    ensures { result ≡ elem (get_or s.now at 0) (enders_of around) }
-{
-    let b = s[at];
-    match around {
-        Around::Nothing => false,
-        Around::Square => ends_in(b, b']'),
-        Around::Round => ends_in(b, b')'),
-        Around::Key => b == b':' || ends_in(b, b']'),
-    }
-}
-
-// Whether the byte ends a word directly in a bracket that this byte closes.
-fn ends_in(b: u8, closer: u8) -> bool
-    ensures { result ≡ elem b (byte "," ∷ closer ∷ []) }
-{
-    b == b',' || b == closer
 }
 
 // The form of a word, or none where no kind fits. Its first byte says which kinds can fit at all.
-pub fn word_form(w: &[u8]) -> u32
-    ensures { result ≡ word_form w.now }
+pub fn word_form(w: &[u8]) -> Option<Form>
+    ensures { number_or_none result ≡ word_form w.now }
 {
-    if w.len() == 0 {
-        return forms::NONE;
-    }
-    match w[0] {
-        b'$' => only_if(is_token(w, b'A', b'Z'), forms::PASCAL),
-        b'~' => only_if(is_token(w, b'a', b'z'), forms::CAMEL),
-        b'A'..=b'Z' | b'a'..=b'z' => lettered_form(w),
-        b'0'..=b'9' | b'+' | b'-' => numeral_form(w),
-        _ => forms::NONE,
+    match w {
+        [b'$', name @ ..] => is_named(name, b'A', b'Z').then_some(Form::Pascal),
+        [b'~', name @ ..] => is_named(name, b'a', b'z').then_some(Form::Camel),
+        [b'A'..=b'Z' | b'a'..=b'z', ..] => lettered_form(w),
+        [b'0'..=b'9' | b'+' | b'-', ..] => numeral_form(w),
+        _ => None,
     }
 }
 
 // The form of a word that begins with a letter.
-fn lettered_form(w: &[u8]) -> u32
-    ensures { result ≡ lettered_form w.now }
+fn lettered_form(w: &[u8]) -> Option<Form>
+    ensures { number_or_none result ≡ lettered_form w.now }
 {
-    if same(w, b"true") {
-        return forms::BOOLEAN;
-    }
-    if same(w, b"false") {
-        return forms::BOOLEAN;
+    if same(w, b"true") || same(w, b"false") {
+        return Some(Form::Boolean);
     }
     if is_uuid(w) {
-        return forms::UUID;
+        return Some(Form::Uuid);
     }
-    only_if(is_iri(w), forms::IRI)
+    is_iri(w).then_some(Form::Iri)
 }
 
 // The form of a word that begins with a digit or a sign.
-fn numeral_form(w: &[u8]) -> u32
-    ensures { result ≡ numeral_form w.now }
+fn numeral_form(w: &[u8]) -> Option<Form>
+    ensures { number_or_none result ≡ numeral_form w.now }
 {
     if is_uuid(w) {
-        return forms::UUID;
+        return Some(Form::Uuid);
     }
     number_form(w)
 }
 
-// Whether letters and digits alone stand behind the sign of a token, the first one a letter from `low` to `high`.
-fn is_token(w: &[u8], low: u8, high: u8) -> bool
-    ensures { result ≡ is_named low high (drop 1 w.now) }
+// Whether these are letters and digits alone, the first one a letter from `low` to `high`.
+fn is_named(w: &[u8], low: u8, high: u8) -> bool
+    ensures { result ≡ is_named low high w.now }
 {
-    if w.len() < 2 {
-        return false;
+    match w {
+        [] => false,
+        [first, ..] => classes::is_within(low, high, *first) && runs::end::<Name>(w, 0) == w.len(),
     }
-    if !classes::is_within(low, high, w[1]) {
-        return false;
-    }
-    runs::end(w, 1, Class::Name) == w.len()
 }
 
 // Whether the word is a UUID: hex digits in groups of 8, 4, 4, 4 and 12, with "-" between, which are 36 bytes.
 fn is_uuid(w: &[u8]) -> bool
     ensures { result ≡ is_uuid w.now }
 {
-    if w.len() != 36 {
-        return false;
-    }
-    if !is_group(w, 0, 8) {
-        return false;
-    }
-    if !is_group(w, 9, 4) {
-        return false;
-    }
-    if !is_group(w, 14, 4) {
-        return false;
-    }
-    if !is_group(w, 19, 4) {
-        return false;
-    }
-    runs::end(w, 24, Class::Hex) == 36
+    w.len() == 36
+        && is_group(w, 0, 8)
+        && is_group(w, 9, 4)
+        && is_group(w, 14, 4)
+        && is_group(w, 19, 4)
+        && runs::end::<Hex>(w, 24) == 36
 }
 
 // Whether so many hex digits stand at `at`, and "-" behind them.
@@ -170,6 +137,6 @@ fn is_group(w: &[u8], at: usize, size: usize) -> bool
     requires { at ≤ length w.now }
     ensures { result ≡ is_group size (drop at w.now) }
 {
-    let end = runs::end(w, at, Class::Hex);
+    let end = runs::end::<Hex>(w, at);
     end - at == size && starts_with(w, end, b"-")
 }

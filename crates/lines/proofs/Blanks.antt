@@ -7,18 +7,18 @@ use mathlib.Core.List.{List, [], ◌∷◌}
 use native.Mathlib.Omega.{arith}
 use lib.ListN.{length, get_or, drop, drop_of_length-le}
 use lib.Dec.{eqb}
-use Rattle.paper.specs.declared.Refusal.{Refusal}
+use Rattle.std.specs.Prelude.{Result, Ok, Err}
+use Rattle.paper.specs.declared.Refused.{Refused}
 use Rattle.paper.specs.Found.{found, fault, turn_of, taking}
 use Rattle.paper.specs.Bytes.{is_blank, is_line_end, starts_in, length_in, front, behind, starts_with, space, tab, is}
 use Rattle.paper.specs.Reading.{line_rest, is_blank_line, blank_turn, blank_lines, is_tab, no_space, tabs_only, last_blanks}
 use Rattle.paper.proofs.Tests.{split}
 use Rattle.paper.proofs.Lines.{blank_shorter}
 use Rattle.text.proofs.Places.{here}
-use Rattle.lines.specs.Parts.{seen, passed}
+use Rattle.lines.specs.Parts.{seen, reached, passed}
 use Rattle.lines.specs.declared.part.Part.{Part}
-use Rattle.lines.specs.declared.part.Part.TheVariants.{Read, Refused}
 use Rattle.text.proofs.Stretch.{Stretch, behind_at, behind_none, behind_some}
-use Rattle.lines.proofs.Crossing.{says_read}
+use Rattle.lines.proofs.Crossing.{reaches}
 use Rattle.lines.proofs.Ends.{RestAt, starts_one}
 use Rattle.lines.proofs.Turns.{turn_more, turn_over, turn_refused}
 
@@ -89,11 +89,11 @@ pub lines_begin : (s : List ℕ) (at : ℕ) → at ≤ length s → Lines s at a
 lines_begin s at h = record { inside = h; same = refl }
 
 module _ (s : List ℕ) (at i : ℕ) (so_far : Lines s at i) (o : Bool) (asked : o ≡ is_blank_line (drop i s)) where
-  pub lines_over : (r : Part) → r ≡ Read i 0 0 → o ≡ false → seen r ≡ passed s (blank_lines (drop at s))
+  pub lines_over : o ≡ false → reached (Ok i) ≡ passed s (blank_lines (drop at s))
   unfolding blank_turn
-  lines_over r e f =
-      says_read (λ bs. 0) (λ bs. 0) s (blank_lines (drop i s)) r [] i 0 0 e so_far.inside
-      (turn_over (taking (λ b. 0)) blank_turn blank_shorter 0 (drop i s) (drop i s) (rw (sym asked ∙ f, blank_turn))) refl refl
+  lines_over f =
+      reaches s (blank_lines (drop i s)) [] i so_far.inside
+      (turn_over (taking (λ b. 0)) blank_turn blank_shorter 0 (drop i s) (drop i s) (rw (sym asked ∙ f, blank_turn)))
       ∙ so_far.same
 
   module _ (t : o ≡ true) where
@@ -101,11 +101,10 @@ module _ (s : List ℕ) (at i : ℕ) (so_far : Lines s at i) (o : Bool) (asked :
     unfolding blank_turn
     a_line = rw (sym asked ∙ t, blank_turn)
 
-    pub lines_refused : (r : Part) (why : Refusal) (place : ℕ) → seen r ≡ passed s (line_rest (drop i s)) → r ≡ Refused why place
+    pub lines_refused : (r : Result Part Refused) (e : Refused) → seen (Err e) ≡ passed s (line_rest (drop i s)) → r ≡ Err e
         → seen r ≡ passed s (blank_lines (drop at s))
-    lines_refused r why place e q =
-        turn_refused (taking (λ b. 0)) blank_turn blank_shorter 0 (drop i s) (λ b. 0) (λ b. 0) s turn_of (λ n left. refl) (λ bs. 0) (λ bs. 0) (line_rest (drop i s)) r why
-        place e q a_line
+    lines_refused r e k q =
+        turn_refused (taking (λ b. 0)) blank_turn blank_shorter 0 (drop i s) (λ b. 0) (λ b. 0) s turn_of (λ n left. refl) (λ bs. 0) (λ bs. 0) (line_rest (drop i s)) r e k q a_line
         ∙ so_far.same
 
     pub lines_on : (end : ℕ) → RestAt s i end → Lines s at end

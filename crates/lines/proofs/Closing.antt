@@ -1,41 +1,36 @@
--- The closing line of Content at a place: a law for each way out of `closes` and `is_over` (src/content.rt). Assumes nothing.
+-- The closing line of Content at a place: a law for each way out of `closing_end` and `is_over` (src/content.rt). Assumes nothing.
 -- Document 01, "The grammar", Content.
 use Prim.Native.Nat.{ℕ, zero, suc, ◌+◌, ◌-◌, ◌≤◌, ◌<◌}
 use mathlib.Core.Path.{◌≡◌, refl, sym, ap, ◌∙◌}
-use mathlib.Core.Bool.{true, false, ◌&&◌}
-use mathlib.Core.List.{List, [], ◌∷◌, ◌++◌}
+use mathlib.Core.Bool.{Bool, true, false}
+use mathlib.Core.List.{List, [], ◌∷◌, append_cancel_left}
 use native.Mathlib.Omega.{arith}
 use lib.ListN.{length, drop, get_or, replicate, length-append, length-replicate, length-drop}
-use lib.Seq.{drop-drop, length-take-le}
+use lib.Seq.{drop-drop, length-take-le, drop-append_seam}
 use lib.Dec.{eqb}
-use Rattle.paper.specs.Bytes.{byte, bytes, is_blank, is_line_end, starts_in, length_in, behind, starts_with, tab}
-use Rattle.paper.specs.Grammar.{closing_onto}
+use Rattle.paper.specs.Bytes.{byte, is_blank, is_line_end, starts_in, length_in, behind, starts_with, tab}
+use Rattle.paper.specs.Grammar.{tabs_onto, closing_onto}
 use Rattle.paper.specs.Reading.{is_tab, at_line_end, closing_mark, closes_line}
 use Rattle.paper.proofs.Tests.{split}
+use Rattle.paper.proofs.Lists.{starts_is, starts_of}
 use Rattle.paper.proofs.Lines.{tabs_length}
-use Rattle.paper.proofs.Content.{closes_is}
-use Rattle.lines.specs.Parts.{part}
+use Rattle.paper.proofs.Content.{mark_onto, closes_is}
+use Rattle.lines.specs.Parts.{part, Closes}
 use Rattle.text.proofs.Stretch.{Stretch, behind_none, behind_some}
-use Rattle.text.proofs.Compared.{stands_inside}
+use Rattle.std.specs.Bool.{then_some}
 
 -- ---- only blanks up to the end of the line
 
 module _ (s : List ℕ) (at end : ℕ) (run : Stretch is_blank s at end) where
-  pub over_end : end ≡ length s → true ≡ at_line_end (behind is_blank (drop at s))
+  pub over_end : length s ≤ end → true ≡ at_line_end (behind is_blank (drop at s))
   unfolding at_line_end
-  over_end h = rw (behind_none is_blank s at end run (omega arith))
+  over_end h = rw (behind_none is_blank s at end run h)
 
   pub over_byte : end < length s → is_line_end (get_or s end 0) ≡ at_line_end (behind is_blank (drop at s))
   unfolding at_line_end
   over_byte h = rw (behind_some is_blank s at end run h)
 
 -- ---- the closing line by its parts
-
-starts_both : (p q s : List ℕ) → starts_with (p ++ q) s ≡ starts_with p s && starts_with q (drop (length p) s)
-unfolding starts_with
-starts_both [] q s = refl
-starts_both (b ∷ p) q [] = refl
-starts_both (b ∷ p) q (c ∷ s) = split (eqb c b) (λ e. rw (e, starts_with) (starts_both p q s)) (λ e. rw (e, starts_with))
 
 -- it has exactly these tabs
 closes_tabs : (tabs : ℕ) (w s : List ℕ) → closes_line tabs w s ≡ true → length_in is_tab s ≡ tabs
@@ -56,63 +51,55 @@ tabs_fail zero s h = absurd (omega arith)
 tabs_fail (suc n) [] h = refl
 tabs_fail (suc n) (b ∷ s) h = split (eqb b tab) (λ e. rw (e, starts_with) (tabs_fail n s (omega (arith, rw (e, length_in) at h)))) (λ e. rw (e, starts_with))
 
--- where so many tabs stand in front, what stands behind them decides
-behind_tabs_lem : (tabs : ℕ) (w s : List ℕ) → length_in is_tab s ≡ tabs → starts_with (closing_mark tabs w) s ≡ starts_with (closing_onto w []) (drop tabs s)
-behind_tabs_lem tabs w s e =
-    starts_both (replicate tabs tab) (closing_onto w []) s
-    ∙ rw (length-replicate tabs tab, tabs_stand tabs s (omega arith))
-
 pub mark_length : (tabs : ℕ) (w : List ℕ) → length (closing_mark tabs w) ≡ tabs + 3 + length w
 mark_length tabs w = omega (arith, length-append (replicate tabs tab) (closing_onto w []), length-replicate tabs tab, length-append w (byte ">" ∷ []))
 
 pub part_length : (s : List ℕ) (from to : ℕ) → from ≤ to → to ≤ length s → length (part s from to) ≡ to - from
 part_length s from to h k = length-take-le (to - from) (drop from s) (omega (arith, length-drop from s))
 
--- ---- the same at a place, where the tabs end at `mark` and the name has so many bytes
+-- ---- the same at a place, where the tabs end at `mark`
 
-module _ (s w : List ℕ) (at tabs mark size : ℕ) (run : Stretch is_tab s at mark) (z : length w ≡ size) where
-  pub other_tabs : (mark - at ≡ tabs → ⊥) → false ≡ closes_line tabs w (drop at s)
-  other_tabs f = split (closes_line tabs w (drop at s)) (λ h. absurd (f (omega (arith, run.0, closes_tabs tabs w (drop at s) h)))) (λ h. sym h)
+-- the closing mark behind its tabs decides, and what follows it
+closes_onto : (tabs : ℕ) (w next : List ℕ) → closes_line tabs w (tabs_onto tabs (closing_onto w next)) ≡ at_line_end (behind is_blank next)
+unfolding closes_line
+closes_onto tabs w next = rw (mark_onto tabs w next, starts_of (closing_mark tabs w) next, drop-append_seam (closing_mark tabs w) next)
+
+module _ (s w : List ℕ) (at tabs mark : ℕ) (run : Stretch is_tab s at mark) where
+  pub other_tabs : (mark - at ≡ tabs → ⊥) → closes_line tabs w (drop at s) ≡ false
+  other_tabs f = split (closes_line tabs w (drop at s)) (λ h. absurd (f (omega (arith, run.0, closes_tabs tabs w (drop at s) h)))) (λ h. h)
 
   module _ (f : mark - at ≡ tabs) where
-    by_parts : closes_line tabs w (drop at s)
-        ≡ (starts_with (bytes "</") (drop mark s) && (starts_with w (drop (mark + 2) s) && starts_with (bytes ">") (drop (mark + 2 + size) s)))
-        && at_line_end (behind is_blank (drop (mark + 2 + size + 1) s))
-    unfolding closes_line
-    by_parts =
-        let k : length_in is_tab (drop at s) ≡ tabs = omega (arith, run.0) in
+    behind_tabs : drop at s ≡ tabs_onto tabs (drop mark s)
+    behind_tabs =
         let m : at + tabs ≡ mark = omega (arith, run.1) in
-        let n : at + length (closing_mark tabs w) ≡ mark + 2 + size + 1 = omega (arith, mark_length tabs w) in
-        rw (
-          behind_tabs_lem tabs w (drop at s) k,
-          drop-drop tabs at s,
-          m,
-          starts_both (bytes "</") (w ++ bytes ">") (drop mark s),
-          starts_both w (bytes ">") (drop 2 (drop mark s)),
-          drop-drop 2 mark s,
-          drop-drop (length w) (mark + 2) s,
-          z,
-          drop-drop (length (closing_mark tabs w)) at s,
-          n,
-        )
+        let n : tabs ≤ length_in is_tab (drop at s) = omega (arith, run.0) in
+        starts_is (replicate tabs tab) (drop at s) (tabs_stand tabs (drop at s) n)
+        ∙ ap (tabs_onto tabs) (rw (length-replicate tabs tab, drop-drop tabs at s, m))
 
-    pub no_mark : starts_with (bytes "</") (drop mark s) ≡ false → false ≡ closes_line tabs w (drop at s)
-    no_mark o = sym (by_parts ∙ rw o)
+    pub other_mark : ((next : List ℕ) → drop mark s ≡ closing_onto w next → ⊥) → closes_line tabs w (drop at s) ≡ false
+    other_mark n =
+        split (closes_line tabs w (drop at s))
+        (λ e. absurd (n _ (append_cancel_left (replicate tabs tab) _ _ (sym behind_tabs ∙ closes_is tabs w (drop at s) e))))
+        (λ e. e)
 
-    module _ (o : starts_with (bytes "</") (drop mark s) ≡ true) where
-      pub other_name : starts_with w (drop (mark + 2) s) ≡ false → false ≡ closes_line tabs w (drop at s)
-      other_name h = sym (by_parts ∙ rw (o, h))
+    -- it stands there with what follows it
+    module _ (next : List ℕ) (end : ℕ) (e : drop mark s ≡ closing_onto w next) (k : end ≡ length s - length next) where
+      all_of_it : drop at s ≡ tabs_onto tabs (closing_onto w next)
+      all_of_it = behind_tabs ∙ ap (tabs_onto tabs) e
 
-      module _ (h : starts_with w (drop (mark + 2) s) ≡ true) where
-        pub no_end : starts_with (bytes ">") (drop (mark + 2 + size) s) ≡ false → false ≡ closes_line tabs w (drop at s)
-        no_end g = sym (by_parts ∙ rw (o, h, g))
+      ends : end ≡ at + length (closing_mark tabs w)
+      ends = omega (arith, mark_length tabs w, ap length e, length-drop mark s, length-append w (byte ">" ∷ next), run.1, run.2)
 
-        pub name_inside : mark + 2 + size ≤ length s
-        name_inside = omega (arith, stands_inside (bytes "</") s mark o, stands_inside w s (mark + 2) h)
+      left : drop end s ≡ next
+      left =
+          ap (λ (n : ℕ). drop n s) ends
+          ∙ sym (drop-drop (length (closing_mark tabs w)) at s)
+          ∙ ap (drop (length (closing_mark tabs w))) (all_of_it ∙ mark_onto tabs w next)
+          ∙ drop-append_seam (closing_mark tabs w) next
 
-        pub end_inside : starts_with (bytes ">") (drop (mark + 2 + size) s) ≡ true → mark + 2 + size + 1 ≤ length s
-        end_inside g = omega (arith, stands_inside (bytes ">") s (mark + 2 + size) g)
-
-        pub by_rest : starts_with (bytes ">") (drop (mark + 2 + size) s) ≡ true
-            → at_line_end (behind is_blank (drop (mark + 2 + size + 1) s)) ≡ closes_line tabs w (drop at s)
-        by_rest g = sym (by_parts ∙ rw (o, h, g))
+      pub this_mark : (over : Bool) → over ≡ at_line_end (behind is_blank (drop end s)) → Closes s at tabs w (then_some over end)
+      this_mark over o = go over (ap (closes_line tabs w) all_of_it ∙ closes_onto tabs w next ∙ sym (o ∙ ap (λ (l : List ℕ). at_line_end (behind is_blank l)) left))
+        where
+          go : (o : Bool) → closes_line tabs w (drop at s) ≡ o → Closes s at tabs w (then_some o end)
+          go true d = (d, ends)
+          go false d = d

@@ -9,23 +9,24 @@ use lib.ListN.{length, drop, length-append, length-drop}
 use lib.Seq.{drop-drop}
 use lib.Dec.{leb}
 use borrow.Author.Tests.{leb-true, leb-false}
-use Rattle.paper.specs.declared.Refusal.{Refusal}
+use Rattle.std.specs.Prelude.{Result, Ok, Err}
+use Rattle.paper.specs.Answer.{refused_at}
+use Rattle.paper.specs.declared.Refused.{Refused}
 use Rattle.paper.specs.declared.Refusal.TheVariants.{NoEntryLeft}
 use Rattle.paper.specs.Found.{Found, found, fault, and_then, Turn, more, over, stop, turn_of, taking, many_of}
 use Rattle.paper.specs.Bytes.{byte}
 use Rattle.paper.specs.Tree.{Blank, Line, Marker, Concept, content}
 use Rattle.paper.specs.Grammar.{blank_onto, closing_onto, lines_onto}
-use Rattle.paper.specs.Entries.{Entry, unnamed}
+use Rattle.paper.specs.Entries.{unnamed}
 use Rattle.paper.specs.Reading.{line_rest, makes, closing_mark, closes_line, line_turn, content_of}
 use Rattle.paper.proofs.Tests.{true_false}
 use Rattle.paper.proofs.Finds.{Reads, Turns}
 use Rattle.paper.proofs.Lines.{makes_complete}
 use Rattle.paper.proofs.Content.{ReadLine, ReadLines, line_reads, line_shorter, lines_reads, closes_is}
 use Rattle.entries.specs.Laid.{lay}
-use Rattle.lines.specs.Parts.{seen, passed, turned, Makes, content_entries, PassesLine}
+use Rattle.lines.specs.Parts.{seen, reached, passed, turned, Makes, content_entries, PassesLine}
 use Rattle.lines.specs.declared.part.Part.{Part}
-use Rattle.lines.specs.declared.part.Part.TheVariants.{Read, Refused}
-use Rattle.lines.proofs.Crossing.{further, says_read, found_at_lem, FoundAt, makes_refused, makes_passed, makes_read}
+use Rattle.lines.proofs.Crossing.{further, reaches, reached_at, FoundAt, makes_refused, makes_passed, makes_read}
 use Rattle.lines.proofs.Ends.{RestAt}
 use Rattle.lines.proofs.Lengths.{tabs_long, blank_long, lines_long}
 use Rattle.lines.proofs.Turns.{turn_more, turn_over, turn_refused}
@@ -66,24 +67,24 @@ lines_begin s w tabs start h = record { ahead = omega arith; inside = h; same = 
 abbrev AllLines : List ℕ → List ℕ → ℕ → ℕ → ℕ → Type 0
 AllLines s w tabs start i = FoundAt (λ ls. 0) (λ ls. 0) (λ lines left. ReadLines tabs w (drop start s) lines left) s start (lines_of tabs w (drop start s)) i 0 0
 
-module _ (s w : List ℕ) (tabs start i : ℕ) (so_far : LinesTo s w tabs start i) (o : Bool) (asked : o ≡ closes_line tabs w (drop i s)) where
-  module _ (n : o ≡ false) (r : Part) (said : PassesLine s i tabs r) where
+module _ (s w : List ℕ) (tabs start i : ℕ) (so_far : LinesTo s w tabs start i) where
+  module _ (n : closes_line tabs w (drop i s) ≡ false) where
     this : Unclosed tabs w (drop i s)
-    this = unclosed tabs w (drop i s) (sym asked ∙ n)
+    this = unclosed tabs w (drop i s) n
 
-    seen_line : seen r ≡ passed s this.line
-    seen_line = said w (sym asked ∙ n) ∙ ap (turned s) this.is_turn ∙ turned_found s this.line
+    seen_line : (r : Result ℕ Refused) → PassesLine s i tabs r → reached r ≡ passed s this.line
+    seen_line r said = said w n ∙ ap (turned s) this.is_turn ∙ turned_found s this.line
 
-    pub lines_refused : (why : Refusal) (place : ℕ) → r ≡ Refused why place → seen r ≡ passed s (lines_of tabs w (drop start s))
-    lines_refused why place q =
+    pub lines_refused : (e : Refused) → PassesLine s i tabs (Err e) → seen (Err e) ≡ passed s (lines_of tabs w (drop start s))
+    lines_refused e said =
         turn_refused (taking (λ l. 0)) (line_turn tabs w) (line_shorter tabs w) 0 (drop i s) (λ l. 0) (λ l. 0) s turn_of (λ n left. refl) (λ ls. 0) (λ ls. 0) this.line
-        r why place seen_line q this.is_turn
+        (Err e) e (seen_line (Err e) said) refl this.is_turn
         ∙ so_far.same
 
-    pub lines_on : (end made mine : ℕ) → r ≡ Read end made mine → (i < end) × LinesTo s w tabs start end
-    lines_on end made mine q =
+    pub lines_on : (end : ℕ) → PassesLine s i tabs (Ok end) → (i < end) × LinesTo s w tabs start end
+    lines_on end said =
         let f =
-        found_at_lem (λ l. 0) (λ l. 0) s r (λ l left. ReadLine tabs (drop i s) l left) i this.line end made mine seen_line this.reads so_far.inside q in (
+        reached_at (λ l left. ReadLine tabs (drop i s) l left) s i this.line (Ok end) end (seen_line (Ok end) said) this.reads so_far.inside refl in (
           further s i end f.holds.shorter,
           record {
             ahead = omega (arith, so_far.ahead, f.ahead);
@@ -96,25 +97,26 @@ module _ (s w : List ℕ) (tabs start i : ℕ) (so_far : LinesTo s w tabs start 
         )
 
   -- the closing line ends inside
-  pub closing_inside : o ≡ true → i + tabs + 3 + length w ≤ length s
+  closing_inside : closes_line tabs w (drop i s) ≡ true → i + length (closing_mark tabs w) ≤ length s
   closing_inside n =
       let rest = drop (length (closing_mark tabs w)) (drop i s) in
       omega (
         arith,
-        ap length (closes_is tabs w (drop i s) (sym asked ∙ n)),
+        mark_length tabs w,
+        ap length (closes_is tabs w (drop i s) n),
         tabs_long tabs (closing_onto w rest),
         length-append w (byte ">" ∷ rest),
         length-drop i s,
         so_far.inside,
       )
 
-  all_lines : o ≡ true → AllLines s w tabs start i
+  all_lines : closes_line tabs w (drop i s) ≡ true → AllLines s w tabs start i
   unfolding line_turn
   all_lines n =
       let e =
-      says_read (λ ls. 0) (λ ls. 0) s (lines_of tabs w (drop i s)) (Read i 0 0) [] i 0 0 refl so_far.inside
-      (turn_over (taking (λ l. 0)) (line_turn tabs w) (line_shorter tabs w) 0 (drop i s) (drop i s) (rw (sym asked ∙ n, line_turn))) refl refl in
-      found_at_lem (λ ls. 0) (λ ls. 0) s (Read i 0 0) (λ lines left. ReadLines tabs w (drop start s) lines left) start (lines_of tabs w (drop start s)) i 0 0
+      reaches s (lines_of tabs w (drop i s)) [] i so_far.inside
+      (turn_over (taking (λ l. 0)) (line_turn tabs w) (line_shorter tabs w) 0 (drop i s) (drop i s) (rw (n, line_turn))) in
+      reached_at (λ lines left. ReadLines tabs w (drop start s) lines left) s start (lines_of tabs w (drop start s)) (Ok i) i
       (e ∙ so_far.same) (lines_reads tabs w (drop start s)) (omega (arith, so_far.ahead, so_far.inside)) refl
 
 -- ---- Content
@@ -126,18 +128,17 @@ made tabs k rest lines left = found (content k rest lines) (drop (length (closin
 abbrev follows : ℕ → ℕ → Marker → Blank → List ℕ → Found Concept
 follows tabs room k rest start = and_then (makes room start rest start) (λ rest start. and_then (lines_of tabs k.name start) (made tabs k rest))
 
-module _ (s cells w : List ℕ) (at tabs next limit parent : ℕ) (k : Marker) (named : k.name ≡ w) (r : Part) (after : List ℕ) where
+module _ (s cells w : List ℕ) (at tabs next limit parent : ℕ) (k : Marker) (named : k.name ≡ w) (r : Result Part Refused) (after : List ℕ) where
   abbrev Answers : Type 0
   Answers = Makes (λ c. 1) (λ c. 1) (content_entries parent tabs at) s cells next (content_of tabs (limit - next) k (drop at s)) r after
 
-  pub rest_refused : (why : Refusal) (place : ℕ) → seen r ≡ passed s (line_rest (drop at s)) → r ≡ Refused why place → Answers
+  pub rest_refused : (e : Refused) → seen (Err e) ≡ passed s (line_rest (drop at s)) → r ≡ Err e → Answers
   unfolding content_of
-  rest_refused why place e q =
-      makes_passed _ _ _ _ _ _ _ r after (λ b. 0) (λ b. 0) (λ y. and_then y (follows tabs (limit - next) k)) (λ n left. refl) (line_rest (drop at s)) why place e
-      q refl
+  rest_refused e told q =
+      makes_passed _ _ _ _ _ _ _ r after (λ b. 0) (λ b. 0) (λ y. and_then y (follows tabs (limit - next) k)) (λ n left. refl) (line_rest (drop at s)) e told q refl
 
   module _ (start : ℕ) (rest : RestAt s at start) (full : Bool) (told : full ≡ leb limit next) where
-    pub no_room : full ≡ true → r ≡ Refused NoEntryLeft start → Answers
+    pub no_room : full ≡ true → r ≡ Err (refused_at NoEntryLeft start) → Answers
     unfolding content_of makes
     no_room f q =
         let none : limit - next ≡ 0 = omega (arith, leb-true limit next (sym told ∙ f)) in
@@ -150,20 +151,19 @@ module _ (s cells w : List ℕ) (at tabs next limit parent : ℕ) (k : Marker) (
           let some : 0 < limit - next = omega (arith, leb-false limit next (sym told ∙ left)) in
           rw (rest.finds, makes_complete (limit - next) (drop start s) rest.it (drop start s) some, named)
 
-      pub line_refused : (why : Refusal) (place : ℕ) → seen r ≡ passed s (lines_of tabs w (drop start s)) → r ≡ Refused why place → Answers
-      line_refused why place e q =
-          makes_passed _ _ _ _ _ _ _ r after (λ ls. 0) (λ ls. 0) (λ y. and_then y (made tabs k rest.it)) (λ n left. refl) (lines_of tabs w (drop start s)) why
-          place e q by_lines
+      pub line_refused : (e : Refused) → seen (Err e) ≡ passed s (lines_of tabs w (drop start s)) → r ≡ Err e → Answers
+      line_refused e told q =
+          makes_passed _ _ _ _ _ _ _ r after (λ ls. 0) (λ ls. 0) (λ y. and_then y (made tabs k rest.it)) (λ n left. refl) (lines_of tabs w (drop start s)) e told q
+          by_lines
 
-      module _ (i : ℕ) (so_far : LinesTo s w tabs start i) (o : Bool) (asked : o ≡ closes_line tabs w (drop i s)) (n : o ≡ true) where
+      module _ (i : ℕ) (so_far : LinesTo s w tabs start i) (n : closes_line tabs w (drop i s) ≡ true) where
         all : AllLines s w tabs start i
-        all = all_lines s w tabs start i so_far o asked n
+        all = all_lines s w tabs start i so_far n
 
-        found_all : (end : ℕ) → end ≡ i + tabs + 3 + length w
+        found_all : (end : ℕ) → end ≡ i + length (closing_mark tabs w)
             → content_of tabs (limit - next) k (drop at s) ≡ found (content k rest.it all.it) (drop end s)
         found_all end e =
-            let m : i + length (closing_mark tabs w) ≡ end = omega (arith, mark_length tabs w) in
-            let behind : drop (length (closing_mark tabs k.name)) (drop i s) ≡ drop end s = rw (named, drop-drop (length (closing_mark tabs w)) i s, m) in
+            let behind : drop (length (closing_mark tabs k.name)) (drop i s) ≡ drop end s = rw (named, drop-drop (length (closing_mark tabs w)) i s, e) in
             by_lines ∙ rw all.finds (ap (found (content k rest.it all.it)) behind)
 
         spans : (unnamed 5 0 parent 0 start i ∷ []) ≡ content_entries parent tabs at (content k rest.it all.it)
@@ -182,9 +182,9 @@ module _ (s cells w : List ℕ) (at tabs next limit parent : ℕ) (k : Marker) (
             ) in
             rw (a, b)
 
-        pub entered : (end : ℕ) → end ≡ i + tabs + 3 + length w → r ≡ Read end 1 1 → (e : Entry) → e ≡ unnamed 5 0 parent 0 start i
-            → after ≡ lay cells next (e ∷ []) → Answers
-        entered end h q e u l =
-            makes_read _ _ _ _ _ _ _ r after (content k rest.it all.it) end 1 1 q (omega (arith, closing_inside s w tabs start i so_far o asked n))
+        pub entered : (end : ℕ) → end ≡ i + length (closing_mark tabs w) → r ≡ Ok (record { end = end; made = 1; own = 1 })
+            → after ≡ lay cells next (unnamed 5 0 parent 0 start i ∷ []) → Answers
+        entered end h q l =
+            makes_read _ _ _ _ _ _ _ r after (content k rest.it all.it) _ q (omega (arith, closing_inside s w tabs start i so_far n))
             (found_all end h) refl refl
-            (l ∙ ap (λ (x : Entry). lay cells next (x ∷ [])) u ∙ ap (lay cells next) spans)
+            (l ∙ ap (lay cells next) spans)

@@ -8,8 +8,11 @@ use native.Mathlib.Nat.{sub-zero}
 use native.Mathlib.Omega.{arith}
 use lib.ListN.{length, drop, length-drop}
 use lib.Dec.{leb}
+use Rattle.std.specs.Prelude.{Result, Ok, Err}
+use Rattle.std.specs.Result.{IsErrAnd}
 use borrow.Author.Tests.{leb-false}
-use Rattle.paper.specs.Answer.{number_of}
+use Rattle.paper.specs.Answer.{number_of, refused_at}
+use Rattle.paper.specs.declared.Refused.{Refused}
 use Rattle.paper.specs.declared.Refusal.{Refusal}
 use Rattle.paper.specs.declared.Refusal.TheVariants.{Cut}
 use Rattle.paper.specs.Found.{Found, found, fault, and_then}
@@ -19,9 +22,8 @@ use Rattle.text.proofs.Places.{place_back}
 use Rattle.text.proofs.Answers.{FaultAt, Tells, found_to, fault_to}
 use Rattle.entries.specs.Laid.{lay, Fits}
 use Rattle.entries.specs.declared.Slot.{Slot}
-use Rattle.lines.specs.Parts.{Seen, seen, seen_of, Makes}
+use Rattle.lines.specs.Parts.{Seen, seen, entryless, reached, seen_of, passed, Makes}
 use Rattle.lines.specs.declared.part.Part.{Part}
-use Rattle.lines.specs.declared.part.Part.TheVariants.{Read, Refused}
 
 -- ---- what is left of a list, by its place
 
@@ -31,19 +33,24 @@ further s at end h = omega (arith, length-drop at s, length-drop end s)
 
 -- ---- the ways out: an answer and what a definition finds
 
-module _ {A : Type 0} (size own : A → ℕ) (s : List ℕ) (x : Found A) (r : Part) where
+module _ {A : Type 0} (size own : A → ℕ) (s : List ℕ) (x : Found A) (r : Result Part Refused) where
   -- the input is cut
-  pub says_cut : r ≡ Refused Cut (length s) → x ≡ fault 9 [] → seen r ≡ seen_of size own s x
+  pub says_cut : r ≡ Err (refused_at Cut (length s)) → x ≡ fault 9 [] → seen r ≡ seen_of size own s x
   says_cut e f = rw (e, f, sub-zero (length s))
 
   -- the fault is at a place
-  pub says_refused : (why : Refusal) (at : ℕ) → r ≡ Refused why at → at ≤ length s → x ≡ fault (number_of why) (drop at s) → seen r ≡ seen_of size own s x
+  pub says_refused : (why : Refusal) (at : ℕ) → r ≡ Err (refused_at why at) → at ≤ length s → x ≡ fault (number_of why) (drop at s)
+      → seen r ≡ seen_of size own s x
   says_refused why at e h f = rw (e, f, place_back s at h)
 
   -- read up to a place
-  pub says_read : (a : A) (end made mine : ℕ) → r ≡ Read end made mine → end ≤ length s → x ≡ found a (drop end s) → made ≡ size a → mine ≡ own a
+  pub says_read : (a : A) (p : Part) → r ≡ Ok p → p.end ≤ length s → x ≡ found a (drop p.end s) → p.made ≡ size a → p.own ≡ own a
       → seen r ≡ seen_of size own s x
-  says_read a end made mine e h f m o = rw (e, f, place_back s end h, m, o)
+  says_read a p e h f m o = rw (e, f, place_back s p.end h, m, o)
+
+-- read up to a place by a part that makes no entry
+pub reaches : {A : Type 0} (s : List ℕ) (x : Found A) (a : A) (end : ℕ) → end ≤ length s → x ≡ found a (drop end s) → reached (Ok end) ≡ passed s x
+reaches s x a end h f = says_read (λ a. 0) (λ a. 0) s x (entryless (Ok end)) a (record { end = end; made = 0; own = 0 }) refl h f refl refl
 
 -- something made of what is found, and sizes that are the same
 pub seen_map : {A B : Type 0} (size own : B → ℕ) (s : List ℕ) (f : A → B) (x : Found A)
@@ -67,17 +74,17 @@ pub record FoundAt {A : Type 0} (size own : A → ℕ) (P : A → List ℕ → T
   pub ahead : at ≤ end
   pub inside : end ≤ length s
 
-module _ {A : Type 0} (size own : A → ℕ) (s : List ℕ) (r : Part) where
+module _ {A : Type 0} (size own : A → ℕ) (s : List ℕ) (r : Result Part Refused) where
   -- the number and the place of an answer are those of what is found
-  tells : (x : Found A) (y : Part) → r ≡ y → seen r ≡ seen_of size own s x → Tells s x (seen y).number (seen y).place
-  tells (found a left) y q e = let k = sym (ap seen q) ∙ e in (ap (λ (y : Seen). y.number) k, ap (λ (y : Seen). y.place) k)
-  tells (fault n left) y q e = let k = sym (ap seen q) ∙ e in (ap (λ (y : Seen). y.number) k, ap (λ (y : Seen). y.place) k)
+  tells : (x : Found A) → seen r ≡ seen_of size own s x → Tells s x (seen r).number (seen r).place
+  tells (found a left) e = (ap (λ (y : Seen). y.number) e, ap (λ (y : Seen). y.place) e)
+  tells (fault n left) e = (ap (λ (y : Seen). y.number) e, ap (λ (y : Seen). y.place) e)
 
-  pub found_at_lem : (P : A → List ℕ → Type 0) (at : ℕ) (x : Found A) (end made mine : ℕ) → seen r ≡ seen_of size own s x → Reads (drop at s) P x → at ≤ length s
-      → r ≡ Read end made mine → FoundAt size own P s at x end made mine
-  found_at_lem P at x end made mine e h l q =
-      let f = found_to P s at x end (tells x (Read end made mine) q e) h l in
-      let k : seen_of size own s (found f.it (drop end s)) ≡ seen (Read end made mine) = ap (seen_of size own s) (sym f.finds) ∙ sym e ∙ ap seen q in
+  pub found_at_lem : (P : A → List ℕ → Type 0) (at : ℕ) (x : Found A) (p : Part) → seen r ≡ seen_of size own s x → Reads (drop at s) P x → at ≤ length s
+      → r ≡ Ok p → FoundAt size own P s at x p.end p.made p.own
+  found_at_lem P at x p e h l q =
+      let f = found_to P s at x p.end (rw q at (tells x e)) h l in
+      let k : seen_of size own s (found f.it (drop p.end s)) ≡ seen (Ok p) = ap (seen_of size own s) (sym f.finds) ∙ sym e ∙ ap seen q in
       record {
         it = f.it;
         finds = f.finds;
@@ -88,19 +95,26 @@ module _ {A : Type 0} (size own : A → ℕ) (s : List ℕ) (r : Part) where
         inside = f.inside;
       }
 
-  pub fault_at : (x : Found A) (why : Refusal) (place : ℕ) → seen r ≡ seen_of size own s x → r ≡ Refused why place → FaultAt s x why place
-  fault_at x why place e q = fault_to s x why place (tells x (Refused why place) q e)
+  pub fault_at : (x : Found A) (e : Refused) → seen r ≡ seen_of size own s x → r ≡ Err e → FaultAt s x e.refusal e.place
+  fault_at x e k q = fault_to s x e.refusal e.place (rw q at (tells x k))
 
-  -- a refusal is passed on by whatever keeps the faults of the part
-  pub passed_on : {B : Type 0} (many mine : B → ℕ) (outer : Found A → Found B) → ((n : ℕ) (left : List ℕ) → outer (fault n left) ≡ fault n left)
-      → (x : Found A) (why : Refusal) (place : ℕ) → seen r ≡ seen_of size own s x → r ≡ Refused why place → seen r ≡ seen_of many mine s (outer x)
-  passed_on many mine outer keeps x why place e q =
-      let f = fault_at x why place e q in
-      rw (q, f.faults, keeps (number_of why) f.left, f.there)
+-- what is found by a part that makes no entry
+pub reached_at : {A : Type 0} (P : A → List ℕ → Type 0) (s : List ℕ) (at : ℕ) (x : Found A) (r : Result ℕ Refused) (end : ℕ) → reached r ≡ passed s x
+    → Reads (drop at s) P x → at ≤ length s → r ≡ Ok end → FoundAt (λ a. 0) (λ a. 0) P s at x end 0 0
+reached_at P s at x r end e h l q =
+    found_at_lem (λ a. 0) (λ a. 0) s (entryless r) P at x (record { end = end; made = 0; own = 0 }) e h l (ap entryless q)
 
-  pub refused_then : {B : Type 0} (many mine : B → ℕ) (next : A → List ℕ → Found B) (x : Found A) (why : Refusal) (place : ℕ)
-      → seen r ≡ seen_of size own s x → r ≡ Refused why place → seen r ≡ seen_of many mine s (and_then x next)
-  refused_then many mine next x why place e q = passed_on many mine (λ x. and_then x next) (λ n left. refl) x why place e q
+-- it is the refusal of whatever keeps the faults of the part
+module _ {A B : Type 0} (size own : A → ℕ) (s : List ℕ) (r : Result Part Refused) (many mine : B → ℕ) where
+  pub passed_on : (outer : Found A → Found B) → ((n : ℕ) (left : List ℕ) → outer (fault n left) ≡ fault n left)
+      → (x : Found A) (e : Refused) → seen (Err e) ≡ seen_of size own s x → r ≡ Err e → seen r ≡ seen_of many mine s (outer x)
+  passed_on outer keeps x e k q =
+      let f = fault_at size own s (Err e) x e k refl in
+      rw (q, f.faults, keeps (number_of e.refusal) f.left, f.there)
+
+  pub refused_then : (next : A → List ℕ → Found B) (x : Found A) (e : Refused) → seen (Err e) ≡ seen_of size own s x → r ≡ Err e
+      → seen r ≡ seen_of many mine s (and_then x next)
+  refused_then next x e k q = passed_on (λ x. and_then x next) (λ n left. refl) x e k q
 
 -- ---- the same with entries: a fault says nothing of the cells
 
@@ -109,28 +123,28 @@ pub room_left : (cells : List ℕ) (slot : Slot) (o : Bool) → Fits cells slot 
     → suc slot.next * entry_cells ≤ length cells
 room_left cells slot o h asked f = omega (arith, leb-false slot.room slot.next (sym asked ∙ f), h.held)
 
-module _ {A : Type 0} (size own : A → ℕ) (of : A → List Entry) (s cells : List ℕ) (n : ℕ) (x : Found A) (r : Part) (after : List ℕ) where
+module _ {A : Type 0} (size own : A → ℕ) (of : A → List Entry) (s cells : List ℕ) (n : ℕ) (x : Found A) (r : Result Part Refused) (after : List ℕ) where
   makes_fault : (k : ℕ) (left : List ℕ) → x ≡ fault k left → seen r ≡ seen_of size own s x → Makes size own of s cells n x r after
   makes_fault k left f e = record { says = e; laid = λ a end g. let z : ◌≡◌ {A = ℕ} 0 1 = cc in absurd (omega arith) }
 
-  pub makes_refused : (why : Refusal) (at : ℕ) → r ≡ Refused why at → at ≤ length s → x ≡ fault (number_of why) (drop at s)
+  pub makes_refused : (why : Refusal) (at : ℕ) → r ≡ Err (refused_at why at) → at ≤ length s → x ≡ fault (number_of why) (drop at s)
       → Makes size own of s cells n x r after
   makes_refused why at e h f = makes_fault (number_of why) (drop at s) f (says_refused size own s x r why at e h f)
 
   pub makes_passed : {B : Type 0} (many mine : B → ℕ) (outer : Found B → Found A) → ((k : ℕ) (left : List ℕ) → outer (fault k left) ≡ fault k left)
-      → (y : Found B) (why : Refusal) (place : ℕ) → seen r ≡ seen_of many mine s y → r ≡ Refused why place → x ≡ outer y → Makes size own of s cells n x r after
-  makes_passed many mine outer keeps y why place e q f =
-      let k = fault_at many mine s r y why place e q in
-      makes_fault (number_of why) k.left (f ∙ ap outer k.faults ∙ keeps (number_of why) k.left)
-      (passed_on many mine s r size own outer keeps y why place e q ∙ ap (seen_of size own s) (sym f))
+      → (y : Found B) (e : Refused) → seen (Err e) ≡ seen_of many mine s y → r ≡ Err e → x ≡ outer y → Makes size own of s cells n x r after
+  makes_passed many mine outer keeps y e k q f =
+      let there = fault_at many mine s (Err e) y e k refl in
+      makes_fault (number_of e.refusal) there.left (f ∙ ap outer there.faults ∙ keeps (number_of e.refusal) there.left)
+      (passed_on many mine s r size own outer keeps y e k q ∙ ap (seen_of size own s) (sym f))
 
-  pub makes_read : (a : A) (end made mine : ℕ) → r ≡ Read end made mine → end ≤ length s → x ≡ found a (drop end s) → made ≡ size a → mine ≡ own a
+  pub makes_read : (a : A) (p : Part) → r ≡ Ok p → p.end ≤ length s → x ≡ found a (drop p.end s) → p.made ≡ size a → p.own ≡ own a
       → after ≡ lay cells n (of a) → Makes size own of s cells n x r after
-  makes_read a end made mine e h f m o l = record {
-    says = says_read size own s x r a end made mine e h f m o;
+  makes_read a p e h f m o l = record {
+    says = says_read size own s x r a p e h f m o;
     laid = λ b left g. let q : a ≡ b = cc in l ∙ ap (λ (i : A). lay cells n (of i)) q;
   }
 
-pub makes_same : {A : Type 0} (f g p q : A → ℕ) (of : A → List Entry) (s cells : List ℕ) (n : ℕ) (x : Found A) (r : Part) (after : List ℕ)
+pub makes_same : {A : Type 0} (f g p q : A → ℕ) (of : A → List Entry) (s cells : List ℕ) (n : ℕ) (x : Found A) (r : Result Part Refused) (after : List ℕ)
     → ((a : A) → f a ≡ p a) → ((a : A) → g a ≡ q a) → Makes f g of s cells n x r after → Makes p q of s cells n x r after
 makes_same f g p q of s cells n x r after e h k = record { says = k.says ∙ seen_same f g p q s x e h; laid = k.laid }

@@ -2,14 +2,14 @@
 -- to be made are those of the rest of the run, laid behind what the turns so far laid. Assumes nothing.
 use Prim.Native.Nat.{ℕ, ◌+◌, ◌-◌, ◌≤◌, ◌<◌}
 use mathlib.Core.Path.{◌≡◌, refl, sym, ap, ◌∙◌}
-use mathlib.Core.Bool.{Bool, true, false, not}
+use mathlib.Core.Bool.{Bool, true, false}
 use mathlib.Core.List.{List, [], ◌∷◌, ◌++◌}
 use native.Mathlib.Nat.{zero-add, add-zero}
 use native.Mathlib.Omega.{arith}
 use lib.ListN.{length, drop, length-drop, length-append}
 use lib.Seq.{drop-drop}
-use borrow.Author.Tests.{not-true, not-false}
-use Rattle.paper.specs.declared.Refusal.{Refusal}
+use Rattle.std.specs.Prelude.{Result, Ok, Err}
+use Rattle.paper.specs.declared.Refused.{Refused}
 use Rattle.paper.specs.Found.{Found, turn_of, taking}
 use Rattle.paper.specs.Bytes.{byte, bytes, length_in, behind, starts_with}
 use Rattle.paper.specs.Tree.{Annotation}
@@ -22,7 +22,6 @@ use Rattle.entries.specs.declared.Slot.{Slot}
 use Rattle.entries.proofs.Slots.{fits_after}
 use Rattle.lines.specs.Parts.{Makes, note_entries, MakesNote, MakesNotes}
 use Rattle.lines.specs.declared.part.Part.{Part}
-use Rattle.lines.specs.declared.part.Part.TheVariants.{Read, Refused}
 use Rattle.text.proofs.Stretch.{Stretch, behind_at}
 use Rattle.text.proofs.Compared.{stands_inside}
 use Rattle.lines.proofs.Crossing.{FoundAt, found_at_lem, makes_same}
@@ -33,7 +32,7 @@ use Rattle.lines.proofs.Lengths.{blank_long, note_long}
 abbrev counted : ℕ → List Annotation → ℕ
 counted made notes = made + length notes
 
-abbrev pub Rest : List ℕ → Slot → List ℕ → ℕ → ℕ → Part → List ℕ → Type 0
+abbrev pub Rest : List ℕ → Slot → List ℕ → ℕ → ℕ → Result Part Refused → List ℕ → Type 0
 Rest s slot cells i made r after =
     Makes (counted made) (counted made) (annotation_entries slot.parent i) s cells (slot.next + made)
     (annotations (slot.room - (slot.next + made)) (drop i s)) r after
@@ -43,7 +42,7 @@ pub record Notes (s : List ℕ) (at : ℕ) (lent : List ℕ) (slot : Slot) (cell
   pub inside : i ≤ length s
   pub few : slot.next + made ≤ slot.room
   pub held : length cells ≡ length lent
-  pub onward : (r : Part) (after : List ℕ) → Rest s slot cells i made r after → MakesNotes s at lent slot r after
+  pub onward : (r : Result Part Refused) (after : List ℕ) → Rest s slot cells i made r after → MakesNotes s at lent slot r after
 
 pub notes_begin : (s : List ℕ) (at : ℕ) (cells : List ℕ) (slot : Slot) → at ≤ length s → slot.next ≤ slot.room → Notes s at cells slot cells at 0
 notes_begin s at cells slot h f = record {
@@ -58,99 +57,105 @@ notes_begin s at cells slot h f = record {
 
 -- ---- a turn
 
-module _ (s : List ℕ) (at : ℕ) (lent : List ℕ) (slot : Slot) (cells : List ℕ) (i made : ℕ) (so_far : Notes s at lent slot cells i made)
-    (mark : ℕ) (run : Stretch is_tab s i mark) (o : Bool) (asked : o ≡ starts_with (bytes "[") (drop mark s)) where
-  abbrev left : ℕ
-  left = slot.room - (slot.next + made)
+-- a turn: the tabs that stand at i end at a mark, where a bracket stands or does not
+pub record Turn (s : List ℕ) (at : ℕ) (lent : List ℕ) (slot : Slot) (cells : List ℕ) (i made mark : ℕ) (stands : Bool) : Type 0 where
+  pub so_far : Notes s at lent slot cells i made
+  pub run : Stretch is_tab s i mark
+  pub asked : starts_with (bytes "[") (drop mark s) ≡ stands
 
-  bracket : starts_with (bytes "[") (behind is_tab (drop i s)) ≡ o
-  bracket = ap (starts_with (bytes "[")) (behind_at is_tab s i mark run) ∙ sym asked
+-- the entries that are left
+abbrev left : Slot → ℕ → ℕ
+left slot made = slot.room - (slot.next + made)
 
-  pub notes_over : not o ≡ true → (r : Part) → r ≡ Read i made made → MakesNotes s at lent slot r cells
+module _ {s : List ℕ} {at : ℕ} {lent : List ℕ} {slot : Slot} {cells : List ℕ} {i made mark : ℕ} where
+  bracket : {stands : Bool} → Turn s at lent slot cells i made mark stands → starts_with (bytes "[") (behind is_tab (drop i s)) ≡ stands
+  bracket turn = ap (starts_with (bytes "[")) (behind_at is_tab s i mark turn.run) ∙ turn.asked
+
+  pub notes_over : Turn s at lent slot cells i made mark false → MakesNotes s at lent slot (Ok (record { end = i; made = made; own = made })) cells
   unfolding annotation_turn annotation_entries
-  notes_over n r e =
-      so_far.onward r cells
-      (makes_over (taking (λ a. 1)) annotation_turn annotation_shorter left (drop i s) (counted made) (counted made) (annotation_entries slot.parent i) s cells
-      (slot.next + made) r i made made (rw (bracket ∙ not-true o n, annotation_turn)) e so_far.inside (sym (add-zero made)) (sym (add-zero made)) refl)
+  notes_over turn =
+      turn.so_far.onward _ cells
+      (makes_over (taking (λ a. 1)) annotation_turn annotation_shorter (left slot made) (drop i s) (counted made) (counted made) (annotation_entries slot.parent i) s cells
+      (slot.next + made) _ _ (rw (bracket turn, annotation_turn)) refl turn.so_far.inside (sym (add-zero made)) (sym (add-zero made)) refl)
 
-  module _ (n : not o ≡ false) where
+  module _ (turn : Turn s at lent slot cells i made mark true) where
     pub mark_inside : mark + 1 ≤ length s
-    mark_inside = omega (arith, stands_inside (bytes "[") s mark (sym asked ∙ not-false o n))
+    mark_inside = omega (arith, stands_inside (bytes "[") s mark turn.asked)
 
     a_note : (room : ℕ) → annotation_turn room (drop i s) ≡ turn_of (annotation room (length_in is_tab (drop i s)) (drop (mark + 1) s))
     unfolding annotation_turn
     a_note room =
-        rw (bracket ∙ not-false o n, annotation_turn)
-        (ap (λ (l : List ℕ). turn_of (annotation room (length_in is_tab (drop i s)) l)) (ap (drop 1) (behind_at is_tab s i mark run) ∙ drop-drop 1 mark s))
+        rw (bracket turn, annotation_turn)
+        (ap (λ (l : List ℕ). turn_of (annotation room (length_in is_tab (drop i s)) l)) (ap (drop 1) (behind_at is_tab s i mark turn.run) ∙ drop-drop 1 mark s))
 
     -- the slot that is lent for one more
     module _ (next : Slot) (lends : next ≡ slot_after slot made) where
       pub lent_fits : Fits lent slot → Fits cells next
-      lent_fits h = fits_after made h so_far.held so_far.few lends
+      lent_fits h = fits_after made h turn.so_far.held turn.so_far.few lends
 
-      module _ (r : Part) (after : List ℕ) (one : MakesNote s (mark + 1) cells next r after) where
+      module _ (r : Result Part Refused) (after : List ℕ) (one : MakesNote s (mark + 1) cells next r after) where
         abbrev reading : Found Annotation
-        reading = annotation left (length_in is_tab (drop i s)) (drop (mark + 1) s)
+        reading = annotation (left slot made) (length_in is_tab (drop i s)) (drop (mark + 1) s)
 
         noted : Makes (λ a. 1) (λ a. 1) (note_entries slot.parent (mark + 1)) s cells (slot.next + made) reading r after
         noted = rw lends at (one (length_in is_tab (drop i s)))
 
-        pub notes_refused : (why : Refusal) (place : ℕ) → r ≡ Refused why place → MakesNotes s at lent slot r after
-        notes_refused why place q =
-            so_far.onward r after
-            (makes_stop (taking (λ a. 1)) annotation_turn annotation_shorter left (drop i s) (λ a. 1) (λ a. 1) turn_of (λ k rest. refl) (counted made) (counted made)
-            (annotation_entries slot.parent i) s cells (slot.next + made) reading r after why place noted.says q (a_note left))
+        pub notes_refused : (e : Refused) → r ≡ Err e → (outer : Result Part Refused) → outer ≡ Err e → MakesNotes s at lent slot outer after
+        notes_refused e q outer p =
+            turn.so_far.onward outer after
+            (makes_stop (taking (λ a. 1)) annotation_turn annotation_shorter (left slot made) (drop i s) (λ a. 1) (λ a. 1) turn_of (λ k rest. refl) (counted made) (counted made)
+            (annotation_entries slot.parent i) s cells (slot.next + made) reading outer after e (rw q at noted.says) p (a_note (left slot made)))
 
-        module _ (end own mine : ℕ) (q : r ≡ Read end own mine) where
-          it : FoundAt (λ a. 1) (λ a. 1) (λ a rest. ReadBehind left (length_in is_tab (drop i s)) (drop (mark + 1) s) a rest) s (mark + 1) reading end own mine
+        module _ (p : Part) (q : r ≡ Ok p) where
+          it : FoundAt (λ a. 1) (λ a. 1) (λ a rest. ReadBehind (left slot made) (length_in is_tab (drop i s)) (drop (mark + 1) s) a rest) s (mark + 1) reading p.end p.made p.own
           it =
-              found_at_lem (λ a. 1) (λ a. 1) s r _ (mark + 1) reading end own mine noted.says
-              (annotation_reads left (length_in is_tab (drop i s)) (drop (mark + 1) s)) mark_inside q
+              found_at_lem (λ a. 1) (λ a. 1) s r _ (mark + 1) reading p noted.says
+              (annotation_reads (left slot made) (length_in is_tab (drop i s)) (drop (mark + 1) s)) mark_inside q
 
-          pub note_ahead : (i < end) × (end ≤ length s)
-          note_ahead = (omega (arith, it.ahead, run.1), it.inside)
+          pub note_ahead : (i < p.end) × (p.end ≤ length s)
+          note_ahead = (omega (arith, it.ahead, turn.run.1), it.inside)
 
           starts : i + it.it.tabs + 1 ≡ mark + 1
-          starts = omega (arith, it.holds.at, run.0)
+          starts = omega (arith, it.holds.at, turn.run.0)
 
-          ends : i + length (annotation_onto it.it []) ≡ end
+          ends : i + length (annotation_onto it.it []) ≡ p.end
           ends =
               let a = it.it in
-              let rest = byte "]" ∷ blank_onto a.rest (drop end s) in
+              let rest = byte "]" ∷ blank_onto a.rest (drop p.end s) in
               omega (
                 arith,
                 starts,
                 note_long a [],
                 ap length it.holds.covers,
                 length-append a.text rest,
-                blank_long a.rest (drop end s),
+                blank_long a.rest (drop p.end s),
                 length-drop (mark + 1) s,
-                length-drop end s,
+                length-drop p.end s,
                 mark_inside,
                 it.inside,
               )
 
           entered : (notes : List Annotation)
               → annotation_entries slot.parent i (it.it ∷ notes)
-              ≡ note_entries slot.parent (mark + 1) it.it ++ annotation_entries slot.parent end notes
+              ≡ note_entries slot.parent (mark + 1) it.it ++ annotation_entries slot.parent p.end notes
           unfolding annotation_entries
           entered notes = rw (starts, ends)
 
-          pub notes_on : length after ≡ length cells → Notes s at lent slot after end (made + 1)
+          pub notes_on : length after ≡ length cells → Notes s at lent slot after p.end (made + 1)
           notes_on h =
               let number : slot.next + (made + 1) ≡ slot.next + made + 1 = omega arith in
-              let fewer : slot.room - (slot.next + made + 1) ≡ left - 1 = omega arith in
+              let fewer : slot.room - (slot.next + made + 1) ≡ (left slot made) - 1 = omega arith in
               record {
                 inside = it.inside;
                 few = omega (arith, it.holds.fits);
-                held = h ∙ so_far.held;
+                held = h ∙ turn.so_far.held;
                 onward = λ other cells' k.
-                    so_far.onward other cells'
-                    (makes_more (taking (λ a. 1)) annotation_turn annotation_shorter left (drop i s) (counted made) (counted made) (annotation_entries slot.parent i)
-                    (annotation_entries slot.parent end) (note_entries slot.parent (mark + 1) it.it) s cells after
-                    (slot.next + made) it.it (drop end s) other cells'
-                    (a_note left ∙ ap turn_of it.finds) entered (noted.laid it.it (drop end s) it.finds)
-                    (makes_same (counted (made + 1)) (counted (made + 1)) _ _ (annotation_entries slot.parent end) s after (slot.next + made + 1)
-                    (annotations (left - 1) (drop end s)) other cells'
+                    turn.so_far.onward other cells'
+                    (makes_more (taking (λ a. 1)) annotation_turn annotation_shorter (left slot made) (drop i s) (counted made) (counted made) (annotation_entries slot.parent i)
+                    (annotation_entries slot.parent p.end) (note_entries slot.parent (mark + 1) it.it) s cells after
+                    (slot.next + made) it.it (drop p.end s) other cells'
+                    (a_note (left slot made) ∙ ap turn_of it.finds) entered (noted.laid it.it (drop p.end s) it.finds)
+                    (makes_same (counted (made + 1)) (counted (made + 1)) _ _ (annotation_entries slot.parent p.end) s after (slot.next + made + 1)
+                    (annotations ((left slot made) - 1) (drop p.end s)) other cells'
                     (λ notes. omega arith) (λ notes. omega arith) (rw (number, fewer) at k)));
               }

@@ -2,103 +2,103 @@
 -- Over plain lists. Assumes nothing.
 use Prim.Native.Nat.{ℕ, ◌+◌, ◌-◌, ◌≤◌, ◌<◌}
 use mathlib.Core.Path.{◌≡◌, refl, sym, ap, ◌∙◌}
-use mathlib.Core.Bool.{Bool, true, false, not}
+use mathlib.Core.Bool.{Bool, true, false}
 use mathlib.Core.List.{List, [], ◌∷◌}
 use native.Mathlib.Omega.{arith}
 use lib.ListN.{length, get_or, drop, length-drop, length-append, drop_of_length-le}
-use lib.Dec.{leb, eqb}
-use borrow.Author.Tests.{eq-eqb, ne_eqb, not-true, not-false, leb-true, leb-false}
+use lib.Dec.{leb}
+use Rattle.std.specs.Prelude.{Result, Ok, Err}
+use borrow.Author.Tests.{eq-eqb, ne_eqb, leb-true, leb-false}
 use Rattle.paper.specs.Found.{Found, found, fault, and_then}
 use Rattle.paper.specs.Bytes.{byte, bytes, is_line_end, elem}
 use Rattle.paper.specs.Reading.{line_rest, makes, text_of, escape_of, annotation}
 use Rattle.paper.specs.Tree.{Blank, Annotation}
-use Rattle.paper.specs.Entries.{Entry, unnamed}
-use Rattle.paper.specs.declared.Refusal.{Refusal}
-use Rattle.paper.specs.declared.Refusal.TheVariants.{NoEntryLeft}
+use Rattle.paper.specs.Entries.{unnamed}
+use Rattle.paper.specs.Answer.{refused_at}
+use Rattle.paper.specs.declared.Refused.{Refused}
+use Rattle.paper.specs.declared.Refusal.TheVariants.{Cut, Due, NoEntryLeft}
 use Rattle.paper.proofs.Lines.{makes_complete}
 use Rattle.paper.proofs.Annotations.{ReadText, text_reads}
 use Rattle.text.proofs.Places.{here}
 use Rattle.entries.specs.Laid.{lay}
-use Rattle.lines.specs.Parts.{seen, passed, Makes, note_entries}
+use Rattle.lines.specs.Parts.{seen, reached, passed, Makes, note_entries}
 use Rattle.lines.specs.declared.part.Part.{Part}
-use Rattle.lines.specs.declared.part.Part.TheVariants.{Read, Refused}
-use Rattle.lines.proofs.Crossing.{seen_map, found_at_lem, makes_refused, makes_passed, makes_read}
+use Rattle.lines.proofs.Crossing.{says_cut, says_refused, reaches, seen_map, reached_at, makes_refused, makes_passed, makes_read}
 use Rattle.lines.proofs.Ends.{RestAt}
 
 -- ---- the text, one byte or escape at a time
 
+-- over the byte b and what follows it
 module _ (b : ℕ) (l : List ℕ) where
-  ends : eqb b (byte "]") ≡ true → text_of (b ∷ l) ≡ found [] l
+  ends : b ≡ byte "]" → text_of (b ∷ l) ≡ found [] l
   unfolding text_of
-  ends e = rw (e, text_of)
+  ends e = rw (eq-eqb b (byte "]") e, text_of)
 
-  module _ (n : eqb b (byte "]") ≡ false) where
-    escapes : eqb b (byte "\\") ≡ true → text_of (b ∷ l) ≡ escape_of (b ∷ l) l
+  module _ (n : b ≡ byte "]" → ⊥) where
+    escapes : b ≡ byte "\\" → text_of (b ∷ l) ≡ escape_of (b ∷ l) l
     unfolding text_of
-    escapes e = rw (n, text_of, e)
+    escapes e = rw (ne_eqb b (byte "]") n, text_of, eq-eqb b (byte "\\") e)
 
-    module _ (e : eqb b (byte "\\") ≡ false) where
+    module _ (m : b ≡ byte "\\" → ⊥) where
       breaks : is_line_end b ≡ true → text_of (b ∷ l) ≡ fault 7 (b ∷ l)
       unfolding text_of
-      breaks q = rw (n, text_of, e, q)
+      breaks q = rw (ne_eqb b (byte "]") n, text_of, ne_eqb b (byte "\\") m, q)
 
       goes_on : is_line_end b ≡ false → text_of (b ∷ l) ≡ and_then (text_of l) (λ t left. found (b ∷ t) left)
       unfolding text_of
-      goes_on q = rw (n, text_of, e, q)
+      goes_on q = rw (ne_eqb b (byte "]") n, text_of, ne_eqb b (byte "\\") m, q)
 
-  -- behind a backslash
-  no_escape : (back : List ℕ) → elem b (bytes "]\\") ≡ false → escape_of back (b ∷ l) ≡ fault 7 back
-  unfolding text_of
-  no_escape back e = rw (e, escape_of)
+-- the text from a place on ends where the text from another on ends
+abbrev pub TextFrom : List ℕ → ℕ → ℕ → Type 0
+TextFrom s at i = passed s (text_of (drop i s)) ≡ passed s (text_of (drop at s))
 
-  one_escape : (back : List ℕ) → elem b (bytes "]\\") ≡ true → escape_of back (b ∷ l) ≡ and_then (text_of l) (λ t left. found (byte "\\" ∷ b ∷ t) left)
+module _ (s : List ℕ) (at i : ℕ) (so_far : TextFrom s at i) where
+  pub text_cut : length s ≤ i → (r : Result Part Refused) → r ≡ Err (refused_at Cut (length s)) → seen r ≡ passed s (text_of (drop at s))
   unfolding text_of
-  one_escape back e = rw (e, escape_of)
-
-module _ (s : List ℕ) (i : ℕ) where
-  pub text_cut : length s ≤ i → text_of (drop i s) ≡ fault 9 []
-  unfolding text_of
-  text_cut h = rw (drop_of_length-le s h)
+  text_cut h r e = says_cut _ _ s (text_of (drop i s)) r e (rw (drop_of_length-le s h)) ∙ so_far
 
   module _ (h : i < length s) where
-    pub text_over : get_or s i 0 ≡ byte "]" → text_of (drop i s) ≡ found [] (drop (i + 1) s)
-    text_over e = rw (here s i h) (ends (get_or s i 0) (drop (i + 1) s) (eq-eqb (get_or s i 0) (byte "]") e))
+    of_byte : passed s (text_of (get_or s i 0 ∷ drop (i + 1) s)) ≡ passed s (text_of (drop at s))
+    of_byte = rw (here s i h) at so_far
+
+    pub text_over : get_or s i 0 ≡ byte "]" → reached (Ok (i + 1)) ≡ passed s (text_of (drop at s))
+    text_over e = reaches s _ [] (i + 1) (omega arith) (ends (get_or s i 0) (drop (i + 1) s) e) ∙ of_byte
 
     module _ (n : get_or s i 0 ≡ byte "]" → ⊥) where
       -- a backslash
       module _ (e : get_or s i 0 ≡ byte "\\") where
-        by_escape : text_of (drop i s) ≡ escape_of (drop i s) (drop (i + 1) s)
-        by_escape = rw (here s i h) (escapes (get_or s i 0) (drop (i + 1) s) (ne_eqb (get_or s i 0) (byte "]") n) (eq-eqb (get_or s i 0) (byte "\\") e))
+        of_escape : passed s (escape_of (drop i s) (drop (i + 1) s)) ≡ passed s (text_of (drop at s))
+        of_escape = rw (here s i h) (sym (ap (passed s) (escapes (get_or s i 0) (drop (i + 1) s) n e)) ∙ of_byte)
 
-        pub escape_cut : i + 1 ≡ length s → text_of (drop i s) ≡ fault 9 []
+        pub escape_cut : length s ≤ i + 1 → (r : Result Part Refused) → r ≡ Err (refused_at Cut (length s)) → seen r ≡ passed s (text_of (drop at s))
         unfolding text_of
-        escape_cut k = let l : length s ≤ i + 1 = omega arith in rw (by_escape, drop_of_length-le s l)
+        escape_cut k r p = says_cut _ _ s (escape_of (drop i s) (drop (i + 1) s)) r p (rw (drop_of_length-le s k)) ∙ of_escape
 
-        module _ (k : i + 1 ≡ length s → ⊥) (o : Bool) (asked : o ≡ elem (get_or s (i + 1) 0) (bytes "]\\")) where
-          behind : drop (i + 1) s ≡ get_or s (i + 1) 0 ∷ drop (i + 2) s
-          behind = let two : i + 1 + 1 ≡ i + 2 = omega arith in here s (i + 1) (omega arith) ∙ ap (λ (m : ℕ). get_or s (i + 1) 0 ∷ drop m s) two
+        module _ (k : i + 1 < length s) where
+          escapes_byte : passed s (escape_of (drop i s) (get_or s (i + 1) 0 ∷ drop (i + 2) s)) ≡ passed s (text_of (drop at s))
+          escapes_byte = let two : i + 1 + 1 ≡ i + 2 = omega arith in rw two at (rw (here s (i + 1) k) at of_escape)
 
-          pub escape_bad : not o ≡ true → text_of (drop i s) ≡ fault 7 (drop i s)
-          escape_bad q = by_escape ∙ ap (escape_of (drop i s)) behind ∙ no_escape (get_or s (i + 1) 0) (drop (i + 2) s) (drop i s) (sym asked ∙ not-true o q)
+          pub escape_bad : elem (get_or s (i + 1) 0) (bytes "]\\") ≡ false → (r : Result Part Refused) → r ≡ Err (refused_at Due i)
+              → seen r ≡ passed s (text_of (drop at s))
+          unfolding text_of
+          escape_bad q r p =
+              says_refused _ _ s (escape_of (drop i s) (get_or s (i + 1) 0 ∷ drop (i + 2) s)) r Due i p (omega arith) (rw (q, escape_of)) ∙ escapes_byte
 
-          pub escape_good : not o ≡ false → passed s (text_of (drop (i + 2) s)) ≡ passed s (text_of (drop i s))
+          pub escape_good : elem (get_or s (i + 1) 0) (bytes "]\\") ≡ true → TextFrom s at (i + 2)
+          unfolding text_of
           escape_good q =
-              let on = by_escape ∙ ap (escape_of (drop i s)) behind ∙ one_escape (get_or s (i + 1) 0) (drop (i + 2) s) (drop i s) (sym asked ∙ not-false o q) in
-              sym (ap (passed s) on ∙ seen_map (λ t. 0) (λ t. 0) s (λ t. byte "\\" ∷ get_or s (i + 1) 0 ∷ t) (text_of (drop (i + 2) s)))
+              sym (rw (q, escape_of) (seen_map (λ t. 0) (λ t. 0) s (λ t. byte "\\" ∷ get_or s (i + 1) 0 ∷ t) (text_of (drop (i + 2) s)))) ∙ escapes_byte
 
       -- any other byte
-      module _ (e : get_or s i 0 ≡ byte "\\" → ⊥) (o : Bool) (asked : o ≡ is_line_end (get_or s i 0)) where
-        pub text_line_lem : o ≡ true → text_of (drop i s) ≡ fault 7 (drop i s)
-        text_line_lem q =
-            rw (here s i h) (breaks (get_or s i 0) (drop (i + 1) s) (ne_eqb (get_or s i 0) (byte "]") n) (ne_eqb (get_or s i 0) (byte "\\") e) (sym asked ∙ q))
+      module _ (e : get_or s i 0 ≡ byte "\\" → ⊥) where
+        pub text_break : is_line_end (get_or s i 0) ≡ true → (r : Result Part Refused) → r ≡ Err (refused_at Due i) → seen r ≡ passed s (text_of (drop at s))
+        text_break q r p =
+            says_refused _ _ s _ r Due i p (omega arith) (breaks (get_or s i 0) (drop (i + 1) s) n e q ∙ ap (fault 7) (sym (here s i h))) ∙ of_byte
 
-        pub text_on : o ≡ false → passed s (text_of (drop (i + 1) s)) ≡ passed s (text_of (drop i s))
+        pub text_on : is_line_end (get_or s i 0) ≡ false → TextFrom s at (i + 1)
         text_on q =
-            let on = goes_on (get_or s i 0) (drop (i + 1) s) (ne_eqb (get_or s i 0) (byte "]") n) (ne_eqb (get_or s i 0) (byte "\\") e) (sym asked ∙ q) in
-            sym
-            (ap (λ (l : List ℕ). passed s (text_of l)) (here s i h)
-            ∙ ap (passed s) on
-            ∙ seen_map (λ t. 0) (λ t. 0) s (λ t. get_or s i 0 ∷ t) (text_of (drop (i + 1) s)))
+            let on = goes_on (get_or s i 0) (drop (i + 1) s) n e q in
+            sym (ap (passed s) on ∙ seen_map (λ t. 0) (λ t. 0) s (λ t. get_or s i 0 ∷ t) (text_of (drop (i + 1) s))) ∙ of_byte
 
 -- a text that is read up to an end, its "]" too
 pub record TextAt (s : List ℕ) (at end : ℕ) : Type 0 where
@@ -107,10 +107,9 @@ pub record TextAt (s : List ℕ) (at end : ℕ) : Type 0 where
   pub ends : end ≡ at + length it + 1
   pub inside : end ≤ length s
 
-pub text_at : (s : List ℕ) (at : ℕ) (r : Part) (end made mine : ℕ) → at ≤ length s → seen r ≡ passed s (text_of (drop at s)) → r ≡ Read end made mine
-    → TextAt s at end
-text_at s at r end made mine h e q =
-    let f = found_at_lem (λ t. 0) (λ t. 0) s r (λ t left. ReadText (drop at s) t left) at (text_of (drop at s)) end made mine e (text_reads (drop at s)) h q in
+pub text_at : (s : List ℕ) (at : ℕ) (r : Result ℕ Refused) (end : ℕ) → at ≤ length s → reached r ≡ passed s (text_of (drop at s)) → r ≡ Ok end → TextAt s at end
+text_at s at r end h e q =
+    let f = reached_at (λ t left. ReadText (drop at s) t left) s at (text_of (drop at s)) r end e (text_reads (drop at s)) h q in
     record {
       it = f.it;
       finds = f.finds;
@@ -121,7 +120,7 @@ text_at s at r end made mine h e q =
 
 -- ---- one annotation, whose text stands at a place, with so many entries left of a limit
 
-module _ (parent : ℕ) (s cells : List ℕ) (next limit tabs at : ℕ) (r : Part) (after : List ℕ) where
+module _ (parent : ℕ) (s cells : List ℕ) (next limit tabs at : ℕ) (r : Result Part Refused) (after : List ℕ) where
   -- what the annotation makes of its text
   abbrev of_text : Found (List ℕ) → Found Annotation
   of_text x =
@@ -137,11 +136,11 @@ module _ (parent : ℕ) (s cells : List ℕ) (next limit tabs at : ℕ) (r : Par
   abbrev Noted : Type 0
   Noted = Makes (λ a. 1) (λ a. 1) (note_entries parent at) s cells next (annotation (limit - next) tabs (drop at s)) r after
 
-  pub note_refused : (why : Refusal) (place : ℕ) → seen r ≡ passed s (text_of (drop at s)) → r ≡ Refused why place → Noted
-  note_refused why place e q = makes_passed _ _ _ _ _ _ _ r after (λ t. 0) (λ t. 0) of_text (λ k left. refl) (text_of (drop at s)) why place e q by_text
+  pub note_refused : (e : Refused) → seen (Err e) ≡ passed s (text_of (drop at s)) → r ≡ Err e → Noted
+  note_refused e k q = makes_passed _ _ _ _ _ _ _ r after (λ t. 0) (λ t. 0) of_text (λ k left. refl) (text_of (drop at s)) e k q by_text
 
   module _ (end : ℕ) (text : TextAt s at end) (o : Bool) (asked : o ≡ leb limit next) where
-    pub note_full : o ≡ true → at ≤ length s → r ≡ Refused NoEntryLeft at → Noted
+    pub note_full : o ≡ true → at ≤ length s → r ≡ Err (refused_at NoEntryLeft at) → Noted
     unfolding makes
     note_full t h q =
         let none : limit - next ≡ 0 = omega (arith, leb-true limit next (sym asked ∙ t)) in
@@ -156,13 +155,13 @@ module _ (parent : ℕ) (s cells : List ℕ) (next limit tabs at : ℕ) (r : Par
       by_rest =
           by_text ∙ rw (text.finds, makes_complete (limit - next) (drop at s) text.it (drop end s) (omega (arith, leb-false limit next (sym asked ∙ f))))
 
-      pub rest_refused : (why : Refusal) (place : ℕ) → seen r ≡ passed s (line_rest (drop end s)) → r ≡ Refused why place → Noted
-      rest_refused why place e q = makes_passed _ _ _ _ _ _ _ r after (λ b. 0) (λ b. 0) of_rest (λ k left. refl) (line_rest (drop end s)) why place e q by_rest
+      pub rest_refused : (e : Refused) → seen (Err e) ≡ passed s (line_rest (drop end s)) → r ≡ Err e → Noted
+      rest_refused e k q = makes_passed _ _ _ _ _ _ _ r after (λ b. 0) (λ b. 0) of_rest (λ k left. refl) (line_rest (drop end s)) e k q by_rest
 
-      pub note_made : (last : ℕ) (rest : RestAt s end last) (e : Entry) → r ≡ Read last 1 1 → e ≡ unnamed 4 0 parent 0 at (end - 1)
-          → after ≡ lay cells next (e ∷ []) → Noted
-      note_made last rest e q u l =
+      pub note_made : (last : ℕ) (rest : RestAt s end last) → r ≡ Ok (record { end = last; made = 1; own = 1 })
+          → after ≡ lay cells next (unnamed 4 0 parent 0 at (end - 1) ∷ []) → Noted
+      note_made last rest q l =
           let width : end - 1 ≡ at + length text.it = omega (arith, text.ends) in
-          makes_read _ _ _ _ _ _ _ r after (record { tabs = tabs; text = text.it; rest = rest.it }) last 1 1 q rest.inside
+          makes_read _ _ _ _ _ _ _ r after (record { tabs = tabs; text = text.it; rest = rest.it }) _ q rest.inside
           (by_rest ∙ ap of_rest rest.finds) refl refl
-          (l ∙ ap (λ (e : Entry). lay cells next (e ∷ [])) (u ∙ ap (unnamed 4 0 parent 0 at) width))
+          (l ∙ ap (λ (to : ℕ). lay cells next (unnamed 4 0 parent 0 at to ∷ [])) width)

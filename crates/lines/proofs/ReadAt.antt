@@ -7,7 +7,8 @@ use native.Mathlib.Omega.{arith}
 use lib.ListN.{length, get_or, drop, length-drop, length-append, drop_of_length-le}
 use lib.Seq.{take-append_seam}
 use lib.Dec.{leb}
-use Rattle.paper.specs.declared.Refusal.{Refusal}
+use Rattle.std.specs.Prelude.{Result, Ok, Err}
+use Rattle.paper.specs.declared.Refused.{Refused}
 use Rattle.paper.specs.Found.{Found, found, fault, and_then}
 use Rattle.paper.specs.Names.{run, past_run}
 use Rattle.paper.specs.Reading.{due, name_of, name}
@@ -15,10 +16,9 @@ use Rattle.paper.proofs.Tests.{split}
 use Rattle.paper.proofs.Finds.{Reads, whole, reads_as, reads_then}
 use Rattle.paper.proofs.Lines.{due_reads, ReadName, name_reads}
 use Rattle.text.proofs.Places.{here}
-use Rattle.lines.specs.Parts.{seen, passed, due_all, part}
+use Rattle.lines.specs.Parts.{seen, reached, passed, due_all, part}
 use Rattle.lines.specs.declared.part.Part.{Part}
-use Rattle.lines.specs.declared.part.Part.TheVariants.{Read, Refused}
-use Rattle.lines.proofs.Crossing.{found_at_lem, refused_then, says_read}
+use Rattle.lines.proofs.Crossing.{reached_at, refused_then, reaches}
 
 -- a byte that is due at a place, and is there
 pub record DueAt (c : ℕ) (s : List ℕ) (at end : ℕ) : Type 0 where
@@ -27,10 +27,10 @@ pub record DueAt (c : ℕ) (s : List ℕ) (at end : ℕ) : Type 0 where
   pub next : end ≡ at + 1
   pub inside : end ≤ length s
 
-pub due_at : (c : ℕ) (s : List ℕ) (at : ℕ) (r : Part) (end made mine : ℕ) → at ≤ length s → seen r ≡ passed s (due c (drop at s)) → r ≡ Read end made mine
+pub due_at : (c : ℕ) (s : List ℕ) (at : ℕ) (r : Result ℕ Refused) (end : ℕ) → at ≤ length s → reached r ≡ passed s (due c (drop at s)) → r ≡ Ok end
     → DueAt c s at end
-due_at c s at r end made mine h e q =
-    let f = found_at_lem (λ b. 0) (λ b. 0) s r (λ b left. drop at s ≡ c ∷ left) at (due c (drop at s)) end made mine e (due_reads c (drop at s)) h q in
+due_at c s at r end h e q =
+    let f = reached_at (λ b left. drop at s ≡ c ∷ left) s at (due c (drop at s)) r end e (due_reads c (drop at s)) h q in
     record { it = f.it; finds = f.finds; next = omega (arith, ap length f.holds, length-drop at s, length-drop end s, f.inside); inside = f.inside }
 
 -- ---- fixed bytes that are due
@@ -49,11 +49,10 @@ pub record AllDueAt (fixed s : List ℕ) (at end : ℕ) : Type 0 where
   pub finds : due_all fixed (drop at s) ≡ found it (drop end s)
   pub inside : end ≤ length s
 
-pub all_due_at : (fixed s : List ℕ) (at : ℕ) (r : Part) (end made mine : ℕ)
-    → at ≤ length s → seen r ≡ passed s (due_all fixed (drop at s)) → r ≡ Read end made mine → AllDueAt fixed s at end
-all_due_at fixed s at r end made mine h e q =
-    let f =
-    found_at_lem (λ w. 0) (λ w. 0) s r (λ w left. drop at s ≡ fixed ++ left) at (due_all fixed (drop at s)) end made mine e (due_all_reads fixed (drop at s)) h q in
+pub all_due_at : (fixed s : List ℕ) (at : ℕ) (r : Result ℕ Refused) (end : ℕ)
+    → at ≤ length s → reached r ≡ passed s (due_all fixed (drop at s)) → r ≡ Ok end → AllDueAt fixed s at end
+all_due_at fixed s at r end h e q =
+    let f = reached_at (λ w left. drop at s ≡ fixed ++ left) s at (due_all fixed (drop at s)) r end e (due_all_reads fixed (drop at s)) h q in
     record { it = f.it; finds = f.finds; inside = f.inside }
 
 -- the bytes from the i-th on, due at a place further on, answer as all of them do
@@ -65,13 +64,11 @@ pub due_begin : (fixed s : List ℕ) (at : ℕ) → at ≤ length s → DueFrom 
 due_begin fixed s at h = record { inside = h; same = refl }
 
 module _ (fixed s : List ℕ) (at i place : ℕ) (so_far : DueFrom fixed s at i place) where
-  pub due_over : length fixed ≤ i → (r : Part) → r ≡ Read place 0 0 → seen r ≡ passed s (due_all fixed (drop at s))
+  pub due_over : length fixed ≤ i → reached (Ok place) ≡ passed s (due_all fixed (drop at s))
   unfolding due_all
-  due_over h r q =
-      says_read (λ w. 0) (λ w. 0) s (due_all (drop i fixed) (drop place s)) r [] place 0 0 q so_far.inside (rw (drop_of_length-le fixed h)) refl refl
-      ∙ so_far.same
+  due_over h = reaches s (due_all (drop i fixed) (drop place s)) [] place so_far.inside (rw (drop_of_length-le fixed h)) ∙ so_far.same
 
-  module _ (h : i < length fixed) (r : Part) (said : seen r ≡ passed s (due (get_or fixed i 0) (drop place s))) where
+  module _ (h : i < length fixed) where
     abbrev onward : ℕ → List ℕ → Found (List ℕ)
     onward c left = due_all (drop (i + 1) fixed) left
 
@@ -79,14 +76,15 @@ module _ (fixed s : List ℕ) (at i place : ℕ) (so_far : DueFrom fixed s at i 
     unfolding due_all
     one_more = rw (here fixed i h)
 
-    pub due_refused : (why : Refusal) (wrong : ℕ) → r ≡ Refused why wrong → seen r ≡ passed s (due_all fixed (drop at s))
-    due_refused why wrong q =
-        refused_then (λ b. 0) (λ b. 0) s r (λ w. 0) (λ w. 0) onward (due (get_or fixed i 0) (drop place s)) why wrong said q
+    pub due_refused : (r : Result Part Refused) (e : Refused) → seen (Err e) ≡ passed s (due (get_or fixed i 0) (drop place s)) → r ≡ Err e
+        → seen r ≡ passed s (due_all fixed (drop at s))
+    due_refused r e said q =
+        refused_then (λ b. 0) (λ b. 0) s r (λ w. 0) (λ w. 0) onward (due (get_or fixed i 0) (drop place s)) e said q
         ∙ ap (λ (x : Found (List ℕ)). passed s x) (sym one_more) ∙ so_far.same
 
-    pub due_on : (end made mine : ℕ) → r ≡ Read end made mine → DueFrom fixed s at (i + 1) end
-    due_on end made mine q =
-        let d = due_at (get_or fixed i 0) s place r end made mine so_far.inside said q in
+    pub due_on : (end : ℕ) → reached (Ok end) ≡ passed s (due (get_or fixed i 0) (drop place s)) → DueFrom fixed s at (i + 1) end
+    due_on end said =
+        let d = due_at (get_or fixed i 0) s place (Ok end) end so_far.inside said refl in
         let e : due_all (drop i fixed) (drop place s) ≡ due_all (drop (i + 1) fixed) (drop end s) = one_more ∙ rw d.finds in
         record { inside = d.inside; same = ap (λ (x : Found (List ℕ)). passed s x) (sym e) ∙ so_far.same }
 
@@ -118,11 +116,10 @@ pub record NameAt (rule : List ℕ → Bool) (s : List ℕ) (at end : ℕ) : Typ
   pub inside : end ≤ length s
   pub goes_on : end < length s
 
-pub name_at_lem : (rule : List ℕ → Bool) (s : List ℕ) (at : ℕ) (r : Part) (end made mine : ℕ) → at ≤ length s → seen r ≡ passed s (name rule (drop at s))
-    → r ≡ Read end made mine → NameAt rule s at end
-name_at_lem rule s at r end made mine h e q =
-    let f =
-    found_at_lem (λ w. 0) (λ w. 0) s r (λ w left. ReadName rule (drop at s) w left) at (name rule (drop at s)) end made mine e (name_reads rule (drop at s)) h q in
+pub name_at_lem : (rule : List ℕ → Bool) (s : List ℕ) (at : ℕ) (r : Result ℕ Refused) (end : ℕ) → at ≤ length s → reached r ≡ passed s (name rule (drop at s))
+    → r ≡ Ok end → NameAt rule s at end
+name_at_lem rule s at r end h e q =
+    let f = reached_at (λ w left. ReadName rule (drop at s) w left) s at (name rule (drop at s)) r end e (name_reads rule (drop at s)) h q in
     let n = name_run rule (drop at s) f.it (drop end s) f.finds in
     record {
       it = f.it;

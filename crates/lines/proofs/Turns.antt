@@ -5,7 +5,8 @@ use mathlib.Core.Path.{◌≡◌, refl, sym, ap, ◌∙◌}
 use mathlib.Core.List.{List, [], ◌∷◌, ◌++◌}
 use native.Mathlib.Omega.{arith}
 use lib.ListN.{length, drop}
-use Rattle.paper.specs.declared.Refusal.{Refusal}
+use Rattle.std.specs.Prelude.{Result, Ok, Err}
+use Rattle.paper.specs.declared.Refused.{Refused}
 use Rattle.paper.specs.Found.{Found, found, fault, and_then, Turn, more, over, stop, go_on, run_of}
 use Rattle.paper.specs.Entries.{Entry}
 use Rattle.paper.proofs.Runs.{Shorter, many_turn}
@@ -13,13 +14,12 @@ use Rattle.entries.specs.Laid.{lay}
 use Rattle.entries.proofs.Laying.{lay_none, lay_append}
 use Rattle.lines.specs.Parts.{seen, seen_of, Makes}
 use Rattle.lines.specs.declared.part.Part.{Part}
-use Rattle.lines.specs.declared.part.Part.TheVariants.{Read, Refused}
 use Rattle.lines.proofs.Crossing.{seen_map, passed_on, makes_passed, makes_read}
 
 -- what is made of what is found, where some of its entries are laid before
 pub makes_behind :
     {A B : Type 0} (make : A → B) (size own : B → ℕ) (of : B → List Entry) (others : A → List Entry) (first : List Entry) (s cells mid : List ℕ) (n : ℕ)
-    (x : Found A) (y : Found B) (r : Part) (after : List ℕ)
+    (x : Found A) (y : Found B) (r : Result Part Refused) (after : List ℕ)
     → y ≡ and_then x (λ a left. found (make a) left) → ((a : A) → of (make a) ≡ first ++ others a) → mid ≡ lay cells n first
     → Makes (λ a. size (make a)) (λ a. own (make a)) others s mid (n + length first) x r after → Makes size own of s cells n y r after
 makes_behind {A} {B} make size own of others first s cells mid n x y r after e o l k =
@@ -50,33 +50,33 @@ module _ {A B : Type 0} (with : B → A → B) (turn : B → List ℕ → Turn A
 
   -- a part of the turn is refused, and the whole run with it
   pub turn_refused : {C : Type 0} (many mine : C → ℕ) (s : List ℕ) (outer : Found C → Turn A) → ((n : ℕ) (left : List ℕ) → outer (fault n left) ≡ stop n left)
-      → (f g : List A → ℕ) (x : Found C) (r : Part) (why : Refusal) (place : ℕ) → seen r ≡ seen_of many mine s x → r ≡ Refused why place → turn so_far l ≡ outer x
+      → (f g : List A → ℕ) (x : Found C) (r : Result Part Refused) (e : Refused) → seen (Err e) ≡ seen_of many mine s x → r ≡ Err e → turn so_far l ≡ outer x
       → seen r ≡ seen_of f g s (run_of with turn so_far l)
-  turn_refused many mine s outer keeps f g x r why place e q t =
+  turn_refused many mine s outer keeps f g x r e k q t =
       rw (by_turn, t)
       (passed_on many mine s r f g (λ y. go_on (λ a left. run_of with turn (with so_far a) left) (outer y))
-      (λ n left. ap (go_on (λ a left. run_of with turn (with so_far a) left)) (keeps n left)) x why place e q)
+      (λ n left. ap (go_on (λ a left. run_of with turn (with so_far a) left)) (keeps n left)) x e k q)
 
   -- ---- the same with entries
 
-  pub makes_over : (f g : List A → ℕ) (of : List A → List Entry) (s cells : List ℕ) (n : ℕ) (r : Part) (end made mine : ℕ)
-      → turn so_far l ≡ over (drop end s) → r ≡ Read end made mine → end ≤ length s → made ≡ f [] → mine ≡ g [] → of [] ≡ []
+  pub makes_over : (f g : List A → ℕ) (of : List A → List Entry) (s cells : List ℕ) (n : ℕ) (r : Result Part Refused) (p : Part)
+      → turn so_far l ≡ over (drop p.end s) → r ≡ Ok p → p.end ≤ length s → p.made ≡ f [] → p.own ≡ g [] → of [] ≡ []
       → Makes f g of s cells n (run_of with turn so_far l) r cells
-  makes_over f g of s cells n r end made mine t e h p q z =
-      makes_read f g of s cells n (run_of with turn so_far l) r cells [] end made mine e h (turn_over (drop end s) t) p q
+  makes_over f g of s cells n r p t e h m o z =
+      makes_read f g of s cells n (run_of with turn so_far l) r cells [] p e h (turn_over (drop p.end s) t) m o
       (sym (lay_none cells n) ∙ ap (lay cells n) (sym z))
 
   pub makes_stop : {C : Type 0} (many mine : C → ℕ) (outer : Found C → Turn A) → ((n : ℕ) (left : List ℕ) → outer (fault n left) ≡ stop n left)
-      → (f g : List A → ℕ) (of : List A → List Entry) (s cells : List ℕ) (n : ℕ) (x : Found C) (r : Part) (after : List ℕ) (why : Refusal) (place : ℕ)
-      → seen r ≡ seen_of many mine s x → r ≡ Refused why place → turn so_far l ≡ outer x → Makes f g of s cells n (run_of with turn so_far l) r after
-  makes_stop many mine outer keeps f g of s cells n x r after why place e q t =
+      → (f g : List A → ℕ) (of : List A → List Entry) (s cells : List ℕ) (n : ℕ) (x : Found C) (r : Result Part Refused) (after : List ℕ) (e : Refused)
+      → seen (Err e) ≡ seen_of many mine s x → r ≡ Err e → turn so_far l ≡ outer x → Makes f g of s cells n (run_of with turn so_far l) r after
+  makes_stop many mine outer keeps f g of s cells n x r after e k q t =
       let rest : A → List ℕ → Found (List A) = λ a left. run_of with turn (with so_far a) left in
-      makes_passed f g of s cells n (run_of with turn so_far l) r after many mine (λ y. go_on rest (outer y)) (λ k left. ap (go_on rest) (keeps k left)) x why place
-      e q (by_turn ∙ ap (go_on rest) t)
+      makes_passed f g of s cells n (run_of with turn so_far l) r after many mine (λ y. go_on rest (outer y)) (λ n left. ap (go_on rest) (keeps n left)) x e k q
+      (by_turn ∙ ap (go_on rest) t)
 
   -- the first thing's entries are laid, and the rest of the run goes on behind them
   pub makes_more :
-      (f g : List A → ℕ) (of others : List A → List Entry) (first : List Entry) (s cells mid : List ℕ) (n : ℕ) (a : A) (left : List ℕ) (r : Part)
+      (f g : List A → ℕ) (of others : List A → List Entry) (first : List Entry) (s cells mid : List ℕ) (n : ℕ) (a : A) (left : List ℕ) (r : Result Part Refused)
       (after : List ℕ)
       → turn so_far l ≡ more a left → ((things : List A) → of (a ∷ things) ≡ first ++ others things) → mid ≡ lay cells n first
       → Makes (λ things. f (a ∷ things)) (λ things. g (a ∷ things)) others s mid (n + length first) (run_of with turn (with so_far a) left) r after

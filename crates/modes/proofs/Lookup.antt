@@ -8,6 +8,7 @@ use native.Mathlib.Omega.{arith}
 use lib.ListN.{length, get_or, length-reverse}
 use lib.Dec.{ltb}
 use borrow.Author.Tests.{ltb-true, ltb-false, not-true}
+use Rattle.std.specs.Prelude.{Option, None, Some}
 use Rattle.paper.specs.declared.Mode.TheVariants.{Children, Content, Absent}
 use Rattle.paper.specs.Bytes.{same, all}
 use Rattle.paper.specs.Names.{among, distinct}
@@ -19,7 +20,7 @@ use Rattle.paper.proofs.Tables.{table_read}
 use Rattle.paper.proofs.Distinct.{among_on, among_either}
 use Rattle.modes.specs.Table.{modes_of, Valid}
 use Rattle.modes.specs.Index.{latest, named, FindsNumber, Indexed}
-use Rattle.modes.proofs.Numbers.{latest_few, latest_later, latest_before, listed, unlisted, among_reverse}
+use Rattle.modes.proofs.Numbers.{some_numbered, none_numbered, latest_few, latest_later, latest_before, listed, unlisted, among_reverse}
 use Rattle.modes.proofs.Laid.{laid}
 
 -- ---- the paper's mode, by where the name stands
@@ -57,45 +58,54 @@ all_distinct t v =
 
 -- ---- by the number
 
-module _ (t x w : List ℕ) (h : Indexed t x) (number : ℕ) (f : FindsNumber t x w number) where
-  abbrev children : List (List ℕ)
-  children = (modes_of t).children
-
-  abbrev content : List (List ℕ)
-  content = (modes_of t).content
-
-  number_is : number ≡ latest (named w) (reverse content ++ reverse children)
-  number_is = f _ h.lists ∙ ap (latest (named w)) (reverse-append children content)
-
+module _ (t x : List ℕ) (h : Indexed t x) where
   pub count_inside : 0 < length t
   count_inside = (laid t h.valid).first.inside
 
-  children_many : length (reverse children) ≡ get_or t 0 0
-  children_many = length-reverse children ∙ (laid t h.valid).first.behind.many
+  module _ (w : List ℕ) where
+    abbrev children : List (List ℕ)
+    children = (modes_of t).children
 
-  -- it is in the second section, or its number is one of the first
-  by_section : {X : Type 0} → (get_or t 0 0 < number → among content w ≡ true → X)
-      → (among content w ≡ false → number ≡ latest (named w) (reverse children) → X) → X
-  by_section second first =
-      split (ltb 0 (latest (named w) (reverse content)))
-      (λ e. let some = ltb-true 0 (latest (named w) (reverse content)) e in second
-      (omega (arith, number_is, latest_later (named w) (reverse content) (reverse children) some, children_many))
-      (sym (among_reverse content w) ∙ listed w (reverse content) some))
-      (λ e. let none : latest (named w) (reverse content) ≡ 0 = omega (arith, ltb-false 0 (latest (named w) (reverse content)) e) in first
-      (sym (among_reverse content w) ∙ unlisted w (reverse content) none)
-      (number_is ∙ latest_before (named w) (reverse content) (reverse children) none))
+    abbrev content : List (List ℕ)
+    content = (modes_of t).content
 
-  pub mode_absent : number ≡ 0 → Absent ≡ mode_of (modes_of t) w
-  mode_absent z =
-      by_section (λ l i. absurd (omega arith))
-      (λ a i. in_neither (modes_of t) w (sym (among_reverse children w) ∙ unlisted w (reverse children) (sym i ∙ z)) a)
+    abbrev number : ℕ
+    number = latest (named w) (reverse (children ++ content))
 
-  pub mode_children : (number ≡ 0 → ⊥) → number ≤ get_or t 0 0 → Children ≡ mode_of (modes_of t) w
-  mode_children some few =
-      by_section (λ l i. absurd (omega arith))
-      (λ a i. in_children (modes_of t) w (sym (among_reverse children w) ∙ listed w (reverse children) (omega arith)))
+    number_is : number ≡ latest (named w) (reverse content ++ reverse children)
+    number_is = ap (latest (named w)) (reverse-append children content)
 
-  pub mode_content : get_or t 0 0 < number → Content ≡ mode_of (modes_of t) w
-  mode_content many =
-      by_section (λ l i. in_content (modes_of t) w (apart children content w (all_distinct t h.valid) i) i)
-      (λ a i. absurd (omega (arith, latest_few (named w) (reverse children), children_many)))
+    children_many : length (reverse children) ≡ get_or t 0 0
+    children_many = length-reverse children ∙ (laid t h.valid).first.behind.many
+
+    -- it is in the second section, or its number is one of the first
+    by_section : {X : Type 0} → (get_or t 0 0 < number → among content w ≡ true → X)
+        → (among content w ≡ false → number ≡ latest (named w) (reverse children) → X) → X
+    by_section second first =
+        split (ltb 0 (latest (named w) (reverse content)))
+        (λ e. let some = ltb-true 0 (latest (named w) (reverse content)) e in second
+        (omega (arith, number_is, latest_later (named w) (reverse content) (reverse children) some, children_many))
+        (sym (among_reverse content w) ∙ listed w (reverse content) some))
+        (λ e. let none : latest (named w) (reverse content) ≡ 0 = omega (arith, ltb-false 0 (latest (named w) (reverse content)) e) in first
+        (sym (among_reverse content w) ∙ unlisted w (reverse content) none)
+        (number_is ∙ latest_before (named w) (reverse content) (reverse children) none))
+
+    pub mode_absent : FindsNumber t x w None → Absent ≡ mode_of (modes_of t) w
+    mode_absent f =
+        let z = none_numbered _ (f _ h.lists) in
+        by_section (λ l i. absurd (omega arith))
+        (λ a i. in_neither (modes_of t) w (sym (among_reverse children w) ∙ unlisted w (reverse children) (sym i ∙ z)) a)
+
+    module _ (found : ℕ) (f : FindsNumber t x w (Some found)) where
+      is : (found ≡ number) × (0 < found)
+      is = some_numbered _ _ (f _ h.lists)
+
+      pub mode_children : found ≤ get_or t 0 0 → Children ≡ mode_of (modes_of t) w
+      mode_children few =
+          by_section (λ l i. absurd (omega (arith, is)))
+          (λ a i. in_children (modes_of t) w (sym (among_reverse children w) ∙ listed w (reverse children) (omega (arith, is, i))))
+
+      pub mode_content : get_or t 0 0 < found → Content ≡ mode_of (modes_of t) w
+      mode_content many =
+          by_section (λ l i. in_content (modes_of t) w (apart children content w (all_distinct t h.valid) i) i)
+          (λ a i. absurd (omega (arith, is, i, latest_few (named w) (reverse children), children_many)))

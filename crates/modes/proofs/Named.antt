@@ -63,34 +63,34 @@ pub name_cut : (t : List ℕ) (at : ℕ) → at ≡ length t → refused 1 at �
 unfolding name_at
 name_cut t at e = let l : length t ≤ at = omega arith in rw (drop_of_length-le t l) (ap (refused 1) (omega arith))
 
-module _ (t : List ℕ) (at : ℕ) (h : at < length t) where
-  pub name_size : (get_or t at 0 ≡ 0) ⊎ (name_limit < get_or t at 0) → refused 1 at ≡ told_of one t (name_at (drop at t))
+module _ (t : List ℕ) (at : ℕ) (h : at < length t) (size : ℕ) (is : size ≡ get_or t at 0) where
+  pub name_size : (size ≡ 0) ⊎ (name_limit < size) → refused 1 at ≡ told_of one t (name_at (drop at t))
   name_size e =
-      rw (here t at h, bad_size (get_or t at 0) (drop (at + 1) t) (out_of_range (get_or t at 0) e))
+      rw (here t at h, ← is, bad_size size (drop (at + 1) t) (out_of_range size e))
       (ap (refused 1) (omega (arith, length-drop (at + 1) t)))
 
-  module _ (some : get_or t at 0 ≡ 0 → ⊥) (few : get_or t at 0 ≤ name_limit) where
-    pub name_short : length t - (at + 1) < get_or t at 0 → refused 1 (length t) ≡ told_of one t (name_at (drop at t))
+  module _ (some : size ≡ 0 → ⊥) (few : size ≤ name_limit) where
+    pub name_short : length t - (at + 1) < size → refused 1 (length t) ≡ told_of one t (name_at (drop at t))
     name_short l =
-        let over = lt-leb (get_or t at 0) (length (drop (at + 1) t)) (omega (arith, length-drop (at + 1) t)) in
-        rw (here t at h, missing (get_or t at 0) (drop (at + 1) t) (of_range (get_or t at 0) some few) over) (ap (refused 1) (omega arith))
+        let over = lt-leb size (length (drop (at + 1) t)) (omega (arith, length-drop (at + 1) t)) in
+        rw (here t at h, ← is, missing size (drop (at + 1) t) (of_range size some few) over) (ap (refused 1) (omega arith))
 
-    module _ (fit : get_or t at 0 ≤ length t - (at + 1)) (o : Bool) (e : o ≡ is_concept_name (take (at + 1 + get_or t at 0 - (at + 1)) (drop (at + 1) t))) where
-      ruled : is_concept_name (take (get_or t at 0) (drop (at + 1) t)) ≡ o
+    module _ (fit : size ≤ length t - (at + 1)) (o : Bool) (e : o ≡ is_concept_name (take (at + 1 + size - (at + 1)) (drop (at + 1) t))) where
+      ruled : is_concept_name (take size (drop (at + 1) t)) ≡ o
       ruled = sym (rw add-sub_cancel_left at e)
 
-      there : leb (get_or t at 0) (length (drop (at + 1) t)) ≡ true
-      there = le-leb (get_or t at 0) (length (drop (at + 1) t)) (omega (arith, length-drop (at + 1) t))
+      there : leb size (length (drop (at + 1) t)) ≡ true
+      there = le-leb size (length (drop (at + 1) t)) (omega (arith, length-drop (at + 1) t))
 
       pub name_broken : not o ≡ true → refused 1 (at + 1) ≡ told_of one t (name_at (drop at t))
       name_broken n =
-          rw (here t at h, broken (get_or t at 0) (drop (at + 1) t) (of_range (get_or t at 0) some few) there (ruled ∙ not-true o n))
+          rw (here t at h, ← is, broken size (drop (at + 1) t) (of_range size some few) there (ruled ∙ not-true o n))
           (ap (refused 1) (sym (place_back t (at + 1) (omega arith))))
 
-      pub name_good : not o ≡ false → accepted (at + 1 + get_or t at 0) 1 ≡ told_of one t (name_at (drop at t))
+      pub name_good : not o ≡ false → accepted (at + 1 + size) 1 ≡ told_of one t (name_at (drop at t))
       name_good n =
-          rw (here t at h, good (get_or t at 0) (drop (at + 1) t) (of_range (get_or t at 0) some few) there (ruled ∙ not-false o n), drop-drop)
-          (ap (λ (p : ℕ). accepted p 1) (sym (place_back t (at + 1 + get_or t at 0) (omega arith))))
+          rw (here t at h, ← is, good size (drop (at + 1) t) (of_range size some few) there (ruled ∙ not-false o n), drop-drop)
+          (ap (λ (p : ℕ). accepted p 1) (sym (place_back t (at + 1 + size) (omega arith))))
 
 -- ---- what an acceptance says
 

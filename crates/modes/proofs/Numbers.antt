@@ -1,6 +1,6 @@
 -- Numbers of names, the latest first: the number of a name by those that share its key, and what a number says.
 -- Over plain lists. Assumes nothing.
-use Prim.Native.Nat.{ℕ, suc, ◌+◌, ◌≤◌, ◌<◌}
+use Prim.Native.Nat.{ℕ, zero, suc, ◌+◌, ◌≤◌, ◌<◌}
 use mathlib.Core.Path.{◌≡◌, refl, sym, ap, ◌∙◌}
 use mathlib.Core.Bool.{Bool, true, false, or_comm}
 use mathlib.Core.List.{List, [], ◌∷◌, ◌++◌, reverse, reverse-cons}
@@ -8,11 +8,12 @@ use native.Mathlib.Nat.{mod-lt}
 use native.Mathlib.Omega.{arith}
 use lib.ListN.{length, length-append}
 use borrow.Author.Tests.{eq-eqb}
+use Rattle.std.specs.Prelude.{Option, None, Some}
 use Rattle.paper.specs.Names.{among}
 use Rattle.paper.proofs.Tests.{split, true_false}
 use Rattle.paper.proofs.Lists.{same_is}
 use Rattle.paper.proofs.Distinct.{among_here, among_on, among_either}
-use Rattle.modes.specs.Index.{key_count, key_of, latest, has_key, named}
+use Rattle.modes.specs.Index.{key_count, key_of, latest, has_key, named, numbered}
 
 -- ---- keys
 
@@ -72,6 +73,20 @@ pub none_alike : (w : List ℕ) (ns : List (List ℕ)) → latest (has_key (key_
 unfolding latest
 none_alike w [] h = refl
 none_alike w (n ∷ ns) h = let none = latest_none (has_key (key_of w)) n ns h in other_key w n ns none.0 ∙ none_alike w ns none.1
+
+-- ---- a number that is one of a name, and none
+
+pub numbered_some : (n : ℕ) → 0 < n → Some n ≡ numbered n
+numbered_some zero h = absurd (omega arith)
+numbered_some (suc n) h = refl
+
+pub some_numbered : (m n : ℕ) → Some m ≡ numbered n → (m ≡ n) × (0 < m)
+some_numbered m zero e = absurd (cc)
+some_numbered m (suc n) e = let same : m ≡ suc n = cc in (same, omega arith)
+
+pub none_numbered : (n : ℕ) → None ≡ numbered n → n ≡ 0
+none_numbered zero e = refl
+none_numbered (suc n) e = absurd (cc)
 
 -- ---- a number says whether the name is one of these
 

@@ -3,8 +3,8 @@
 use Prim.Native.Nat.{ℕ}
 use mathlib.Core.Path.{◌≡◌, sym, ◌∙◌}
 use mathlib.Core.List.{List}
-use Rattle.paper.specs.declared.Answer.{Answer}
-use Rattle.paper.proofs.Told.{told_injective}
+use Rattle.paper.specs.Answer.{Answer}
+use Rattle.paper.proofs.Numbers.{told_injective}
 use Rattle.modes.specs.Promises.{ReadsTable}
 
 pub one_answer_modes_read : (t : List ℕ) (r r' : Answer) → ReadsTable t r → ReadsTable t r' → r ≡ r'

@@ -11,10 +11,11 @@ use lib.ListN.{length, get_or, take, drop, length-append, length-drop, length-re
 use lib.Seq.{drop-drop}
 use lib.Dec.{leb}
 use borrow.Author.Tests.{le-leb, lt-leb}
-use Rattle.paper.specs.Answer.{accepted, refused, told}
-use Rattle.paper.specs.declared.Answer.{Answer}
-use Rattle.paper.specs.declared.Answer.TheVariants.{Accepted, Refused}
-use Rattle.paper.specs.declared.Refusal.{Refusal}
+use Rattle.std.specs.Prelude.{Option, None, Some, Result, Ok, Err, IsSome}
+use Rattle.std.specs.Option.{is_some}
+use Rattle.paper.specs.Answer.{accepted, refused}
+use Rattle.paper.specs.declared.Accepted.{Accepted}
+use Rattle.paper.specs.declared.Refused.{Refused}
 use Rattle.paper.specs.Found.{Found, found, fault, and_then, place_in, pick}
 use Rattle.paper.specs.Bytes.{within}
 use Rattle.paper.specs.Names.{name_limit, is_concept_name, among}
@@ -24,9 +25,9 @@ use Rattle.text.proofs.Places.{here, place_back}
 use Rattle.modes.specs.Table.{names_of, size_of, Whole, section_at, name_at, one, told_of}
 use Rattle.modes.specs.Index.{name_count, key_of, Stands, Lists, FindsNumber, added, Due, ReadsSection}
 use Rattle.modes.proofs.Walk.{names_more, sizes_more, names_many}
-use Rattle.modes.proofs.Numbers.{listed, unlisted, among_reverse}
+use Rattle.modes.proofs.Numbers.{some_numbered, none_numbered, listed, unlisted, among_reverse}
 use Rattle.modes.proofs.Chains.{lists_more}
-use Rattle.modes.proofs.Answered.{passed_on}
+use Rattle.modes.proofs.Answered.{told_refusal, passed_on}
 use Rattle.modes.proofs.Named.{Named}
 
 -- ---- the first name of so many, and those that are left
@@ -63,11 +64,11 @@ first_of zero before s h = absurd (omega arith)
 first_of (suc n) before s h = rw (sub-one (suc n)) (first_name n before s)
 
 module _ (t : List ℕ) (i n place : ℕ) (before : List (List ℕ)) (due : 0 < n) where
-  turn_refused : (a : Answer) (why : Refusal) (p : ℕ) → told a ≡ told_of one t (name_at (drop place t)) → a ≡ Refused why p
-      → told a ≡ told_of (counted i) t (table_names n before (drop place t))
-  turn_refused a why p e r =
+  turn_refused : (r : Refused) → told_refusal r ≡ told_of one t (name_at (drop place t))
+      → told_refusal r ≡ told_of (counted i) t (table_names n before (drop place t))
+  turn_refused r e =
       rw (first_of n before (drop place t) due)
-      (passed_on one t (λ x. told_of (counted i) t (onward (n - 1) before (drop place t) x)) (λ k left. refl) (name_at (drop place t)) a why p e r)
+      (passed_on one t (λ x. told_of (counted i) t (onward (n - 1) before (drop place t) x)) (λ k left. refl) (name_at (drop place t)) r e)
 
   module _ (end : ℕ) (name : Named t place end) (o : Bool) (e : o ≡ among before (take (end - (place + 1)) (drop (place + 1) t))) where
     asked : among before (take (get_or t place 0) (drop (place + 1) t)) ≡ o
@@ -115,9 +116,9 @@ module _ (t : List ℕ) (before : List (List ℕ)) (start count : ℕ) where
     pub read_whole : Whole i (drop start t)
     read_whole = omega (arith, so_far.ends, so_far.inside, length-drop start t)
 
-    pub ends_refused : (a : Answer) (why : Refusal) (p : ℕ) → i < count → told a ≡ told_of one t (name_at (drop place t)) → a ≡ Refused why p
-        → told a ≡ told_of length t (table_names count before (drop start t))
-    ends_refused a why p due e r = turn_refused t i (count - i) place (before ++ names_of i (drop start t)) (omega arith) a why p e r ∙ so_far.same
+    pub ends_refused : (r : Refused) → i < count → told_refusal r ≡ told_of one t (name_at (drop place t))
+        → told_refusal r ≡ told_of length t (table_names count before (drop start t))
+    ends_refused r due e = turn_refused t i (count - i) place (before ++ names_of i (drop start t)) (omega arith) r e ∙ so_far.same
 
     pub ends_again : (end : ℕ) → i < count → Named t place end → (o : Bool)
         → o ≡ among (before ++ names_of i (drop start t)) (take (end - (place + 1)) (drop (place + 1) t)) → o ≡ true
@@ -151,12 +152,16 @@ pub record Listed (t x : List ℕ) (at earlier i place : ℕ) : Type 0 where
   pub near : place ≤ at + 1 + (1 + name_limit) * i
   pub lists : Lists t x (reverse (names_of earlier (drop 1 t) ++ names_of i (drop (at + 1) t)))
 
-module _ (t x : List ℕ) (names : List (List ℕ)) (l : Lists t x (reverse names)) (w : List ℕ) (number : ℕ) (f : FindsNumber t x w number) where
-  pub stands_already : 0 < number → true ≡ among names w
-  stands_already h = sym (listed w (reverse names) (omega (arith, f (reverse names) l))) ∙ among_reverse names w
+module _ (t x : List ℕ) (names : List (List ℕ)) (l : Lists t x (reverse names)) (w : List ℕ) where
+  pub stands_already : (r : Option ℕ) → FindsNumber t x w r → IsSome r → true ≡ among names w
+  stands_already None f some = absurd (cc)
+  stands_already (Some number) f some =
+      let found = some_numbered _ _ (f (reverse names) l) in
+      sym (listed w (reverse names) (omega (arith, found.0, found.1))) ∙ among_reverse names w
 
-  pub stands_not : number ≤ 0 → false ≡ among names w
-  stands_not h = sym (unlisted w (reverse names) (omega (arith, f (reverse names) l))) ∙ among_reverse names w
+  pub stands_not : (r : Option ℕ) → FindsNumber t x w r → is_some r ≡ false → false ≡ among names w
+  stands_not None f none = sym (unlisted w (reverse names) (none_numbered _ (f (reverse names) l))) ∙ among_reverse names w
+  stands_not (Some number) f none = absurd (cc)
 
 module _ (t start : List ℕ) (at earlier : ℕ) (due : Due t at earlier start) where
   pub listed_none : Listed t start at earlier 0 (at + 1)
@@ -169,10 +174,10 @@ module _ (t start : List ℕ) (at earlier : ℕ) (due : Due t at earlier start) 
     names = names_of earlier (drop 1 t) ++ names_of i (drop (at + 1) t)
 
     -- the next name has a number and a place that fit their cells
-    pub next_fits : (earlier + (i + 1) ≤ name_count) × (place < 2 ^ 16)
+    pub next_fits : (earlier + i + 1 ≤ name_count) × (place < 2 ^ 16)
     next_fits = (omega (arith, due.few), omega (arith, due.few, due.near, l.near))
 
-    next_number : suc (length (reverse names)) ≡ earlier + (i + 1)
+    next_number : suc (length (reverse names)) ≡ earlier + i + 1
     next_number =
         let here = read_whole t (names_of earlier (drop 1 t)) (at + 1) count i place so_far in
         omega (
@@ -190,7 +195,7 @@ module _ (t start : List ℕ) (at earlier : ℕ) (due : Due t at earlier start) 
       more_names : reverse (names_of earlier (drop 1 t) ++ names_of (i + 1) (drop (at + 1) t)) ≡ letters ∷ reverse names
       more_names = rw (names_more t (at + 1) i place so_far.ends name.inside, ← append_assoc) (reverse-append names (letters ∷ []))
 
-      pub listed_more : Listed t (added x (earlier + (i + 1)) (key_of (take (end - (place + 1)) (drop (place + 1) t))) place) at earlier (i + 1) end
+      pub listed_more : Listed t (added x (earlier + i + 1) (key_of (take (end - (place + 1)) (drop (place + 1) t))) place) at earlier (i + 1) end
       listed_more =
           let size : end - (place + 1) ≡ get_or t place 0 = omega (arith, name.ends) in
           let stands : Stands t place letters
@@ -209,25 +214,26 @@ pub section_cut : (t : List ℕ) (before : List (List ℕ)) (at : ℕ) → at �
 unfolding section
 section_cut t before at e = let l : length t ≤ at = omega arith in rw (drop_of_length-le t l) (ap (refused 1) (omega arith))
 
-module _ (t : List ℕ) (before : List (List ℕ)) (at : ℕ) (h : at < length t) where
-  pub section_over : section_limit < get_or t at 0 → refused 1 at ≡ told_of length t (section before (drop at t))
+module _ (t : List ℕ) (before : List (List ℕ)) (at : ℕ) (h : at < length t) (count : ℕ) (is : count ≡ get_or t at 0) where
+  pub section_over : section_limit < count → refused 1 at ≡ told_of length t (section before (drop at t))
   unfolding section
-  section_over l = rw (here t at h, section, lt-leb (get_or t at 0) section_limit l) (ap (refused 1) (omega (arith, length-drop (at + 1) t)))
+  section_over l = rw (here t at h, ← is, section, lt-leb count section_limit l) (ap (refused 1) (omega (arith, length-drop (at + 1) t)))
 
-  pub section_names : get_or t at 0 ≤ section_limit
-      → told_of length t (table_names (get_or t at 0) before (drop (at + 1) t)) ≡ told_of length t (section before (drop at t))
-  section_names l = rw (here t at h, section_size before (get_or t at 0) (drop (at + 1) t) l)
+  pub section_names : count ≤ section_limit
+      → told_of length t (table_names count before (drop (at + 1) t)) ≡ told_of length t (section before (drop at t))
+  section_names l = rw (here t at h, ← is, section_size before count (drop (at + 1) t) l)
 
 -- ---- the answer of a section
 
-module _ {t x : List ℕ} {at earlier : ℕ} {r : Answer} (told_is : told r ≡ told_of length t (section_at t earlier at)) where
+module _ {t x : List ℕ} {at earlier : ℕ} where
   -- a refusal says nothing of the index
-  pub section_refused : ((place count : ℕ) → r ≡ Accepted place count → ⊥) → ReadsSection t at earlier r x
-  section_refused never = record { answer = told_is; near = λ p n e. absurd (never p n e); lists = λ p n e. absurd (never p n e) }
+  pub section_refused : (r : Refused) → told_refusal r ≡ told_of length t (section_at t earlier at) → ReadsSection t at earlier (Err r) x
+  section_refused r told_is = record { answer = told_is; near = λ a e. absurd (cc); lists = λ a e. absurd (cc) }
 
-  pub section_accepted : (place count : ℕ) → r ≡ Accepted place count → Listed t x at earlier count place → ReadsSection t at earlier r x
-  section_accepted place count a l = record {
+  pub section_accepted : (a : Accepted) → accepted a.place a.count ≡ told_of length t (section_at t earlier at) → Listed t x at earlier a.count a.place
+      → ReadsSection t at earlier (Ok a) x
+  section_accepted a told_is l = record {
     answer = told_is;
-    near = λ p n e. let z : Accepted place count ≡ Accepted p n = sym a ∙ e in let q : place ≡ p = cc in let m : count ≡ n = cc in omega (arith, l.near);
-    lists = λ p n e. let z : Accepted place count ≡ Accepted p n = sym a ∙ e in let m : count ≡ n = cc in rw m at l.lists;
+    near = λ b e. let same : a ≡ b = cc in rw same at l.near;
+    lists = λ b e. let same : a ≡ b = cc in rw same at l.lists;
   }

@@ -6,10 +6,11 @@ use mathlib.Core.List.{List, [], ◌++◌, reverse}
 use native.Mathlib.Omega.{arith}
 use lib.ListN.{length, get_or, drop, length-drop, drop_of_length-le}
 use lib.Seq.{drop-drop}
-use Rattle.paper.specs.Answer.{Told, accepted, refused, told}
-use Rattle.paper.specs.declared.Answer.{Answer}
-use Rattle.paper.specs.declared.Answer.TheVariants.{Accepted, Refused}
-use Rattle.paper.specs.declared.Refusal.{Refusal}
+use Rattle.std.specs.Prelude.{Result, Ok, Err}
+use Rattle.paper.specs.Answer.{accepted, refused, told}
+use Rattle.paper.specs.declared.Accepted.{Accepted}
+use Rattle.paper.specs.declared.Refused.{Refused}
+use Rattle.paper.specs.declared.Told.{Told}
 use Rattle.paper.specs.Found.{Found, found, fault, and_then, place_in}
 use Rattle.paper.specs.Names.{name_limit}
 use Rattle.paper.specs.Modes.{Modes, section_limit, section, wholly, mode_table, read_table}
@@ -18,7 +19,7 @@ use Rattle.modes.specs.Table.{names_of, size_of, Whole, told_of, modes_of}
 use Rattle.modes.specs.Promises.{ReadsTable}
 use Rattle.modes.specs.Index.{Lists, Empty, Due, Indexed, ReadsInto}
 use Rattle.modes.proofs.Chains.{lists_none}
-use Rattle.modes.proofs.Answered.{place_told, count_told, no_acceptance, passed_on}
+use Rattle.modes.proofs.Answered.{place_told, count_told, no_acceptance, told_refusal, passed_on}
 use Rattle.modes.proofs.Laid.{Good, Section, section_good, with_second}
 
 -- ---- a section that was accepted
@@ -79,21 +80,20 @@ unfolding mode_table
 by_sections t = by_table t
 
 module _ (t : List ℕ) where
-  pub first_refused : (a : Answer) (why : Refusal) (p : ℕ) → told a ≡ told_of length t (section (names_of 0 (drop 1 t)) (drop 0 t))
-      → a ≡ Refused why p → told a ≡ read_table t
+  pub first_refused : (r : Refused) → told_refusal r ≡ told_of length t (section (names_of 0 (drop 1 t)) (drop 0 t)) → told_refusal r ≡ read_table t
   unfolding names_of
-  first_refused a why p e r = rw (by_sections t) (passed_on length t (by_first t) (λ k left. refl) (section [] t) a why p e r)
+  first_refused r e = rw (by_sections t) (passed_on length t (by_first t) (λ k left. refl) (section [] t) r e)
 
   module _ (place children : ℕ) (first : Read t (names_of 0 (drop 1 t)) 0 place children) where
     second : read_table t ≡ by_second t (names_of children (drop 1 t)) (section (names_of children (drop 1 t)) (drop place t))
     unfolding names_of
     second = rw (by_sections t, first.same)
 
-    pub second_refused : (a : Answer) (why : Refusal) (p : ℕ) → told a ≡ told_of length t (section (names_of children (drop 1 t)) (drop place t))
-        → a ≡ Refused why p → told a ≡ read_table t
-    second_refused a why p e r =
+    pub second_refused : (r : Refused) → told_refusal r ≡ told_of length t (section (names_of children (drop 1 t)) (drop place t))
+        → told_refusal r ≡ read_table t
+    second_refused r e =
         rw second
-        (passed_on length t (by_second t (names_of children (drop 1 t))) (λ k left. refl) (section (names_of children (drop 1 t)) (drop place t)) a why p e r)
+        (passed_on length t (by_second t (names_of children (drop 1 t))) (λ k left. refl) (section (names_of children (drop 1 t)) (drop place t)) r e)
 
     module _ (end content : ℕ) (rest : Read t (names_of children (drop 1 t)) place end content) where
       pub table_spare : end < length t → refused 1 end ≡ read_table t
@@ -130,5 +130,5 @@ unfolding names_of
 second_due t x place children first n l = record { inside = first.inside; near = omega arith; few = first.few; many = first.many; lists = l }
 
 -- a refusal says nothing of the index
-pub into_refused : (t x : List ℕ) (r : Answer) → ReadsTable t r → ((place count : ℕ) → r ≡ Accepted place count → ⊥) → ReadsInto t r x
-into_refused t x r e never = record { answer = e; indexed = λ p n f. absurd (never p n f) }
+pub into_refused : (t x : List ℕ) (r : Refused) → told_refusal r ≡ read_table t → ReadsInto t (Err r) x
+into_refused t x r e = record { answer = e; indexed = λ a f. absurd (cc) }

@@ -1,9 +1,10 @@
 -- The index of a table's names: which name each of its cells leads to, and what it lists.
 -- Document 02, Three. A name is found by the numbers of those that share its key; names are numbered from 1 on, in the order of the table.
-use Rattle.std.specs.Prelude.{ℕ, suc, ◌+◌, ◌-◌, ◌*◌, ◌≤◌, ◌<◌, ◌%◌, ◌≡◌, Bool, List, [], ◌∷◌, ◌++◌, reverse, length, get_or, take, drop, set, eqb}
-use Rattle.paper.specs.Answer.{told}
-use Rattle.paper.specs.declared.Answer.{Answer}
-use Rattle.paper.specs.declared.Answer.TheVariants.{Accepted}
+use Rattle.std.specs.Prelude.{ℕ, zero, suc, ◌+◌, ◌-◌, ◌*◌, ◌≤◌, ◌<◌, ◌%◌, ◌≡◌, Bool, Option, None, Some, Result, Ok, List, [], ◌∷◌, ◌++◌, reverse, length, get_or, take, drop, set, eqb}
+use Rattle.std.specs.Coded.{×_prop, Unit-prop}
+use Rattle.std.proofs.Props.{props}
+use Rattle.paper.specs.Answer.{Answer, told}
+use Rattle.paper.specs.declared.Accepted.{Accepted}
 use Rattle.paper.specs.Found.{pick}
 use Rattle.paper.specs.Bytes.{same}
 use Rattle.paper.specs.Names.{name_limit}
@@ -61,6 +62,11 @@ abbrev pub Linked : List ℕ → List ℕ → List (List ℕ) → Type 0
 Linked t x [] = Unit {0}
 Linked t x (n ∷ ns) = Link t x n ns × Linked t x ns
 
+-- it has one proof at most, as what a ghost field says must
+Linked-prop : (t x : List ℕ) (names : List (List ℕ)) → IsProp (Linked t x names)
+Linked-prop t x [] = Unit-prop
+Linked-prop t x (n ∷ ns) = ×_prop (hlevel props) (Linked-prop t x ns)
+
 -- the index lists just these names of the table
 pub record Lists (t x : List ℕ) (names : List (List ℕ)) : Type 0 where
   pub long : length x ≡ cell_count
@@ -73,9 +79,14 @@ pub record Listing (t x : List ℕ) : Type 0 where
   pub names : List (List ℕ)
   pub lists : Lists t x names
 
+-- a number that is one of a name, where 0 is none
+abbrev pub numbered : ℕ → Option ℕ
+numbered zero = None
+numbered (suc n) = Some (suc n)
+
 -- a search finds the number of the name w, whatever names the index lists
-abbrev pub FindsNumber : List ℕ → List ℕ → List ℕ → ℕ → Type 0
-FindsNumber t x w r = (names : List (List ℕ)) → Lists t x names → r ≡ latest (named w) names
+abbrev pub FindsNumber : List ℕ → List ℕ → List ℕ → Option ℕ → Type 0
+FindsNumber t x w r = (names : List (List ℕ)) → Lists t x names → r ≡ numbered (latest (named w) names)
 
 -- no name yet
 pub record Empty (x : List ℕ) : Type 0 where
@@ -99,15 +110,19 @@ pub record Due (t : List ℕ) (at earlier : ℕ) (x : List ℕ) : Type 0 where
 -- `read_section` answers r, and if it accepts, the index lists the names of the section too
 pub record ReadsSection (t : List ℕ) (at earlier : ℕ) (r : Answer) (x : List ℕ) : Type 0 where
   pub answer : told r ≡ told_of length t (section_at t earlier at)
-  pub near : (place count : ℕ) → r ≡ Accepted place count → place ≤ at + 1 + (1 + name_limit) * count
-  pub lists : (place count : ℕ) → r ≡ Accepted place count → Lists t x (reverse (names_of earlier (drop 1 t) ++ names_of count (drop (at + 1) t)))
+  pub near : (a : Accepted) → r ≡ Ok a → a.place ≤ at + 1 + (1 + name_limit) * a.count
+  pub lists : (a : Accepted) → r ≡ Ok a → Lists t x (reverse (names_of earlier (drop 1 t) ++ names_of a.count (drop (at + 1) t)))
 
 -- the table is in order, and the index lists its names
 pub record Indexed (t x : List ℕ) : Type 0 where
   pub valid : Valid t
   pub lists : Lists t x (reverse ((modes_of t).children ++ (modes_of t).content))
 
+-- it has one proof at most, so that the ghost field of `Modes` may say it
+pub Indexed-prop : (t x : List ℕ) → IsProp (Indexed t x)
+Indexed-prop t x = hlevel (props, Linked-prop)
+
 -- `read_into` answers r for a table, and leaves the index so
 pub record ReadsInto (t : List ℕ) (r : Answer) (x : List ℕ) : Type 0 where
   pub answer : ReadsTable t r
-  pub indexed : (place count : ℕ) → r ≡ Accepted place count → Indexed t x
+  pub indexed : (a : Accepted) → r ≡ Ok a → Indexed t x

@@ -1,7 +1,9 @@
 -- The mode table by its places: names that stand one after another, and a reading as an answer.
 -- Document 01, "The mode table"; what is right is said by the paper's definitions, which these tie to places.
-use Rattle.std.specs.Prelude.{ℕ, zero, suc, ◌+◌, ◌≤◌, ◌≡◌, true, false, List, [], ◌∷◌, length, take, drop, leb}
-use Rattle.paper.specs.Answer.{Told, accepted, refused}
+use Rattle.std.specs.Prelude.{ℕ, zero, suc, ◌+◌, ◌≤◌, ◌≡◌, true, false, Result, Ok, Err, List, [], ◌∷◌, length, take, drop, leb}
+use Rattle.paper.specs.Answer.{accepted, refused, number_of}
+use Rattle.paper.specs.declared.Refused.{Refused}
+use Rattle.paper.specs.declared.Told.{Told}
 use Rattle.paper.specs.Found.{Found, found, fault, place_in}
 use Rattle.paper.specs.Bytes.{within}
 use Rattle.paper.specs.Names.{name_limit, is_concept_name}
@@ -46,6 +48,11 @@ told_of many whole (fault n left) = refused n (place_in whole left)
 
 abbrev pub one : List ℕ → ℕ
 one w = 1
+
+-- one name that is read up to a place, or its refusal, as an answer
+abbrev pub told_name : Result ℕ Refused → Told
+told_name (Ok end) = accepted end 1
+told_name (Err r) = refused (number_of r.refusal) r.place
 
 -- the modes of a table, none where it is refused
 unfoldable pub modes_of : List ℕ → Modes

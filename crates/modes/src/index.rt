@@ -28,15 +28,14 @@ pub type Index = [u16; CELLS];
 pub fn key(name: &[u8]) -> usize
     ensures { (result ≡ key_of name.now) × (result < key_count) }
 {
-    let size = name.len();
-    if size == 0 {
+    let Some(&last) = name.last() else {
         return 0;
-    }
-    (name[0] as usize + name[size - 1] as usize) % KEYS
+    };
+    (name[0] as usize + last as usize) % KEYS
 }
 
-// The number of the name that has this key, or 0 where the index lists no such name. Few names share a key, and only these are compared.
-pub fn find(table: &[u8], index: &Index, key: usize, name: &[u8]) -> usize
+// The number of the name that has this key, if the index lists it. Few names share a key, and only these are compared.
+pub fn find(table: &[u8], index: &Index, key: usize, name: &[u8]) -> Option<usize>
     requires { Listing table.now index.now × (key ≡ key_of name.now) }
     ensures { FindsNumber table.now index.now name.now result }
 {
@@ -46,11 +45,11 @@ pub fn find(table: &[u8], index: &Index, key: usize, name: &[u8]) -> usize
         let letters = place + 1;
         let end = letters + table[place] as usize;
         if parts::same(&table[letters..end], name) {
-            return number;
+            return Some(number);
         }
         number = index[EARLIER + number] as usize;
     }
-    0
+    None
 }
 
 // Lists one name more, under the next number and its key. Its length byte is at `place`.

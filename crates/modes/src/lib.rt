@@ -5,14 +5,13 @@
 pub mod index;
 
 ghost use Rattle.std.specs.Prelude.{◌≡◌, ◌≤◌, length, drop};
-ghost use Rattle.paper.specs.Answer.{told, refused};
 ghost use Rattle.paper.specs.Modes.{mode_of};
 ghost use Rattle.modes.specs.Promises.{ReadsTable};
-ghost use Rattle.modes.specs.Table.{name_at, one, told_of, modes_of};
-ghost use Rattle.modes.specs.Index.{Empty, Due, ReadsSection, Indexed, ReadsInto};
+ghost use Rattle.modes.specs.Table.{name_at, one, told_name, told_of, modes_of};
+ghost use Rattle.modes.specs.Index.{Empty, Due, ReadsSection, Indexed, Indexed-prop, ReadsInto};
 
 use index::{CELLS, Index};
-use paper::{Answer, Mode, Refusal};
+use paper::{Accepted, Answer, Mode, Refusal, Refused};
 
 // A section has at most so many names.
 const SECTION_LIMIT: usize = 64;
@@ -30,44 +29,36 @@ pub fn read_into(table: &[u8], index: &mut Index) -> Answer
     requires { Empty index.old }
     ensures { ReadsInto table.now result index.new }
 {
-    let first = read_section(table, 0, 0, index);
-    let Answer::Accepted {
-        place: middle,
-        count: children,
-    } = first
-    else {
-        return first;
-    };
-    let second = read_section(table, middle, children, index);
-    let Answer::Accepted {
-        place: end,
-        count: content,
-    } = second
-    else {
-        return second;
-    };
-    if end < table.len() {
-        return refuse(end);
+    let first = read_section(table, 0, 0, index)?;
+    let second = read_section(table, first.place, first.count, index)?;
+    if second.place < table.len() {
+        return Err(Refusal::Table.at(second.place));
     }
-    Answer::Accepted {
-        place: end,
-        count: children + content,
-    }
+    Ok(Accepted {
+        place: second.place,
+        count: first.count + second.count,
+    })
 }
 
-// What a table says of a name, by its index. The first names are in children mode, and the table's first byte says how many they are.
-pub fn mode_of(table: &[u8], index: &Index, name: &[u8]) -> Mode
-    requires { Indexed table.now index.now }
-    ensures { result ≡ mode_of (modes_of table.now) name.now }
-{
-    let number = index::find(table, index, index::key(name), name);
-    if number == 0 {
-        return Mode::Absent;
+// A mode table that is in order, with the index of its names.
+#[derive(Clone, Copy)]
+pub struct Modes<'a> {
+    pub table: &'a [u8],
+    pub index: &'a Index,
+    pub ghost indexed: { Indexed table.now index.now } by { Indexed-prop table.now index.now },
+}
+
+impl Modes<'_> {
+    // What the table says of a name. The first names are in children mode, and the table's first byte says how many they are.
+    pub fn mode_of(&self, name: &[u8]) -> Mode
+        ensures { result ≡ mode_of (modes_of self.now.table.now) name.now }
+    {
+        match index::find(self.table, self.index, index::key(name), name) {
+            None => Mode::Absent,
+            Some(number) if number <= self.table[0] as usize => Mode::Children,
+            Some(_) => Mode::Content,
+        }
     }
-    if number <= table[0] as usize {
-        return Mode::Children;
-    }
-    Mode::Content
 }
 
 // Reads the section at `at`, behind the first `earlier` names of the table, and lists its names in the index; none of them may be listed
@@ -76,65 +67,48 @@ fn read_section(table: &[u8], at: usize, earlier: usize, index: &mut Index) -> A
     requires { Due table.now at earlier index.old }
     ensures { ReadsSection table.now at earlier result index.new }
 {
-    if at == table.len() {
-        return refuse(at);
-    }
-    let count = table[at] as usize;
+    let Some(&count) = table.get(at) else {
+        return Err(Refusal::Table.at(at));
+    };
+    let count = count as usize;
     if SECTION_LIMIT < count {
-        return refuse(at);
+        return Err(Refusal::Table.at(at));
     }
     let mut place = at + 1;
-    let mut i = 0;
-    while i < count {
-        let answer = read_name(table, place);
-        let Answer::Accepted { place: end, .. } = answer else {
-            return answer;
-        };
+    for i in 0..count {
+        let end = read_name(table, place)?;
         let letters = place + 1;
         let name = &table[letters..end];
         let key = index::key(name);
-        if 0 < index::find(table, index, key, name) {
-            return refuse(letters);
+        if index::find(table, index, key, name).is_some() {
+            return Err(Refusal::Table.at(letters));
         }
-        i += 1;
-        index::add(index, earlier + i, key, place);
+        index::add(index, earlier + i + 1, key, place);
         place = end;
     }
-    Answer::Accepted { place, count }
+    Ok(Accepted { place, count })
 }
 
-// Reads the name whose length byte is at `at`, by itself. An acceptance has the place past the name.
-fn read_name(table: &[u8], at: usize) -> Answer
+// Reads the name whose length byte is at `at`, by itself, and answers the place past it.
+fn read_name(table: &[u8], at: usize) -> Result<usize, Refused>
     requires { at ≤ length table.now }
-    ensures { told result ≡ told_of one table.now (name_at (drop at table.now)) }
+    ensures { told_name result ≡ told_of one table.now (name_at (drop at table.now)) }
 {
-    if at == table.len() {
-        return refuse(at);
-    }
-    let size = table[at] as usize;
+    let Some(&size) = table.get(at) else {
+        return Err(Refusal::Table.at(at));
+    };
+    let size = size as usize;
     if size == 0 || names::LIMIT < size {
-        return refuse(at);
+        return Err(Refusal::Table.at(at));
     }
     let letters = at + 1;
+    // Not by a `get`: the compiler would no longer see that the letters are few, and take ten instructions more for each name.
     if table.len() - letters < size {
-        return refuse(table.len());
+        return Err(Refusal::Table.at(table.len()));
     }
     let end = letters + size;
     if !names::is_concept_name(&table[letters..end]) {
-        return refuse(letters);
+        return Err(Refusal::Table.at(letters));
     }
-    Answer::Accepted {
-        place: end,
-        count: 1,
-    }
-}
-
-// The table is refused at a place.
-fn refuse(place: usize) -> Answer
-    ensures { told result ≡ refused 1 place }
-{
-    Answer::Refused {
-        refusal: Refusal::Table,
-        place,
-    }
+    Ok(end)
 }

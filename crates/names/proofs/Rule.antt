@@ -70,9 +70,6 @@ pub record Judged (s : List ℕ) (at capitals : ℕ) (few : Bool) (key i : ℕ) 
   pub small : key < key_limit
   pub keyed : key_from key (run (drop i s)) ≡ key_of (run (drop at s))
 
-pub judged_begin : (s : List ℕ) (at : ℕ) → at ≤ length s → Judged s at 0 true 0 at
-judged_begin s at h = record { ahead = omega arith; inside = h; ends = refl; row = omega arith; decides = refl; small = omega arith; keyed = refl }
-
 module _ {s : List ℕ} {at capitals : ℕ} {few : Bool} {key i : ℕ} (so_far : Judged s at capitals few key i) where
   -- the key with one letter more
   abbrev next : ℕ
@@ -156,9 +153,12 @@ module _ {s : List ℕ} {at capitals : ℕ} {few : Bool} {key i : ℕ} (so_far :
   pub measured_here : i < length s → is_name_byte (get_or s i 0) ≡ false → (r : Run) → Answered r → Measures s at r
   measured_here h e = measured (stops is_name_byte s i h e) (run_over s i h e)
 
-  pub measured_cut : length s ≤ i → (r : Run) → Answered r → Measures s at r
+  -- the same at the end of the slice
+  pub measured_cut : length s ≤ i → (r : Run) → (r.end ≡ length s) × (r.keeps ≡ (few && leb (length s - at) name_limit)) × (r.key ≡ key) → Measures s at r
   unfolding length_in
-  measured_cut h = measured (cut_off is_name_byte s i h) (ap run (drop_of_length-le s h))
+  measured_cut h r e =
+      let there : length s ≡ i = omega (arith, so_far.inside) in
+      measured (cut_off is_name_byte s i h) (ap run (drop_of_length-le s h)) r (rw there at e)
 
 -- ---- the whole rule, for names that start in a class
 

@@ -34,11 +34,11 @@ pub struct Run {
 pub fn is_concept_name(name: &[u8]) -> bool
     ensures { result ≡ is_concept_name name.now }
 {
-    let run = run_at(name, 0);
-    if name.len() == 0 || run.end < name.len() {
+    let Some(&first) = name.first() else {
         return false;
-    }
-    classes::is_upper(name[0]) && run.keeps
+    };
+    let run = run_at(name, 0);
+    run.end == name.len() && classes::is_upper(first) && run.keeps
 }
 
 // The run of letters and digits that stands at `at`, measured, judged and given its key in one pass.
@@ -50,8 +50,7 @@ pub fn run_at(s: &[u8], at: usize) -> Run
     let mut capitals = 0;
     let mut few = true;
     let mut key = 0;
-    let mut i = at;
-    while i < s.len() {
+    for i in at..s.len() {
         let b = s[i];
         if classes::is_lower(b) {
             capitals = 0;
@@ -67,9 +66,8 @@ pub fn run_at(s: &[u8], at: usize) -> Run
             return judged(at, i, few, key);
         }
         key = (key + b as usize) * SPREAD % KEYS;
-        i += 1;
     }
-    judged(at, i, few, key)
+    judged(at, s.len(), few, key)
 }
 
 // The run from `at` to `end` with this key, in which few capitals stand in a row or not, by its length.

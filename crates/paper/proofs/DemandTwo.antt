@@ -7,7 +7,8 @@ use native.Mathlib.Omega.{arith}
 use lib.ListN.{length, take}
 use lib.Seq.{take_at}
 use borrow.Author.Tests.{leb-true, le-leb}
-use Rattle.paper.specs.Answer.{Told, accepted}
+use Rattle.paper.specs.Answer.{accepted}
+use Rattle.paper.specs.declared.Told.{Told}
 use Rattle.paper.specs.Modes.{Modes}
 use Rattle.paper.specs.Tree.{Sheet}
 use Rattle.paper.specs.Grammar.{Derives}
@@ -17,7 +18,7 @@ use Rattle.paper.specs.Reading.{room_of, reading}
 use Rattle.paper.specs.Canonical.{SheetSense, meaning, print, canonical}
 use Rattle.paper.specs.Writing.{Begun, tree, unread, begin, Writing, written_at, form_fits, write_form, writing}
 use Rattle.paper.proofs.Tests.{split}
-use Rattle.paper.proofs.Told.{told_apart}
+use Rattle.paper.proofs.Numbers.{told_apart}
 use Rattle.paper.proofs.Exactly.{accepting}
 use Rattle.paper.proofs.Beginning.{Sound, Begins, begins, begins_tree, reads_tree}
 use Rattle.paper.proofs.Meant.{again, again_means}

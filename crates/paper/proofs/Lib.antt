@@ -1,6 +1,6 @@
 -- Laws of the paper's definitions; no line of them speaks of code.
 pub mod Tests
-pub mod Told
+pub mod Numbers
 pub mod Finds
 pub mod Lists
 pub mod Runs

@@ -7,7 +7,8 @@ use mathlib.Core.List.{List, [], ◌∷◌, ◌++◌, map}
 use mathlib.Core.Logic.{⊎_elim}
 use native.Mathlib.Omega.{arith}
 use lib.ListN.{length, replicate}
-use Rattle.paper.specs.Answer.{Told, accepted, refused}
+use Rattle.paper.specs.Answer.{accepted, refused}
+use Rattle.paper.specs.declared.Told.{Told}
 use Rattle.paper.specs.Found.{found, fault, many}
 use Rattle.paper.specs.Bytes
 use Rattle.paper.specs.Names

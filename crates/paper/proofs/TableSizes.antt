@@ -7,7 +7,8 @@ use native.Mathlib.Omega.{arith}
 use lib.ListN.{length, take, drop, length-drop}
 use lib.Dec.{leb}
 use borrow.Author.Tests.{leb-true, leb-false}
-use Rattle.paper.specs.Answer.{Told, accepted, refused}
+use Rattle.paper.specs.Answer.{accepted, refused}
+use Rattle.paper.specs.declared.Told.{Told}
 use Rattle.paper.specs.Found.{Found, found, fault, and_then, place_in}
 use Rattle.paper.specs.Names.{name_limit, is_concept_name, among}
 use Rattle.paper.specs.Modes.{Modes, section_limit, table_names, section, wholly, mode_table, read_table}

@@ -1,16 +1,22 @@
 -- What an answer is in the paper's numbers: number, place and count.
 -- Document 01, "Refusal numbers", and the answers of "Order".
-use Rattle.std.specs.Prelude.{ℕ}
-use Rattle.paper.specs.declared.Answer.{Answer}
-use Rattle.paper.specs.declared.Answer.TheVariants.{Accepted, Refused}
+use Rattle.std.specs.Prelude.{ℕ, Result, Ok, Err}
+use Rattle.paper.specs.declared.Accepted.{Accepted}
+use Rattle.paper.specs.declared.Refused.{Refused}
+use Rattle.paper.specs.declared.Told.{Told}
 use Rattle.paper.specs.declared.Refusal.{Refusal}
 use Rattle.paper.specs.declared.Refusal.TheVariants.{Table, SheetTooLong, Bytes, Name, Unlisted, Value, Due, ClosingName, Cut, TooDeep, NoEntryLeft, NoRoom}
 use Rattle.paper.specs.declared.Refusal.TheVariants.{RollTooLong, BeforeBoundary, TooManySheets, RootAnnotated, View, TraitTwice}
 
-pub record Told : Type 0 where
-  pub number : ℕ
-  pub place : ℕ
-  pub count : ℕ
+-- what a public function answers
+abbrev pub Answer : Type 0
+Answer = Result Accepted Refused
+
+abbrev pub accepted_at : ℕ → ℕ → Accepted
+accepted_at at many = record { place = at; count = many }
+
+abbrev pub refused_at : Refusal → ℕ → Refused
+refused_at why at = record { refusal = why; place = at }
 
 -- an acceptance is number 0; a refusal's count is 0
 abbrev pub accepted : ℕ → ℕ → Told
@@ -40,5 +46,5 @@ number_of View = 17
 number_of TraitTwice = 18
 
 abbrev pub told : Answer → Told
-told (Accepted at many) = accepted at many
-told (Refused why at) = refused (number_of why) at
+told (Ok a) = accepted a.place a.count
+told (Err r) = refused (number_of r.refusal) r.place

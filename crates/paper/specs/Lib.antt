@@ -1,5 +1,7 @@
 -- Document 01 as definitions, in the order in which they are read.
 pub mod Answer
+pub mod Forms
+pub mod Kinds
 pub mod Found
 pub mod Bytes
 pub mod Names

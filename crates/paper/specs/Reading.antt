@@ -2,7 +2,8 @@
 -- Document 01, "Refusal numbers" and "Order"; the fault met first from left to right.
 use Rattle.std.specs.Prelude.{ℕ, zero, suc, ◌+◌, ◌-◌, ◌/◌, min, Bool, true, false, ◌&&◌, List, [], ◌∷◌, ◌++◌, map, length, drop, get_or, replicate, leb, ltb, eqb}
 use Rattle.paper.specs.declared.Mode.TheVariants.{Children, Absent}
-use Rattle.paper.specs.Answer.{Told, accepted, refused}
+use Rattle.paper.specs.Answer.{accepted, refused}
+use Rattle.paper.specs.declared.Told.{Told}
 use Rattle.paper.specs.Found.{Found, found, fault, and_then, Turn, over, stop, turn_of, run_of, many_of, place_in}
 use Rattle.paper.specs.Bytes.{byte, bytes, is_upper, is_lower, is_blank, is_white, is_line_end, length_in, front, behind, elem, same, starts_in, starts_with, sheet_bytes, lf}
 use Rattle.paper.specs.Bytes.{cr, tab, space, is, up_to, onward}

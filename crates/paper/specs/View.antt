@@ -1,7 +1,8 @@
 -- The value view: the part of a sheet that a numbered entry's span names, or 17.
 -- Document 01, "Entries" and refusal 17.
 use Rattle.std.specs.Prelude.{ℕ, suc, ◌+◌, ◌-◌, ◌*◌, Bool, true, false, not, ◌&&◌, List, [], length, take, drop, get_or, leb, eqb}
-use Rattle.paper.specs.Answer.{Told, accepted, refused}
+use Rattle.paper.specs.Answer.{accepted, refused}
+use Rattle.paper.specs.declared.Told.{Told}
 use Rattle.paper.specs.Entries.{entry_cells}
 
 -- the cell of an entry

@@ -1,7 +1,8 @@
 -- Writing the canonical form: for every table, sheet, number of entry cells and output lent, the answer, every byte and every cell at exit.
 -- Document 01, "Canonical form", refusal 12, and the answers of "Order".
 use Rattle.std.specs.Prelude.{ℕ, ◌+◌, min, Bool, true, false, List, ◌++◌, length, take, drop, replicate, leb}
-use Rattle.paper.specs.Answer.{Told, accepted, refused}
+use Rattle.paper.specs.Answer.{accepted, refused}
+use Rattle.paper.specs.declared.Told.{Told}
 use Rattle.paper.specs.Found.{Found, found, fault, place_in}
 use Rattle.paper.specs.Modes.{mode_table}
 use Rattle.paper.specs.Tree.{Sheet}

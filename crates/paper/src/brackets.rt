@@ -1,9 +1,10 @@
 // Brackets: the kinds of values that hold items, and what is known of each.
 // Document 02, Five; 001 §19 to §22. What each function answers is stated once, in specs/Values.antt.
 ghost use Rattle.std.specs.Prelude.{◌≡◌, length};
+ghost use Rattle.paper.specs.Forms.{number_of_form};
 ghost use Rattle.paper.specs.Values.{opener, closer, bracket_form, may_be_empty, keyed};
 
-use crate::forms;
+use crate::forms::Form;
 
 // A kind of bracket.
 #[derive(Clone, Copy)]
@@ -20,10 +21,8 @@ impl Bracket {
         ensures { result ≡ length (opener self) }
     {
         match self {
-            Bracket::List => 1,
-            Bracket::Set => 4,
-            Bracket::Map => 4,
-            Bracket::Tuple => 1,
+            Bracket::List | Bracket::Tuple => 1,
+            Bracket::Set | Bracket::Map => 4,
         }
     }
 
@@ -32,22 +31,20 @@ impl Bracket {
         ensures { result ≡ closer self }
     {
         match self {
-            Bracket::List => b']',
-            Bracket::Set => b']',
-            Bracket::Map => b']',
+            Bracket::List | Bracket::Set | Bracket::Map => b']',
             Bracket::Tuple => b')',
         }
     }
 
     // Its form.
-    pub fn form(self) -> u32
-        ensures { result ≡ bracket_form self }
+    pub fn form(self) -> Form
+        ensures { number_of_form result ≡ bracket_form self }
     {
         match self {
-            Bracket::List => forms::LIST,
-            Bracket::Set => forms::SET,
-            Bracket::Map => forms::MAP,
-            Bracket::Tuple => forms::TUPLE,
+            Bracket::List => Form::List,
+            Bracket::Set => Form::Set,
+            Bracket::Map => Form::Map,
+            Bracket::Tuple => Form::Tuple,
         }
     }
 
@@ -55,23 +52,13 @@ impl Bracket {
     pub fn may_be_empty(self) -> bool
         ensures { result ≡ may_be_empty self }
     {
-        match self {
-            Bracket::List => true,
-            Bracket::Set => true,
-            Bracket::Map => true,
-            Bracket::Tuple => false,
-        }
+        !matches!(self, Bracket::Tuple)
     }
 
     // Whether its items have keys.
     pub fn is_keyed(self) -> bool
         ensures { result ≡ keyed self }
     {
-        match self {
-            Bracket::List => false,
-            Bracket::Set => false,
-            Bracket::Map => true,
-            Bracket::Tuple => false,
-        }
+        matches!(self, Bracket::Map)
     }
 }

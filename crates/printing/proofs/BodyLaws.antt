@@ -20,40 +20,12 @@ use Rattle.paper.proofs.Concepts.{element_parts}
 use Rattle.paper.proofs.Fronts.{blank_front, notes_front, whole_front, concept_ends, past_front, past_bytes}
 use Rattle.entries.specs.Laid.{entry_at, Stand, kind_at}
 use Rattle.entries.proofs.Standing.{stand_entry, stand_front, stand_back}
-use Rattle.quoting.specs.Page.{page, Puts}
+use Rattle.quoting.specs.declared.page.Page.{Page}
+use Rattle.quoting.specs.Page.{Step, Puts}
+use Rattle.quoting.proofs.Putting.{puts_then, step_as, step_then}
 use Rattle.printing.specs.Standing.{Ends, OfConcept, OfBody}
+use Rattle.printing.proofs.Marking.{body_ends}
 use Rattle.printing.specs.Walking.{OfNotes, Keeps, KeepsBody, print_rest, NotesPut, ConceptPut}
-
--- ---- an empty line, where there is one
-
-pub between_put : (between : Bool) → between ≡ true → {out after : List ℕ} {at to : ℕ} → Puts out at (λ next. lf ∷ next) after to
-    → Puts out at (λ next. pick between (lf ∷ next) next) after to
-between_put between e h = record { same = λ next. rw e (h.same next) }
-
-pub between_none : (between : Bool) → between ≡ false → {out : List ℕ} {at : ℕ} → Puts out at (λ next. pick between (lf ∷ next) next) out at
-between_none between e = record { same = λ next. rw e }
-
--- ---- no trait stands where a body begins, if none stands behind it
-
-kind_ends : (cells : List ℕ) (n : ℕ) (e : Entry) → entry_at cells n ≡ e → (e.kind ≡ 2 → ⊥) → (e.kind ≡ 3 → ⊥) → Ends cells n
-kind_ends cells n e is a b =
-    record { no_trait_lem = λ k. a (sym (ap (λ (x : Entry). x.kind) is) ∙ k); no_item = λ k. b (sym (ap (λ (x : Entry). x.kind) is) ∙ k) }
-
--- annotations and their Concept begin with no trait
-begin_ends : (cells : List ℕ) (n parent at : ℕ) (notes : List Annotation) (e : Entry) (es : List Entry) → e.kind ≡ 1
-    → Stand cells n (annotation_entries parent at notes ++ (e ∷ es)) → Ends cells n
-unfolding annotation_entries
-begin_ends cells n parent at [] e es k s = kind_ends cells n e (stand_entry cells n e es s) (λ q. omega arith) (λ q. omega arith)
-begin_ends cells n parent at (a ∷ notes) e es k s = kind_ends cells n _ (stand_entry cells n _ _ s) (λ q. omega arith) (λ q. omega arith)
-
-pub body_ends : (s cells : List ℕ) (n parent at : ℕ) (body : Body) → OfBody s cells n parent at body → Ends cells (n + body_size body) → Ends cells n
-unfolding body_size body_entries
-body_ends s cells n parent at body of none = go at body of.stand none
-  where
-    go : (at : ℕ) (body : Body) → Stand cells n (body_entries parent n at body) → Ends cells (n + body_size body) → Ends cells n
-    go at done stands none = let z : n + 0 ≡ n = omega arith in rw z at none
-    go at (blank_line b body) stands none = go (at + length (blank_onto b [])) body stands none
-    go at (element notes tabs c rest body) stands none = begin_ends cells n parent at notes _ _ refl stands
 
 -- ---- the first element of a body
 
@@ -145,7 +117,7 @@ first s cells left n parent at (element notes tabs c rest body) of keeps none h 
         after = blank_onto rest later;
         spelt = spelt;
         stand = stand_front cells own (concept_entry parent start tabs c ∷ inside) others stands;
-        ends = body_ends s cells (own + concept_size c) parent end body of_behind (rw whole at none);
+        ends = body_ends cells body (own + concept_size c) parent end of_behind.stand (rw whole at none);
       };
       of_behind = of_behind;
       keeps = record { rule = r.1; within = w.0; deep = omega (arith, keeps.deep) };
@@ -182,8 +154,8 @@ unfolding print_body
 rest_with true depth notes c inner t = refl
 rest_with false depth notes c inner t = refl
 
-module _ (s cells : List ℕ) (depth deep whole : ℕ) (out₀ : List ℕ) (at : ℕ) (body : Body) where
-  pub record BodyLeft (left next : ℕ) (between : Bool) (out : List ℕ) (to : ℕ) : Type 0 where
+module _ (s cells : List ℕ) (depth deep whole : ℕ) (before : Page) (body : Body) where
+  pub record BodyLeft (left next : ℕ) (between : Bool) (now : Page) : Type 0 where
     pub parent : ℕ
     pub place : ℕ
     pub more : Body
@@ -191,9 +163,9 @@ module _ (s cells : List ℕ) (depth deep whole : ℕ) (out₀ : List ℕ) (at :
     pub keeps : KeepsBody deep more
     pub few : left ≡ body_count more
     pub total : next + body_size more ≡ whole
-    pub same : (t : List ℕ) → page out₀ at (print_body depth (body_sense body) t) ≡ page out to (print_rest between depth (body_sense more) t)
+    pub put : Step before (print_body depth (body_sense body)) now (print_rest between depth (body_sense more))
 
-  module _ (none : Ends cells whole) {left next : ℕ} {between : Bool} {out : List ℕ} {to : ℕ} (so_far : BodyLeft left next between out to) where
+  module _ (none : Ends cells whole) {left next : ℕ} {between : Bool} {now : Page} (so_far : BodyLeft left next between now) where
     module _ (some : 0 < left) where
       abbrev one : First s cells deep next so_far.parent so_far.more
       one = first s cells deep next so_far.parent so_far.place so_far.more so_far.of so_far.keeps (rw so_far.total none)
@@ -205,22 +177,22 @@ module _ (s cells : List ℕ) (depth deep whole : ℕ) (out₀ : List ℕ) (at :
           let z : ◌≡◌ {A = ℕ} 1 4 = sym (ap (λ (e : Entry). e.kind) own) ∙ k in
           omega arith
 
-      module _ {mid more : List ℕ} {mark noted : ℕ} (n : ℕ) (gap : Puts out to (λ t. pick between (lf ∷ t) t) mid mark)
-          (notes : NotesPut s cells next depth mid mark n more noted) where
+      module _ {mid noted : Page} (n : ℕ) (gap : Puts now (λ t. pick between (lf ∷ t) t) mid) (notes : NotesPut s cells next depth mid n noted) where
         -- a Concept stands behind the annotations
         pub element_there : left ≤ n - next → ⊥
         element_there h =
             let p = notes so_far.parent one.notes_at one.notes one.of_notes no_note in
             omega (arith, p.0, so_far.few, one.count)
 
-        pub element_on : (end : ℕ) {after : List ℕ} {past : ℕ} → ConceptPut s cells n depth deep more noted end after past
-            → BodyLeft (left - (n - next) - 1) end true after past
-        element_on end {after} {past} concept =
+        pub element_on : (end : ℕ) {after : Page} → ConceptPut s cells n depth deep noted end after → BodyLeft (left - (n - next) - 1) end true after
+        element_on end concept =
             let p = notes so_far.parent one.notes_at one.notes one.of_notes no_note in
             let here : n ≡ next + length one.notes = p.0 in
             let behind = next + length one.notes + concept_size one.it in
             let ends : behind + body_size one.behind ≡ whole = omega (arith, so_far.total, one.size) in
             let q = (rw here at concept) so_far.parent one.at one.tabs one.it one.of one.keeps in
+            let concept_on = λ (t : List ℕ). tabs_onto depth (print_concept depth (concept_sense one.it) (lf ∷ t)) in
+            let noted_on = λ (t : List ℕ). print_notes depth (map annotation_sense one.notes) (concept_on t) in
             record {
               parent = so_far.parent;
               place = one.behind_at;
@@ -229,27 +201,15 @@ module _ (s cells : List ℕ) (depth deep whole : ℕ) (out₀ : List ℕ) (at :
               keeps = one.keeps_behind;
               few = omega (arith, here, so_far.few, one.count);
               total = omega (arith, q.0, ends);
-              same = λ t.
-                  so_far.same t
-                  ∙ ap (page out to)
-                  (ap (λ (b : BodySense). print_rest between depth b t) one.sense
+              put = step_then (λ t. pick between (lf ∷ noted_on t) (noted_on t)) (print_more depth (body_sense one.behind)) so_far.put
+                  (λ t. ap (λ (b : BodySense). print_rest between depth b t) one.sense
                   ∙ rest_with between depth (map annotation_sense one.notes) (concept_sense one.it) (body_sense one.behind) t)
-                  ∙ gap.same (print_notes depth (map annotation_sense one.notes)
-                  (tabs_onto depth (print_concept depth (concept_sense one.it) (lf ∷ print_more depth (body_sense one.behind) t))))
-                  ∙ p.1.same (tabs_onto depth (print_concept depth (concept_sense one.it) (lf ∷ print_more depth (body_sense one.behind) t)))
-                  ∙ q.1.same (print_more depth (body_sense one.behind) t);
+                  (puts_then (λ t. pick between (lf ∷ t) t) noted_on gap (puts_then (print_notes depth (map annotation_sense one.notes)) concept_on p.1 q.1));
             }
 
-    pub body_over : left ≤ 0 → (next ≡ whole) × Puts out₀ at (print_body depth (body_sense body)) out to
+    pub body_over : left ≤ 0 → (next ≡ whole) × Puts before (print_body depth (body_sense body)) now
     body_over h =
         let e = none_left so_far.more (omega (arith, so_far.few)) in (
           omega (arith, so_far.total, e.0),
-          record
-              { same = λ t. so_far.same t ∙ ap (page out to) (ap (λ (b : BodySense). print_rest between depth b t) e.1 ∙ rest_none between depth t) },
+          step_as so_far.put (λ t. ap (λ (b : BodySense). print_rest between depth b t) e.1 ∙ rest_none between depth t),
         )
-
-pub body_all : (s cells : List ℕ) (depth deep : ℕ) (out₀ : List ℕ) (at n parent place left : ℕ) (body : Body) → OfBody s cells n parent place body
-    → KeepsBody deep body → left ≡ body_count body
-    → BodyLeft s cells depth deep (n + body_size body) out₀ at body left n false out₀ at
-body_all s cells depth deep out₀ at n parent place left body of keeps few =
-    record { parent = parent; place = place; more = body; of = of; keeps = keeps; few = few; total = refl; same = λ t. refl }

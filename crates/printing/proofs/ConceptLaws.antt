@@ -1,14 +1,14 @@
 -- A Concept: its marker, what stands inside, and its closing marker, put one behind the other. Document 01, "Canonical form". Assumes nothing.
-use Prim.Native.Nat.{ℕ, suc, ◌+◌, ◌-◌, ◌≤◌, ◌<◌}
+use Prim.Native.Nat.{ℕ, suc, ◌+◌, ◌-◌, ◌<◌}
 use mathlib.Core.Path.{◌≡◌, refl, sym, ap, ◌∙◌}
-use mathlib.Core.Bool.{Bool, true, false}
+use mathlib.Core.Bool.{Bool, true, false, cond}
 use mathlib.Core.List.{List, [], ◌∷◌, ◌++◌, map}
 use native.Mathlib.Omega.{arith}
 use lib.ListN.{length, take, drop}
 use lib.Dec.{eqb}
-use borrow.Author.Tests.{eqb-true, eq-eqb, ne_eqb}
+use borrow.Author.Tests.{eqb-true}
 use Rattle.paper.specs.Found.{pick}
-use Rattle.paper.specs.Bytes.{byte, bytes, all, lf}
+use Rattle.paper.specs.Bytes.{byte, all, lf}
 use Rattle.paper.specs.Names.{name_limit}
 use Rattle.paper.specs.Tree.{Blank, Trait, Marker, Line, Concept, self_closed, children, content, Body, block, self}
 use Rattle.paper.specs.Grammar.{blank_onto, tabs_onto, marker_onto, trait_onto, ending_onto, closing_onto, lines_onto, concept_onto, body_onto, blank_rule}
@@ -17,27 +17,24 @@ use Rattle.paper.specs.Limits.{bracket_limit, marker_fits, concept_fits, body_fi
 use Rattle.paper.specs.Entries.{Entry, item_entries, trait_size, trait_value, trait_entries, traits_size, concept_size, body_size, body_count, marker_of, concept_form}
 use Rattle.paper.specs.Entries.{marker_name, body_start, concept_entry, inside_entries, body_entries}
 use Rattle.paper.specs.Canonical.{marker_sense, line_sense, concept_sense, body_sense, print_marker, print_lines, print_concept, print_body}
+use Rattle.std.specs.Prelude.{count_by}
+use Rattle.std.proofs.lemmas.List.Sums.{sum_by-cons}
+use Rattle.std.specs.List.{range_with_len}
+use Rattle.paper.proofs.Tests.{split}
 use Rattle.paper.proofs.Lists.{both, all_head}
 use Rattle.paper.proofs.Sizes.{traits_size_lem}
 use Rattle.paper.proofs.Concepts.{element_parts}
 use Rattle.paper.proofs.Fronts.{marker_front, blank_front, past_front, past_bytes}
-use Rattle.entries.specs.Laid.{entry_at, Stand}
+use Rattle.entries.specs.Laid.{entry_at, Stand, kind_at}
 use Rattle.entries.proofs.Standing.{stand_entry, stand_front, stand_back, of_kind, item_kinds}
-use Rattle.quoting.specs.Page.{page, Puts}
+use Rattle.quoting.specs.declared.page.Page.{Page}
+use Rattle.quoting.specs.Page.{Puts}
+use Rattle.quoting.proofs.Putting.{puts_as, puts_then}
 use Rattle.printing.specs.Standing.{Ends, OfConcept, OfBody}
 use Rattle.printing.specs.Walking.{OfContent, Keeps, traits_in, Elements, ContentPut, ConceptPut, BodyPut}
 use Rattle.printing.specs.Wholes.{MarkerPut}
 use Rattle.quoting.proofs.Parts.{part_is}
 use Rattle.printing.proofs.BodyLaws.{own_entry_lem}
-
--- ---- the closing marker
-
-pub closing_put : (name : List ℕ) (depth : ℕ) {out a b c after : List ℕ} {at mark start end to : ℕ}
-    → Puts out at (tabs_onto depth) a mark → Puts a mark (λ next. bytes "</" ++ next) b start → Puts b start (λ next. name ++ next) c end
-    → Puts c end (λ next. bytes ">\n" ++ next) after to
-    → Puts out at (λ next. tabs_onto depth (closing_onto name (lf ∷ next))) after to
-closing_put name depth p q r t =
-    record { same = λ next. p.same (closing_onto name (lf ∷ next)) ∙ q.same (name ++ (byte ">" ∷ lf ∷ next)) ∙ r.same (byte ">" ∷ lf ∷ next) ∙ t.same next }
 
 -- ---- how many traits stand in front
 
@@ -71,46 +68,19 @@ traits_count (t ∷ ts) parent next at =
           ts parent (next + trait_size t) end,
     )
 
--- the entries that are left to count: what stands from number i on
-pub record TraitsLeft (cells : List ℕ) (to : ℕ) (es : List Entry) (i count : ℕ) : Type 0 where
-  pub more : List Entry
-  pub stand : Stand cells i more
-  pub ends : to ≡ i + length more
-  pub total : count + traits_in more ≡ traits_in es
+-- those that stand are counted one by one
+count_front : (k r m : ℕ) → r ≡ m → cond (eqb k 2) 1 0 + r ≡ pick (eqb k 2) (suc m) m
+count_front k r m q = split (eqb k 2) (λ e. rw e (omega arith)) (λ e. rw e (omega arith))
 
-module _ (cells : List ℕ) (to : ℕ) (es : List Entry) (i count : ℕ) where
-  on : (more : List Entry) → Stand cells i more → to ≡ i + length more → count + traits_in more ≡ traits_in es → i < to
-      → (((entry_at cells i).kind ≡ 2) → TraitsLeft cells to es (i + 1) (count + 1)) × (((entry_at cells i).kind ≡ 2 → ⊥) → TraitsLeft cells to es (i + 1) count)
-  unfolding traits_in
-  on [] s e t h = absurd (omega arith)
-  on (x ∷ more) s e t h =
-      let is = stand_entry cells i x more s in
-      let next = stand_back cells i (x ∷ []) more s in (
-        λ k.
-            let z = eq-eqb x.kind 2 (sym (ap (λ (y : Entry). y.kind) is) ∙ k) in
-            record { more = more; stand = next; ends = omega arith; total = omega (arith, rw z at t) },
-        λ k.
-            let z = ne_eqb x.kind 2 (λ q. k (ap (λ (y : Entry). y.kind) is ∙ q)) in
-            record { more = more; stand = next; ends = omega arith; total = rw z at t },
-      )
-
-  module _ (so_far : TraitsLeft cells to es i count) where
-    pub trait_on : i < to → (entry_at cells i).kind ≡ 2 → TraitsLeft cells to es (i + 1) (count + 1)
-    trait_on h k = (on so_far.more so_far.stand so_far.ends so_far.total h).0 k
-
-    pub other_on : i < to → ((entry_at cells i).kind ≡ 2 → ⊥) → TraitsLeft cells to es (i + 1) count
-    other_on h k = (on so_far.more so_far.stand so_far.ends so_far.total h).1 k
-
-    over : (more : List Entry) → to ≡ i + length more → count + traits_in more ≡ traits_in es → to ≤ i → count ≡ traits_in es
-    unfolding traits_in
-    over [] e t h = omega arith
-    over (x ∷ more) e t h = absurd (omega arith)
-
-    pub traits_over : to ≤ i → count ≡ traits_in es
-    traits_over h = over so_far.more so_far.ends so_far.total h
-
-pub traits_all : (cells : List ℕ) (from to : ℕ) (es : List Entry) → Stand cells from es → to ≡ from + length es → TraitsLeft cells to es from 0
-traits_all cells from to es s e = record { more = es; stand = s; ends = e; total = omega arith }
+pub traits_counted : (cells : List ℕ) (from : ℕ) (es : List Entry) → Stand cells from es
+    → count_by (λ n. eqb (kind_at cells n) 2) (range_with_len from (length es)) ≡ traits_in es
+unfolding traits_in
+traits_counted cells from [] s = refl
+traits_counted cells from (e ∷ es) s =
+    let rest = count_by (λ n. eqb (kind_at cells n) 2) (range_with_len (from + 1) (length es)) in
+    sum_by-cons (λ n. cond (eqb (kind_at cells n) 2) 1 0) from (range_with_len (from + 1) (length es))
+    ∙ ap (λ (x : Entry). cond (eqb x.kind 2) 1 0 + rest) (stand_entry cells from e es s)
+    ∙ count_front e.kind rest (traits_in es) (traits_counted cells (from + 1) es (stand_back cells from (e ∷ []) es s))
 
 -- ---- a Concept
 
@@ -134,9 +104,9 @@ name_is s cells n parent place tabs c of own is =
     go (content k rest lines) e = part_is s (place + 1) (marker_name place k) k.name _ (past_bytes s place (byte "<" ∷ []) _ e) refl
 
 named_put : (s cells : List ℕ) (n parent place tabs : ℕ) (c : Concept) → OfConcept s cells n parent place tabs c → (own : Entry) → own ≡ entry_at cells n
-    → (name : List ℕ) → name ≡ take (own.name_end - own.name_start) (drop own.name_start s) → (depth : ℕ) {out after : List ℕ} {at to : ℕ}
-    → Puts out at (λ t. tabs_onto depth (closing_onto name (lf ∷ t))) after to
-    → Puts out at (λ t. tabs_onto depth (closing_onto (marker_of c).name (lf ∷ t))) after to
+    → (name : List ℕ) → name ≡ take (own.name_end - own.name_start) (drop own.name_start s) → (depth : ℕ) {inner after : Page}
+    → Puts inner (λ t. tabs_onto depth (closing_onto name (lf ∷ t))) after
+    → Puts inner (λ t. tabs_onto depth (closing_onto (marker_of c).name (lf ∷ t))) after
 named_put s cells n parent place tabs c of own is name named depth closing = rw (named ∙ name_is s cells n parent place tabs c of own is) at closing
 
 -- behind the marker's line
@@ -201,32 +171,34 @@ form_is : (s cells : List ℕ) (n parent place tabs : ℕ) (c : Concept) → OfC
     → own.form ≡ concept_form c
 form_is s cells n parent place tabs c of own is = ap (λ (e : Entry). e.form) (is ∙ own_entry_lem s cells n parent place tabs c of)
 
-module _ (s cells : List ℕ) (n depth left : ℕ) {out mid marked : List ℕ} {at start next end : ℕ} (tabbed : Puts out at (tabs_onto depth) mid start)
-    (marker : MarkerPut s cells n depth mid start next marked end) (own : Entry) (is : own ≡ entry_at cells n) where
+module _ (s cells : List ℕ) (n depth left : ℕ) {before started marked : Page} {next : ℕ} (tabbed : Puts before (tabs_onto depth) started)
+    (marker : MarkerPut s cells n depth started next marked) (own : Entry) (is : own ≡ entry_at cells n) where
   closed_one : (parent place tabs : ℕ) (k : Marker) → OfConcept s cells n parent place tabs (self_closed k) → Keeps left (self_closed k)
-      → (next ≡ n + concept_size (self_closed k)) × Puts out at (λ t. tabs_onto depth (print_concept depth (concept_sense (self_closed k)) (lf ∷ t))) marked end
+      → (next ≡ n + concept_size (self_closed k)) × Puts before (λ t. tabs_onto depth (print_concept depth (concept_sense (self_closed k)) (lf ∷ t))) marked
   unfolding concept_size concept_sense print_concept concept_rule concept_fits
   closed_one parent place tabs k of keeps =
-      let p = marker parent place tabs (self_closed k) of keeps.rule keeps.within in
-      (omega (arith, p.0), record { same = λ t. tabbed.same (print_marker depth (marker_sense k) self (lf ∷ t)) ∙ p.1.same t })
+      let p = marker parent place tabs (self_closed k) of keeps.rule keeps.within in (
+        omega (arith, p.0),
+        puts_as _ (λ t. refl) (puts_then (tabs_onto depth) (λ t. print_marker depth (marker_sense k) self (lf ∷ t)) tabbed p.1),
+      )
 
-  pub closed_put : (own.form ≡ 2 → ⊥) → (own.form ≡ 3 → ⊥) → ConceptPut s cells n depth left out at next marked end
+  pub closed_put : (own.form ≡ 2 → ⊥) → (own.form ≡ 3 → ⊥) → ConceptPut s cells n depth left before next marked
   closed_put f g parent place tabs c of keeps = go c of keeps
     where
       go : (c : Concept) → OfConcept s cells n parent place tabs c → Keeps left c
-          → (next ≡ n + concept_size c) × Puts out at (λ t. tabs_onto depth (print_concept depth (concept_sense c) (lf ∷ t))) marked end
+          → (next ≡ n + concept_size c) × Puts before (λ t. tabs_onto depth (print_concept depth (concept_sense c) (lf ∷ t))) marked
       go (self_closed k) of keeps = closed_one parent place tabs k of keeps
       go (children k rest body back) of keeps = absurd (f (form_is s cells n parent place tabs (children k rest body back) of own is))
       go (content k rest lines) of keeps = absurd (g (form_is s cells n parent place tabs (content k rest lines) of own is))
 
-  module _ {inner after : List ℕ} {last to : ℕ} (deeper : ℕ) (one_deeper : deeper ≡ suc depth) (name : List ℕ)
+  module _ {inner after : Page} (deeper : ℕ) (one_deeper : deeper ≡ suc depth) (name : List ℕ)
       (named : name ≡ take (own.name_end - own.name_start) (drop own.name_start s))
-      (closing : Puts inner last (λ t. tabs_onto depth (closing_onto name (lf ∷ t))) after to) where
-    module _ {behind : ℕ} (content' : ContentPut s cells next deeper marked end behind inner last) where
+      (closing : Puts inner (λ t. tabs_onto depth (closing_onto name (lf ∷ t))) after) where
+    module _ {behind : ℕ} (content' : ContentPut s cells next deeper marked behind inner) where
       content_one : (parent place tabs : ℕ) (k : Marker) (rest : Blank) (lines : List Line)
           → OfConcept s cells n parent place tabs (content k rest lines) → Keeps left (content k rest lines)
-          → (behind ≡ n + concept_size (content k rest lines)) × Puts out at
-          (λ t. tabs_onto depth (print_concept depth (concept_sense (content k rest lines)) (lf ∷ t))) after to
+          → (behind ≡ n + concept_size (content k rest lines)) × Puts before
+          (λ t. tabs_onto depth (print_concept depth (concept_sense (content k rest lines)) (lf ∷ t))) after
       unfolding concept_size concept_sense print_concept concept_rule concept_fits
       content_one parent place tabs k rest lines of keeps =
           let r = element_parts (marker_rule k) (opens_block k) (blank_rule rest) (all line_rule lines) keeps.rule in
@@ -234,31 +206,28 @@ module _ (s cells : List ℕ) (n depth left : ℕ) {out mid marked : List ℕ} {
           let q = content' (body_start place k rest) tabs lines (rw p.0 (content_of_lem s cells n parent place tabs k rest lines of)) r.3 in
           let close = named_put s cells n parent place tabs (content k rest lines) of own is name named depth closing in (
             omega (arith, p.0, q.0),
-            record {
-              same = λ t.
-                  let tail = tabs_onto depth (closing_onto k.name (lf ∷ t)) in
-                  tabbed.same (print_marker depth (marker_sense k) block (lf ∷ print_lines (suc depth) (map line_sense lines) tail))
-                  ∙ p.1.same (print_lines (suc depth) (map line_sense lines) tail)
-                  ∙ ap (λ (d : ℕ). page marked end (print_lines d (map line_sense lines) tail)) (sym one_deeper)
-                  ∙ q.1.same tail ∙ close.same t;
-            },
+            let tail = λ (t : List ℕ). tabs_onto depth (closing_onto k.name (lf ∷ t)) in
+                let inside = λ (t : List ℕ). print_lines deeper (map line_sense lines) (tail t) in
+                let marked = λ (x : List ℕ). print_marker depth (marker_sense k) block (lf ∷ x) in
+                puts_as _ (λ t. ap (λ (d : ℕ). tabs_onto depth (marked (print_lines d (map line_sense lines) (tail t)))) (sym one_deeper))
+                (puts_then (tabs_onto depth) (λ t. marked (inside t)) tabbed (puts_then marked inside p.1 (puts_then (print_lines deeper (map line_sense lines)) tail q.1 close))),
           )
 
-      pub content_put : own.form ≡ 3 → ConceptPut s cells n depth left out at behind after to
+      pub content_put : own.form ≡ 3 → ConceptPut s cells n depth left before behind after
       content_put f parent place tabs c of keeps = go c of keeps
         where
           go : (c : Concept) → OfConcept s cells n parent place tabs c → Keeps left c
-              → (behind ≡ n + concept_size c) × Puts out at (λ t. tabs_onto depth (print_concept depth (concept_sense c) (lf ∷ t))) after to
+              → (behind ≡ n + concept_size c) × Puts before (λ t. tabs_onto depth (print_concept depth (concept_sense c) (lf ∷ t))) after
           go (self_closed k) of keeps = absurd (omega (arith, f, form_is s cells n parent place tabs (self_closed k) of own is))
           go (children k rest body back) of keeps = absurd (omega (arith, f, form_is s cells n parent place tabs (children k rest body back) of own is))
           go (content k rest lines) of keeps = content_one parent place tabs k rest lines of keeps
 
     module _ {behind : ℕ} (elements : ℕ) (counted : Elements cells n next elements) (fewer : ℕ) (less : left ≡ suc fewer)
-        (body' : BodyPut s cells next elements deeper fewer marked end behind inner last) where
+        (body' : BodyPut s cells next elements deeper fewer marked behind inner) where
       children_one : (parent place tabs : ℕ) (k : Marker) (rest : Blank) (body : Body) (back : ℕ)
           → OfConcept s cells n parent place tabs (children k rest body back) → Keeps left (children k rest body back)
-          → (behind ≡ n + concept_size (children k rest body back)) × Puts out at
-          (λ t. tabs_onto depth (print_concept depth (concept_sense (children k rest body back)) (lf ∷ t))) after to
+          → (behind ≡ n + concept_size (children k rest body back)) × Puts before
+          (λ t. tabs_onto depth (print_concept depth (concept_sense (children k rest body back)) (lf ∷ t))) after
       unfolding concept_size concept_sense print_concept concept_rule concept_fits concept_depth
       children_one parent place tabs k rest body back of keeps =
           let r = element_parts (marker_rule k) (opens_block k) (blank_rule rest) (body_rule body) keeps.rule in
@@ -275,21 +244,18 @@ module _ (s cells : List ℕ) (n depth left : ℕ) {out mid marked : List ℕ} {
           (rw p.0 (body_ended s cells n parent place tabs k rest body back of)) few in
           let close = named_put s cells n parent place tabs (children k rest body back) of own is name named depth closing in (
             omega (arith, p.0, q.0),
-            record {
-              same = λ t.
-                  let tail = tabs_onto depth (closing_onto k.name (lf ∷ t)) in
-                  tabbed.same (print_marker depth (marker_sense k) block (lf ∷ print_body (suc depth) (body_sense body) tail))
-                  ∙ p.1.same (print_body (suc depth) (body_sense body) tail)
-                  ∙ ap (λ (d : ℕ). page marked end (print_body d (body_sense body) tail)) (sym one_deeper)
-                  ∙ q.1.same tail ∙ close.same t;
-            },
+            let tail = λ (t : List ℕ). tabs_onto depth (closing_onto k.name (lf ∷ t)) in
+                let inside = λ (t : List ℕ). print_body deeper (body_sense body) (tail t) in
+                let marked = λ (x : List ℕ). print_marker depth (marker_sense k) block (lf ∷ x) in
+                puts_as _ (λ t. ap (λ (d : ℕ). tabs_onto depth (marked (print_body d (body_sense body) (tail t)))) (sym one_deeper))
+                (puts_then (tabs_onto depth) (λ t. marked (inside t)) tabbed (puts_then marked inside p.1 (puts_then (print_body deeper (body_sense body)) tail q.1 close))),
           )
 
-      pub children_put : own.form ≡ 2 → ConceptPut s cells n depth left out at behind after to
+      pub children_put : own.form ≡ 2 → ConceptPut s cells n depth left before behind after
       children_put f parent place tabs c of keeps = go c of keeps
         where
           go : (c : Concept) → OfConcept s cells n parent place tabs c → Keeps left c
-              → (behind ≡ n + concept_size c) × Puts out at (λ t. tabs_onto depth (print_concept depth (concept_sense c) (lf ∷ t))) after to
+              → (behind ≡ n + concept_size c) × Puts before (λ t. tabs_onto depth (print_concept depth (concept_sense c) (lf ∷ t))) after
           go (self_closed k) of keeps = absurd (omega (arith, f, form_is s cells n parent place tabs (self_closed k) of own is))
           go (children k rest body back) of keeps = children_one parent place tabs k rest body back of keeps
           go (content k rest lines) of keeps = absurd (omega (arith, f, form_is s cells n parent place tabs (content k rest lines) of own is))

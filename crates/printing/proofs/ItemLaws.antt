@@ -4,6 +4,7 @@ use Prim.Native.Nat.{ℕ, ◌+◌, ◌-◌, ◌≤◌, ◌<◌}
 use mathlib.Core.Path.{◌≡◌, refl, sym, ap, ◌∙◌, subst}
 use mathlib.Core.Bool.{true, false, not}
 use mathlib.Core.List.{List, [], ◌∷◌, ◌++◌}
+use native.Mathlib.Nat.{zero-add}
 use native.Mathlib.Omega.{arith}
 use lib.ListN.{length, take, drop}
 use lib.Seq.{drop-drop}
@@ -17,7 +18,7 @@ use Rattle.paper.specs.Values.{key_onto, Label, no_label, label, label_onto, lab
 use Rattle.paper.specs.Values.{spelling, value_form, value_rule, more_rule, bracket_depth, more_depth}
 use Rattle.paper.specs.Entries.{Entry, label_width, item_entry, item_entries, more_entries, items_of, more_items, item_size, more_size, value_width}
 use Rattle.paper.specs.Canonical.{ItemsSense, none, item, label_sense, value_sense, more_sense, print_label, print_value, print_items, print_behind}
-use Rattle.paper.proofs.Tests.{true_false}
+use Rattle.paper.proofs.Tests.{true_false, split}
 use Rattle.paper.proofs.Sizes.{item_size_lem}
 use Rattle.paper.proofs.Fronts.{past_bytes}
 use Rattle.paper.proofs.BracketKinds.{opener_some}
@@ -27,28 +28,27 @@ use Rattle.paper.proofs.Concepts.{element_parts}
 use Rattle.text.proofs.Places.{front_behind}
 use Rattle.entries.specs.Laid.{entry_at, Stand}
 use Rattle.entries.proofs.Standing.{stand_front, stand_back, stand_entry}
-use Rattle.quoting.specs.Page.{page, Puts}
+use Rattle.quoting.specs.declared.page.Page.{Page}
+use Rattle.quoting.specs.Page.{Step, Puts}
 use Rattle.quoting.specs.Leaves.{LeafPut, LabelPut}
 use Rattle.printing.specs.Standing.{OfValue, OfItem}
 use Rattle.printing.specs.Wholes.{ItemLabelPut, ValuePut}
 use Rattle.quoting.proofs.Parts.{part_is}
+use Rattle.quoting.proofs.Putting.{puts_as, puts_then, step_then}
 use Rattle.quoting.proofs.ByForm.{word_range}
 
 -- ---- commas
 
-pub comma_put : (left : ℕ) → 0 < left → {out after : List ℕ} {at to : ℕ} → Puts out at (λ next. byte "," ∷ space ∷ next) after to
-    → Puts out at (λ next. pick (ltb 0 left) (byte "," ∷ space ∷ next) next) after to
-comma_put left h p = record { same = λ next. rw (lt-ltb 0 left h) (p.same next) }
+-- what is printed for items behind so many others: a comma stands before each but the first
+abbrev pub printed : ℕ → ItemsSense → List ℕ → List ℕ
+printed i items next = pick (ltb 0 i) (print_behind items next) (print_items items next)
 
-pub comma_none : (left : ℕ) → left ≤ 0 → {out : List ℕ} {at : ℕ} → Puts out at (λ next. pick (ltb 0 left) (byte "," ∷ space ∷ next) next) out at
-comma_none left h = let z : left ≡ 0 = omega arith in record { same = λ next. rw z }
+printed_none : (i : ℕ) (next : List ℕ) → printed i none next ≡ next
+unfolding print_items
+printed_none i next = split (ltb 0 i) (λ e. rw e) (λ e. rw e)
 
--- behind an item: a comma and the next one, or nothing
-behind_comma : (more : More) (left : ℕ) → left ≡ more_items more → (next : List ℕ)
-    → print_behind (more_sense more) next ≡ pick (ltb 0 left) (byte "," ∷ space ∷ print_items (more_sense more) next) (print_items (more_sense more) next)
-unfolding more_items more_sense print_behind
-behind_comma close left e next = rw e
-behind_comma (comma white a v more) left e next = let h : 0 < left = omega arith in rw (lt-ltb 0 left h)
+printed_more : (i : ℕ) (items : ItemsSense) (next : List ℕ) → printed (i + 1) items next ≡ print_behind items next
+printed_more i items next = let h : 0 < i + 1 = omega arith in rw (lt-ltb 0 (i + 1) h)
 
 -- ---- the forms of brackets
 
@@ -58,16 +58,6 @@ bracket_forms Bracket.List = (omega arith, λ e. omega arith)
 bracket_forms Bracket.Set = (omega arith, λ e. omega arith)
 bracket_forms Bracket.Map = (omega arith, λ e. omega arith)
 bracket_forms Bracket.Tuple = (omega arith, λ e. omega arith)
-
--- which forms are of no kind
-pub low_form : (form : ℕ) → form < 12 → (k : Bracket) → form ≡ bracket_form k → ⊥
-low_form form l k e = let h = (bracket_forms k).0 in omega arith
-
-pub other_form : (form : ℕ) → (form ≡ 12 → ⊥) → (form ≡ 14 → ⊥) → (form ≡ 15 → ⊥) → (form ≡ 16 → ⊥) → (k : Bracket) → form ≡ bracket_form k → ⊥
-other_form form l s m t Bracket.List = l
-other_form form l s m t Bracket.Set = s
-other_form form l s m t Bracket.Map = m
-other_form form l s m t Bracket.Tuple = t
 
 -- each kind has a form of its own
 abbrev kind_of : ℕ → Bracket
@@ -107,7 +97,7 @@ module _ (s cells : List ℕ) (n parent at : ℕ) (a : Label) (v : Value) (o : O
 module _ (s cells : List ℕ) (n : ℕ) (k : Bracket) where
   -- a map's item has a key, which its entry names
   pub label_put : keyed k ≡ true → (e : Entry) → e ≡ entry_at cells n → (w : List ℕ) → w ≡ take (e.name_end - e.name_start) (drop e.name_start s)
-      → {out after : List ℕ} {at to : ℕ} → LabelPut w out at after to → ItemLabelPut s cells n k out at after to
+      → {before after : Page} → LabelPut w before after → ItemLabelPut s cells n k before after
   unfolding label_onto label_rule label_sense
   label_put y e g w q p parent at no_label v o r = true_false (sym r ∙ ap not y)
   label_put y e g w q p parent at (label key white) v o r =
@@ -117,10 +107,10 @@ module _ (s cells : List ℕ) (n : ℕ) (k : Bracket) where
       p (key_enders k) key (q ∙ ap (λ (x : Entry). take (x.name_end - x.name_start) (drop x.name_start s)) own ∙ spelt) (label_parts k key white r).1
 
   -- any other has none
-  pub label_none : keyed k ≡ false → {out : List ℕ} {at : ℕ} → ItemLabelPut s cells n k out at out at
+  pub label_none : keyed k ≡ false → (now : Page) → ItemLabelPut s cells n k now now
   unfolding label_sense print_label
-  label_none y parent at no_label v o r = record { same = λ next. refl }
-  label_none y parent at (label key white) v o r = true_false (sym (label_parts k key white r).0 ∙ y)
+  label_none y now parent at no_label v o r = record { lies = refl; same = λ next. refl }
+  label_none y now parent at (label key white) v o r = true_false (sym (label_parts k key white r).0 ∙ y)
 
 -- ---- the items of a bracket
 
@@ -130,18 +120,18 @@ held_by (leaf l) = none
 held_by (empty_bracket k) = none
 held_by (bracket k a v more) = item (label_sense a) (value_sense v) (more_sense more)
 
--- those that are left of a bracket of this kind, and what was put of the others
-pub record Items (s cells : List ℕ) (k : Bracket) (n brackets : ℕ) (v : Value) (out₀ : List ℕ) (at₀ left next : ℕ) (out : List ℕ) (to : ℕ) : Type 0 where
+-- those that are left of a bracket of this kind that has so many, and what was put of the others
+pub record Items (s cells : List ℕ) (k : Bracket) (n brackets : ℕ) (v : Value) (count : ℕ) (before : Page) (i next : ℕ) (now : Page) : Type 0 where
   pub more : More
   pub at : ℕ
   pub after : List ℕ
   pub stand : Stand cells next (more_entries n next at more)
   pub spelt : drop (at + 1) s ≡ drop 1 (more_onto k more after)
-  pub few : left ≡ more_items more
+  pub few : i + more_items more ≡ count
   pub flat : more_depth more ≤ brackets
   pub rule : more_rule k more ≡ true
   pub total : next + more_size more ≡ n + 1 + item_size v
-  pub same : (x : List ℕ) → page out₀ at₀ (print_items (held_by v) (closer k ∷ x)) ≡ page out to (print_items (more_sense more) (closer k ∷ x))
+  pub put : Step before (λ x. print_items (held_by v) (closer k ∷ x)) now (λ x. printed i (more_sense more) (closer k ∷ x))
 
 -- ---- the value of an entry: what is read is its own
 
@@ -162,16 +152,16 @@ module _ (s cells : List ℕ) (n : ℕ) (e : Entry) (g : e ≡ entry_at cells n)
 
   -- a leaf
   module _ (w : List ℕ) (q : w ≡ take (e.end - e.start) (drop e.start s)) (single : (k : Bracket) → e.form ≡ bracket_form k → ⊥)
-      {out after : List ℕ} {at to : ℕ} (f : LeafPut e.form w out at after to) where
+      {before after : Page} (f : LeafPut e.form w before after) where
     leaf_go : (also : List ℕ) (v : Value) → e.form ≡ value_form v → w ≡ spelling v → value_rule also v ≡ true
-        → (n + 1 ≡ n + 1 + item_size v) × Puts out at (print_value (value_sense v)) after to
+        → (n + 1 ≡ n + 1 + item_size v) × Puts before (print_value (value_sense v)) after
     unfolding value_onto value_rule value_sense item_size print_value
-    leaf_go also (leaf l) a b r = (omega arith, record { same = (f also l b a r).same })
+    leaf_go also (leaf l) a b r = (omega arith, puts_as _ (λ next. refl) (f also l b a r))
     leaf_go also (empty_bracket k) a b r = absurd (single k a)
     leaf_go also (bracket k x v more) a b r = absurd (single k a)
 
     pub leaf_value : (also : List ℕ) (v : Value) → OfValue s cells n v → value_rule also v ≡ true
-        → (n + 1 ≡ n + 1 + item_size v) × Puts out at (print_value (value_sense v)) after to
+        → (n + 1 ≡ n + 1 + item_size v) × Puts before (print_value (value_sense v)) after
     leaf_value also v o r = leaf_go also v (form_is v o) (spelling_is w q v o) r
 
   module _ (k : Bracket) (held : e.form ≡ bracket_form k) where
@@ -192,12 +182,12 @@ module _ (s cells : List ℕ) (n : ℕ) (e : Entry) (g : e ≡ entry_at cells n)
     deep_value {X} also v o r = by_kind (λ v. bracket_depth v ≤ 0 → X) (λ d. absurd (omega arith)) (λ a v more d. absurd (omega arith)) also v o r
 
     -- before the first item
-    module _ (brackets : ℕ) (some : 0 < brackets) (out : List ℕ) (to : ℕ) where
+    module _ (brackets : ℕ) (some : 0 < brackets) (page : Page) where
       pub items_first : (also : List ℕ) (v : Value) → OfValue s cells n v → value_rule also v ≡ true → bracket_depth v ≤ brackets
-          → Items s cells k n (brackets - 1) v out to e.count (n + 1) out to
+          → Items s cells k n (brackets - 1) v e.count page 0 (n + 1) page
       unfolding value_onto value_rule value_sense items_of item_size item_entries bracket_depth print_value all
       items_first also v o r = by_kind
-          (λ v. OfValue s cells n v → value_rule also v ≡ true → bracket_depth v ≤ brackets → Items s cells k n (brackets - 1) v out to e.count (n + 1) out to)
+          (λ v. OfValue s cells n v → value_rule also v ≡ true → bracket_depth v ≤ brackets → Items s cells k n (brackets - 1) v e.count page 0 (n + 1) page)
           (λ o r d.
           let first = o.own.start + length (opener k) in
           let closed = past_bytes s o.own.start (opener k) (closer k ∷ o.after) o.spelt in
@@ -207,11 +197,11 @@ module _ (s cells : List ℕ) (n : ℕ) (e : Entry) (g : e ≡ entry_at cells n)
             after = o.after;
             stand = stand_back cells n (o.own ∷ []) [] o.stand;
             spelt = sym (front_behind s first (closer k) o.after closed);
-            few = count_is (empty_bracket k) o;
+            few = zero-add (items_of (empty_bracket k)) ∙ sym (count_is (empty_bracket k) o);
             flat = omega arith;
             rule = refl;
             total = refl;
-            same = λ x. refl;
+            put = record { lies = refl; same = λ x. refl };
           })
           (λ a v more o r d.
           let first = o.own.start + length (opener k) in
@@ -224,23 +214,23 @@ module _ (s cells : List ℕ) (n : ℕ) (e : Entry) (g : e ≡ entry_at cells n)
             after = o.after;
             stand = rw there (stand_back cells n (o.own ∷ []) _ o.stand);
             spelt = rw here opened;
-            few = count_is (bracket k a v more) o;
+            few = zero-add (items_of (bracket k a v more)) ∙ sym (count_is (bracket k a v more) o);
             flat = omega arith;
             rule = r;
             total = omega arith;
-            same = λ x. refl;
+            put = record { lies = refl; same = λ x. refl };
           })
           also v o r o r
 
     -- the bracket around the items
-    pub bracket_put : {out mid after : List ℕ} {at to end : ℕ} → Puts out at (λ x. opener k ++ x) mid to
+    pub bracket_put : {before opened after : Page} → Puts before (λ x. opener k ++ x) opened
         → (also : List ℕ) (v : Value) → OfValue s cells n v → value_rule also v ≡ true
-        → Puts mid to (λ x. print_items (held_by v) (closer k ∷ x)) after end → Puts out at (print_value (value_sense v)) after end
+        → Puts opened (λ x. print_items (held_by v) (closer k ∷ x)) after → Puts before (print_value (value_sense v)) after
     unfolding value_sense print_value
-    bracket_put {out} {mid} {after} {at} {to} {end} h =
-        by_kind (λ v. Puts mid to (λ x. print_items (held_by v) (closer k ∷ x)) after end → Puts out at (print_value (value_sense v)) after end)
-        (λ p. record { same = λ x. h.same (print_items none (closer k ∷ x)) ∙ p.same x })
-        (λ a v more p. record { same = λ x. h.same (print_items (held_by (bracket k a v more)) (closer k ∷ x)) ∙ p.same x })
+    bracket_put {before} {opened} {after} h =
+        by_kind (λ v. Puts opened (λ x. print_items (held_by v) (closer k ∷ x)) after → Puts before (print_value (value_sense v)) after)
+        (λ p. puts_as _ (λ x. refl) (puts_then (λ x. opener k ++ x) (λ x. print_items none (closer k ∷ x)) h p))
+        (λ a v more p. puts_as _ (λ x. refl) (puts_then (λ x. opener k ++ x) (λ x. print_items (held_by (bracket k a v more)) (closer k ∷ x)) h p))
 
 -- ---- item by item
 
@@ -250,63 +240,60 @@ unfolding more_items more_size more_sense
 none_left close e = (refl, refl)
 none_left (comma white a v more) e = absurd (omega arith)
 
-module _ (s cells : List ℕ) (k : Bracket) (n brackets : ℕ) (whole : Value) (out₀ : List ℕ) (at₀ left next : ℕ) (out : List ℕ) (to : ℕ) where
-  -- one more: its label, its value, and a comma where there are others behind it
-  module _ (some : 0 < left) {lead mid out' : List ℕ} {start end to' : ℕ} (p : ItemLabelPut s cells next k out to lead start) (next' : ℕ)
-      (f : ValuePut s cells next brackets lead start next' mid end) (c : Puts mid end (λ x. pick (ltb 0 (left - 1)) (byte "," ∷ space ∷ x) x) out' to') where
-    on : (more : More) (at : ℕ) (after : List ℕ) → Stand cells next (more_entries n next at more) → drop (at + 1) s ≡ drop 1 (more_onto k more after)
-        → left ≡ more_items more → more_depth more ≤ brackets → more_rule k more ≡ true → next + more_size more ≡ n + 1 + item_size whole
-        → ((x : List ℕ) → page out₀ at₀ (print_items (held_by whole) (closer k ∷ x)) ≡ page out to (print_items (more_sense more) (closer k ∷ x)))
-        → Items s cells k n brackets whole out₀ at₀ (left - 1) next' out' to'
+module _ (s cells : List ℕ) (k : Bracket) (n brackets : ℕ) (whole : Value) (count : ℕ) (before : Page) (i next : ℕ) (now : Page) where
+  -- one more: a comma where there are others before it, its label, and its value
+  module _ (some : i < count) {apart lead after : Page} (c : Puts now (λ x. pick (ltb 0 i) (byte "," ∷ space ∷ x) x) apart)
+      (p : ItemLabelPut s cells next k apart lead) (next' : ℕ) (f : ValuePut s cells next brackets lead next' after) where
+    on : (more : More) (at : ℕ) (behind : List ℕ) → Stand cells next (more_entries n next at more) → drop (at + 1) s ≡ drop 1 (more_onto k more behind)
+        → i + more_items more ≡ count → more_depth more ≤ brackets → more_rule k more ≡ true → next + more_size more ≡ n + 1 + item_size whole
+        → Step before (λ x. print_items (held_by whole) (closer k ∷ x)) now (λ x. printed i (more_sense more) (closer k ∷ x))
+        → Items s cells k n brackets whole count before (i + 1) next' after
     unfolding more_onto more_items more_depth more_rule more_size more_entries more_sense print_items
-    on close at after st t l d r z m = absurd (omega arith)
-    on (comma white a v more) at after st t l d r z m =
+    on close at rest st t l d r z m = absurd (omega arith)
+    on (comma white a v more) at rest st t l d r z m =
         let place = at + 1 + length white in
         let value = place + label_width a in
         let own = item_entry n place a v in
         let items = item_entries next (next + 1) value v in
         let behind = more_entries n (next + 1 + item_size v) (value + value_width v) more in
         let o : OfItem s cells next n place a v = record {
-          after = more_onto k more after;
-          spelt = past_bytes s (at + 1) white (label_onto a (value_onto v (more_onto k more after))) t;
+          after = more_onto k more rest;
+          spelt = past_bytes s (at + 1) white (label_onto a (value_onto v (more_onto k more rest))) t;
           stand = stand_front cells next (own ∷ items) behind st;
         } in
         let it = item_value s cells next n place a v o in
-        let ended = past_bytes s value (spelling v) (more_onto k more after) (it.spelt ∙ value_append v (more_onto k more after)) in
+        let ended = past_bytes s value (spelling v) (more_onto k more rest) (it.spelt ∙ value_append v (more_onto k more rest)) in
         let rules = element_parts (all is_white white) (label_rule k a) (value_rule (enders k) v) (more_rule k more) r in
         let labelled = p n place a v o rules.1 in
         let got = f (enders k) v it rules.2 (omega arith) in
         let size = item_size_lem v next (next + 1) value in
         let there : next + length (own ∷ items) ≡ next + 1 + item_size v = omega arith in
-        let few : left - 1 ≡ more_items more = omega arith in
+        let gap = λ (y : List ℕ). pick (ltb 0 i) (byte "," ∷ space ∷ y) y in
+        let item_on = λ (y : List ℕ). print_label (label_sense a) (print_value (value_sense v) y) in
         record {
           more = more;
           at = value + value_width v;
-          after = after;
+          after = rest;
           stand = rw got.0 (rw there at (stand_back cells next (own ∷ items) behind st));
           spelt = sym (drop-drop 1 (value + value_width v) s) ∙ ap (drop 1) ended;
-          few = few;
+          few = omega arith;
           flat = omega arith;
           rule = rules.3;
           total = omega (arith, got.0);
-          same = λ x.
-              m x
-              ∙ labelled.same (print_value (value_sense v) (print_behind (more_sense more) (closer k ∷ x)))
-              ∙ got.1.same (print_behind (more_sense more) (closer k ∷ x))
-              ∙ ap (page mid end) (behind_comma more (left - 1) few (closer k ∷ x))
-              ∙ c.same (print_items (more_sense more) (closer k ∷ x));
+          put = step_then (λ y. gap (item_on y)) (λ x. printed (i + 1) (more_sense more) (closer k ∷ x)) m
+              (λ x. ap (λ (l : List ℕ). gap (item_on l)) (sym (printed_more i (more_sense more) (closer k ∷ x))))
+              (puts_then gap item_on c (puts_then (print_label (label_sense a)) (print_value (value_sense v)) labelled got.1));
         }
 
-    pub items_on : Items s cells k n brackets whole out₀ at₀ left next out to → Items s cells k n brackets whole out₀ at₀ (left - 1) next' out' to'
-    items_on i = on i.more i.at i.after i.stand i.spelt i.few i.flat i.rule i.total i.same
+    pub items_on : Items s cells k n brackets whole count before i next now → Items s cells k n brackets whole count before (i + 1) next' after
+    items_on it = on it.more it.at it.after it.stand it.spelt it.few it.flat it.rule it.total it.put
 
   -- none more, and what closes the bracket
-  pub items_over : left ≤ 0 → {after : List ℕ} {end : ℕ} → Puts out to (λ x. closer k ∷ x) after end
-      → Items s cells k n brackets whole out₀ at₀ left next out to
-      → (next ≡ n + 1 + item_size whole) × Puts out₀ at₀ (λ x. print_items (held_by whole) (closer k ∷ x)) after end
-  unfolding print_items
-  items_over h p i =
-      let e = none_left i.more (omega (arith, i.few)) in (
-        omega (arith, i.total, e.0),
-        record { same = λ x. i.same x ∙ ap (λ (y : ItemsSense). page out to (print_items y (closer k ∷ x))) e.1 ∙ p.same x },
+  pub items_over : count ≤ i → {after : Page} → Puts now (λ x. closer k ∷ x) after
+      → Items s cells k n brackets whole count before i next now
+      → (next ≡ n + 1 + item_size whole) × Puts before (λ x. print_items (held_by whole) (closer k ∷ x)) after
+  items_over h p it =
+      let e = none_left it.more (omega (arith, it.few)) in (
+        omega (arith, it.total, e.0),
+        step_then (λ x. closer k ∷ x) (λ x. x) it.put (λ x. ap (λ (y : ItemsSense). printed i y (closer k ∷ x)) e.1 ∙ printed_none i (closer k ∷ x)) p,
       )

@@ -6,7 +6,8 @@ use mathlib.Core.List.{List, [], ◌∷◌, ◌++◌, map, append_assoc, append-
 use native.Mathlib.Omega.{arith}
 use lib.ListN.{length, take, drop, replicate, length-append, length-replicate, length-drop, drop_of_length-le}
 use lib.Seq.{drop-append_seam, take-length, take_all}
-use borrow.Author.Tests.{not-true}
+use lib.Dec.{ltb}
+use borrow.Author.Tests.{not-true, lt-ltb, le-ltb, ltb-true, ltb-false}
 use Rattle.paper.specs.Bytes.{is_blank, is_line_end, all, starts_in, starts_with, length_in, front, behind, lf, cr, tab}
 use Rattle.paper.specs.Tree.{LineEnd, LF, CRLF, Line, blank, text}
 use Rattle.paper.specs.Grammar.{line_end_onto, tabs_onto, closing_onto, line_onto, lines_onto, line_rule}
@@ -21,7 +22,9 @@ use Rattle.text.proofs.Places.{front_behind}
 use Rattle.text.proofs.Stretch.{Stretch, front_at, behind_at, skips_end, skips_some, blank_text, tab_text}
 use Rattle.entries.specs.Laid.{entry_at}
 use Rattle.entries.proofs.Standing.{stand_entry}
-use Rattle.quoting.specs.Page.{page, Puts}
+use Rattle.quoting.specs.declared.page.Page.{Page}
+use Rattle.quoting.specs.Page.{Puts}
+use Rattle.quoting.proofs.Putting.{puts_as, puts_then, step_then}
 use Rattle.printing.specs.Texts.{inked, PastEnd, LinesStay}
 use Rattle.printing.specs.Walking.{OfContent}
 use Rattle.quoting.proofs.Parts.{part_is}
@@ -49,38 +52,50 @@ unfolding print_line
 print_text tabs [] next h = absurd (omega arith)
 print_text tabs (b ∷ t) next h = refl
 
-module _ (line : List ℕ) (cut tabs : ℕ) {out after : List ℕ} {at to : ℕ} where
-  empty_put : all is_blank (drop cut line) ≡ true → Puts out at (λ next. lf ∷ next) after to → Puts out at (print_line tabs (inked (drop cut line))) after to
-  unfolding print_line
-  empty_put e p = record { same = λ next. rw e (p.same next) }
+not_false : (b : Bool) → false ≡ not b → b ≡ true
+not_false true e = refl
+not_false false e = e
 
+-- whether a line has more than blanks behind the cut
+module _ (line : List ℕ) (cut : ℕ) where
+  pub short_ink : length line ≤ cut → false ≡ not (all is_blank (drop cut line))
+  short_ink h = sym (ap not (ap (all is_blank) (drop_of_length-le line h) ∙ all_nil is_blank))
+
+  pub some_ink : (end : ℕ) → Stretch is_blank line cut end → cut < length line → ltb end (length line) ≡ not (all is_blank (drop cut line))
+  some_ink end run h =
+      split (all is_blank (drop cut line))
+      (λ a. let z : length line ≤ end = omega (arith, run.0, front_whole is_blank (drop cut line) a, length-drop cut line) in
+      le-ltb end (length line) z ∙ sym (ap not a))
+      (λ a.
+      let z : end < length line =
+      split (ltb end (length line)) (λ q. ltb-true end (length line) q)
+      (λ q. let k : length_in is_blank (drop cut line) ≡ length (drop cut line) = omega (arith, run.0, run.1, ltb-false end (length line) q, length-drop cut line) in
+      true_false (sym (all_front is_blank (drop cut line) k) ∙ a)) in
+      lt-ltb end (length line) z ∙ sym (ap not a))
+
+  pub ink_inside : true ≡ not (all is_blank (drop cut line)) → cut < length line
+  ink_inside e =
+      split (ltb cut (length line)) (λ q. ltb-true cut (length line) q)
+      (λ q. true_false (e ∙ sym (short_ink (ltb-false cut (length line) q))))
+
+module _ (line : List ℕ) (cut tabs : ℕ) {before after : Page} where
   -- nothing stands behind the cut, or only blanks
-  pub short_put : length line ≤ cut → Puts out at (λ next. lf ∷ next) after to → Puts out at (print_line tabs (inked (drop cut line))) after to
-  short_put h p = empty_put (ap (all is_blank) (drop_of_length-le line h) ∙ all_nil is_blank) p
+  pub empty_put : false ≡ not (all is_blank (drop cut line)) → Puts before (λ next. lf ∷ next) after → Puts before (print_line tabs (inked (drop cut line))) after
+  unfolding print_line
+  empty_put e p = puts_as _ (λ next. ap (λ (t : List ℕ). print_line tabs t next) (no_ink (drop cut line) (not_false (all is_blank (drop cut line)) e))) p
 
-  pub blank_put : (end : ℕ) → Stretch is_blank line cut end → end ≡ length line → Puts out at (λ next. lf ∷ next) after to
-      → Puts out at (print_line tabs (inked (drop cut line))) after to
-  blank_put end run e p =
-      let whole : length_in is_blank (drop cut line) ≡ length (drop cut line) = omega (arith, run.0, length-drop cut line) in
-      empty_put (all_front is_blank (drop cut line) whole) p
-
-  pub text_put : (end : ℕ) → Stretch is_blank line cut end → (end ≡ length line → ⊥) → cut < length line → {mid more : List ℕ} {start past : ℕ}
-      → Puts out at (tabs_onto tabs) mid start → Puts mid start (λ next. take (length line - cut) (drop cut line) ++ next) more past
-      → Puts more past (λ next. lf ∷ next) after to
-      → Puts out at (print_line tabs (inked (drop cut line))) after to
-  text_put end run n h {mid} {start = start} f g k =
-      let ink : all is_blank (drop cut line)
-      ≡ false = split (all is_blank (drop cut line)) (λ a. absurd (n (omega (arith, run.0, front_whole is_blank (drop cut line) a, length-drop cut line))))
-      (λ a. a) in
-      let some : 0 < length (drop cut line) = omega (arith, length-drop cut line) in
+  pub text_put : true ≡ not (all is_blank (drop cut line)) → {started put : Page} → Puts before (tabs_onto tabs) started
+      → Puts started (λ next. take (length line - cut) (drop cut line) ++ next) put → Puts put (λ next. lf ∷ next) after
+      → Puts before (print_line tabs (inked (drop cut line))) after
+  text_put e f g k =
+      let some : 0 < length (drop cut line) = omega (arith, length-drop cut line, ink_inside line cut e) in
       let whole : take (length line - cut) (drop cut line) ≡ drop cut line =
       take_all (length line - cut) (drop cut line) (omega (arith, length-drop cut line)) in
-      record {
-        same = λ next.
-            ap (λ (t : List ℕ). page out at (print_line tabs t next)) (all_ink (drop cut line) ink)
-            ∙ ap (page out at) (print_text tabs (drop cut line) next some)
-            ∙ f.same (drop cut line ++ (lf ∷ next)) ∙ ap (λ (w : List ℕ). page mid start (w ++ (lf ∷ next))) (sym whole) ∙ g.same (lf ∷ next) ∙ k.same next;
-      }
+      puts_as _
+      (λ next. ap (λ (t : List ℕ). print_line tabs t next) (all_ink (drop cut line) (not-true (all is_blank (drop cut line)) (sym e)))
+      ∙ print_text tabs (drop cut line) next some ∙ ap (λ (w : List ℕ). tabs_onto tabs (w ++ (lf ∷ next))) (sym whole))
+      (puts_then (tabs_onto tabs) (λ next. take (length line - cut) (drop cut line) ++ (lf ∷ next)) f
+      (puts_then (λ next. take (length line - cut) (drop cut line) ++ next) (λ next. lf ∷ next) g k))
 
 -- ---- the line end behind a line
 
@@ -153,11 +168,11 @@ shape t (text w e) left r =
       means = ap inked past ∙ all_ink w (not-true (all is_blank w) h.0);
     }
 
-line_put : (w : List ℕ) (i t cut tabs : ℕ) {out after : List ℕ} {to past : ℕ} (end n : ℕ) → cut ≡ suc t → Stretch is_text w i end
+line_put : (w : List ℕ) (i t cut tabs : ℕ) {now after : Page} (end n : ℕ) → cut ≡ suc t → Stretch is_text w i end
     → PastEnd w end n
-    → Puts out to (print_line tabs (inked (drop cut (take (end - i) (drop i w))))) after past
-    → (l : Line) (left : List ℕ) → drop i w ≡ line_onto t l left → line_rule l ≡ true → (drop n w ≡ left) × Puts out to (print_line tabs (line_sense l)) after past
-line_put w i t cut tabs {out} {to = to} end n c run f p l left e r =
+    → Puts now (print_line tabs (inked (drop cut (take (end - i) (drop i w))))) after
+    → (l : Line) (left : List ℕ) → drop i w ≡ line_onto t l left → line_rule l ≡ true → (drop n w ≡ left) × Puts now (print_line tabs (line_sense l)) after
+line_put w i t cut tabs end n c run f p l left e r =
     let x = shape t l left r in
     let whole = e ∙ x.is in
     let front : take (end - i) (drop i w) ≡ x.front_bytes = sym (front_at is_text w i end run) ∙ ap (front is_text) whole
@@ -195,24 +210,24 @@ line_run t tabs =
 
 -- ---- what is left of the lines
 
-module _ (t tabs : ℕ) (w : List ℕ) {out₀ : List ℕ} {at : ℕ} (ls : List Line) where
-  pub lines_all : w ≡ lines_onto t ls [] → all line_rule ls ≡ true → Left (line_run t tabs) w out₀ at ls 0 out₀ at
+module _ (t tabs : ℕ) (w : List ℕ) {before : Page} (ls : List Line) where
+  pub lines_all : w ≡ lines_onto t ls [] → all line_rule ls ≡ true → Left (line_run t tabs) w before ls 0 before
   unfolding line_run
-  lines_all e r = left_all (line_run t tabs) w out₀ at ls e r
+  lines_all e r = left_all (line_run t tabs) w before ls e r
 
-  module _ (i : ℕ) {out : List ℕ} {to : ℕ} (so_far : Left (line_run t tabs) w out₀ at ls i out to) where
-    pub lines_on : i < length w → (cut end n : ℕ) {after : List ℕ} {past : ℕ} → cut ≡ suc t → Stretch is_text w i end
+  module _ (i : ℕ) {now : Page} (so_far : Left (line_run t tabs) w before ls i now) where
+    pub lines_on : i < length w → (cut end n : ℕ) {after : Page} → cut ≡ suc t → Stretch is_text w i end
         → PastEnd w end n
-        → Puts out to (print_line tabs (inked (drop cut (take (end - i) (drop i w))))) after past
-        → Left (line_run t tabs) w out₀ at ls n after past
+        → Puts now (print_line tabs (inked (drop cut (take (end - i) (drop i w))))) after
+        → Left (line_run t tabs) w before ls n after
     unfolding line_run
-    lines_on h cut end n {after} {past} c run f p =
-        left_on (line_run t tabs) w out₀ at ls i out to so_far h n after past (line_put w i t cut tabs end n c run f p)
+    lines_on h cut end n {after} c run f p =
+        left_on (line_run t tabs) w before ls i now so_far h n after (line_put w i t cut tabs end n c run f p)
 
     -- lines that are printed as they stand
-    pub lines_stay : (cut next : ℕ) {after : List ℕ} {past : ℕ} → cut ≡ suc t → LinesStay w cut tabs i next
-        → Puts out to (λ more. take (next - i) (drop i w) ++ more) after past
-        → Left (line_run t tabs) w out₀ at ls next after past
+    pub lines_stay : (cut next : ℕ) {after : Page} → cut ≡ suc t → LinesStay w cut tabs i next
+        → Puts now (λ more. take (next - i) (drop i w) ++ more) after
+        → Left (line_run t tabs) w before ls next after
     unfolding line_run
     lines_stay cut next c stay p =
         let x = stay.rest t so_far.more so_far.stands c so_far.kept in
@@ -220,12 +235,12 @@ module _ (t tabs : ℕ) (w : List ℕ) {out₀ : List ℕ} {at : ℕ} (ls : List
           more = x.left;
           stands = x.stands;
           kept = x.kept;
-          same = λ more. so_far.same more ∙ ap (page out to) (x.same more) ∙ p.same (print_lines tabs (map line_sense x.left) more);
+          put = step_then (λ more. take (next - i) (drop i w) ++ more) (print_lines tabs (map line_sense x.left)) so_far.put x.same p;
         }
 
-    pub lines_over : length w ≤ i → Puts out₀ at (print_lines tabs (map line_sense ls)) out to
+    pub lines_over : length w ≤ i → Puts before (print_lines tabs (map line_sense ls)) now
     unfolding line_run
-    lines_over h = left_over (line_run t tabs) w out₀ at ls i out to so_far h
+    lines_over h = left_over (line_run t tabs) w before ls i now so_far h
 
 -- ---- Content
 

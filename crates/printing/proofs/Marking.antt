@@ -7,7 +7,7 @@ use native.Mathlib.Nat.{add-zero}
 use native.Mathlib.Omega.{arith}
 use lib.ListN.{length, take, drop, length-map}
 use lib.Dec.{leb, eqb}
-use Rattle.paper.specs.Bytes.{byte, bytes, lf, space, all}
+use Rattle.paper.specs.Bytes.{byte, lf, space, all}
 use Rattle.paper.specs.Names.{name_limit}
 use Rattle.paper.specs.Values.{spelling, ends_in_slash}
 use Rattle.paper.specs.Tree.{Trait, Marker, Concept, self_closed, children, content, Body, done, blank_line, element, Ending, block, self}
@@ -17,18 +17,19 @@ use Rattle.paper.specs.Limits.{bracket_limit, trait_fits, marker_fits}
 use Rattle.paper.specs.Entries.{Entry, unnamed, trait_size, traits_size, trait_entries, annotation_entries, concept_size, body_size, concept_form, concept_entry}
 use Rattle.paper.specs.Entries.{marker_of, marker_name, body_start, inside_entries, body_entries}
 use Rattle.paper.specs.Canonical.{TraitSense, MarkerSense, marker_sense, print_trait, print_beside, print_below, print_marker, last_in_slash, spaced}
-use Rattle.paper.proofs.Tests.{true_false}
 use Rattle.paper.proofs.Lists.{both, all_head}
 use Rattle.paper.proofs.Sizes.{traits_size_lem}
 use Rattle.paper.proofs.Fronts.{past_bytes}
 use Rattle.paper.proofs.Concepts.{marker_parts}
 use Rattle.entries.specs.Laid.{entry_at, Stand, kind_at}
 use Rattle.entries.proofs.Standing.{stand_front, stand_back, stand_entry}
-use Rattle.quoting.specs.Page.{page, Puts}
+use Rattle.quoting.specs.declared.page.Page.{Page}
+use Rattle.quoting.specs.Page.{Step, Puts}
 use Rattle.printing.specs.Standing.{Ends, OfTraits, OfConcept}
 use Rattle.printing.specs.Marking.{trait_sense, ending_of, is_self, lead_onto, traits_print, break_onto}
 use Rattle.printing.specs.Wholes.{TraitPut, TraitsPut}
 use Rattle.quoting.proofs.Parts.{part_is}
+use Rattle.quoting.proofs.Putting.{nothing, puts_as, puts_then, step_as, step_then}
 use Rattle.printing.proofs.ItemLaws.{spelling_is}
 use Rattle.printing.proofs.TraitParts.{trait_value_lem, first_kind, front_of, back_of}
 use Rattle.printing.proofs.Three.{ends_there}
@@ -36,8 +37,7 @@ use Rattle.printing.proofs.Slashes.{value_slash, last_or, last_first, last_step}
 
 -- ---- the traits that are left, and what was put of the others
 
-pub record Left (s cells : List ℕ) (n : ℕ) (ts : List Trait) (below : Bool) (depth : ℕ) (out₀ : List ℕ) (at₀ next : ℕ) (slash : Bool) (out : List ℕ)
-    (to : ℕ) : Type 0 where
+pub record Left (s cells : List ℕ) (n : ℕ) (ts : List Trait) (below : Bool) (depth : ℕ) (before : Page) (next : ℕ) (slash : Bool) (now : Page) : Type 0 where
   pub parent : ℕ
   pub place : ℕ
   pub rest : List Trait
@@ -47,12 +47,12 @@ pub record Left (s cells : List ℕ) (n : ℕ) (ts : List Trait) (below : Bool) 
   pub fits : all (trait_fits name_limit bracket_limit) rest ≡ true
   pub total : next + traits_size rest ≡ n + traits_size ts
   pub last : last_in_slash (map trait_sense ts) ≡ last_or slash (map trait_sense rest)
-  pub same : (x : List ℕ) → page out₀ at₀ (traits_print below depth (map trait_sense ts) x) ≡ page out to (traits_print below depth (map trait_sense rest) x)
+  pub put : Step before (traits_print below depth (map trait_sense ts)) now (traits_print below depth (map trait_sense rest))
 
-pub left_first : (s cells : List ℕ) (n parent place : ℕ) (ts : List Trait) (below : Bool) (depth : ℕ) (out : List ℕ) (at : ℕ)
+pub left_first : (s cells : List ℕ) (n parent place : ℕ) (ts : List Trait) (below : Bool) (depth : ℕ) (page : Page)
     → OfTraits s cells n parent place ts → Ends cells (n + traits_size ts)
-    → all trait_rule ts ≡ true → all (trait_fits name_limit bracket_limit) ts ≡ true → Left s cells n ts below depth out at n false out at
-left_first s cells n parent place ts below depth out at o e r f =
+    → all trait_rule ts ≡ true → all (trait_fits name_limit bracket_limit) ts ≡ true → Left s cells n ts below depth page n false page
+left_first s cells n parent place ts below depth page o e r f =
     record {
       parent = parent;
       place = place;
@@ -64,7 +64,7 @@ left_first s cells n parent place ts below depth out at o e r f =
       total = refl;
       last = last_first
           (map trait_sense ts);
-      same = λ x. refl;
+      put = nothing page _;
     }
 
 traits_more : (below : Bool) (depth : ℕ) (t : TraitSense) (ts : List TraitSense) (x : List ℕ)
@@ -78,16 +78,15 @@ unfolding print_below print_beside
 traits_none true depth x = refl
 traits_none false depth x = refl
 
-module _ (s cells : List ℕ) (n : ℕ) (ts : List Trait) (below : Bool) (depth : ℕ) (out₀ : List ℕ) (at₀ next : ℕ) (slash : Bool) (out : List ℕ) (to : ℕ) where
+module _ (s cells : List ℕ) (n : ℕ) (ts : List Trait) (below : Bool) (depth : ℕ) (before : Page) (next : ℕ) (slash : Bool) (now : Page) where
   left_go : (parent place : ℕ) (rest : List Trait) → OfTraits s cells next parent place rest → Ends cells (next + traits_size rest)
       → all trait_rule rest ≡ true → all (trait_fits name_limit bracket_limit) rest ≡ true
       → next + traits_size rest ≡ n + traits_size ts → last_in_slash (map trait_sense ts) ≡ last_or slash (map trait_sense rest)
-      → ((x : List ℕ) → page out₀ at₀ (traits_print below depth (map trait_sense ts) x) ≡ page out to (traits_print below depth (map trait_sense rest) x))
+      → Step before (traits_print below depth (map trait_sense ts)) now (traits_print below depth (map trait_sense rest))
       → kind_at cells next ≡ 2 → (e : Entry) → e ≡ entry_at cells next → (w : List ℕ) → w ≡ take (e.end - e.start) (drop e.start s) → (slash' : Bool)
       → slash' ≡ ends_in_slash w
-      → {mid : List ℕ} {name : ℕ} → Puts out to (lead_onto below depth) mid name → (next' : ℕ) {out' : List ℕ} {to' : ℕ}
-      → TraitPut s cells next mid name next' out' to'
-      → Left s cells n ts below depth out₀ at₀ next' slash' out' to'
+      → {mid : Page} → Puts now (lead_onto below depth) mid → (next' : ℕ) {after : Page} → TraitPut s cells next mid next' after
+      → Left s cells n ts below depth before next' slash' after
   unfolding traits_size
   left_go parent place [] o e r f t l m k own g w q slash' sl p next' d = absurd ((ends_there cells next (next + 0) e (add-zero next)).no_trait_lem k)
   left_go parent place (x ∷ xs) o e r f t l m k own g w q slash' sl p next' d =
@@ -107,36 +106,34 @@ module _ (s cells : List ℕ) (n : ℕ) (ts : List Trait) (below : Bool) (depth 
         fits = fit.1;
         total = omega arith;
         last = l ∙ last_step x xs slash' (sl ∙ ap ends_in_slash spelt ∙ value_slash x.value);
-        same = λ y. m y ∙ ap (page out to) (traits_more below depth (trait_sense x) (map trait_sense xs) y)
-            ∙ p.same (print_trait (trait_sense x) (traits_print below depth (map trait_sense xs) y))
-            ∙ got.1.same (traits_print below depth (map trait_sense xs) y);
+        put = step_then (λ y. lead_onto below depth (print_trait (trait_sense x) y)) (traits_print below depth (map trait_sense xs)) m
+            (traits_more below depth (trait_sense x) (map trait_sense xs)) (puts_then (lead_onto below depth) (print_trait (trait_sense x)) p got.1);
       }
 
-  pub left_on : Left s cells n ts below depth out₀ at₀ next slash out to → kind_at cells next ≡ 2 → (e : Entry) → e ≡ entry_at cells next
+  pub left_on : Left s cells n ts below depth before next slash now → kind_at cells next ≡ 2 → (e : Entry) → e ≡ entry_at cells next
       → (w : List ℕ) → w ≡ take (e.end - e.start) (drop e.start s) → (slash' : Bool) → slash' ≡ ends_in_slash w
-      → {mid : List ℕ} {name : ℕ} → Puts out to (lead_onto below depth) mid name → (next' : ℕ) {out' : List ℕ} {to' : ℕ}
-      → TraitPut s cells next mid name next' out' to'
-      → Left s cells n ts below depth out₀ at₀ next' slash' out' to'
+      → {mid : Page} → Puts now (lead_onto below depth) mid → (next' : ℕ) {after : Page} → TraitPut s cells next mid next' after
+      → Left s cells n ts below depth before next' slash' after
   left_on i k own g w q slash' sl p next' d = left_go i.parent i.place i.rest i.of i.ends i.rule i.fits i.total i.last
-      i.same k own g w q slash' sl p next' d
+      i.put k own g w q slash' sl p next' d
 
   left_none : (parent place : ℕ) (rest : List Trait) → OfTraits s cells next parent place rest → next + traits_size rest ≡ n + traits_size ts
       → last_in_slash (map trait_sense ts) ≡ last_or slash (map trait_sense rest)
-      → ((x : List ℕ) → page out₀ at₀ (traits_print below depth (map trait_sense ts) x) ≡ page out to (traits_print below depth (map trait_sense rest) x))
-      → (kind_at cells next ≡ 2 → ⊥) → (next ≡ n + traits_size ts) × (slash ≡ last_in_slash (map trait_sense ts)) × Puts out₀ at₀
-      (traits_print below depth (map trait_sense ts)) out to
+      → Step before (traits_print below depth (map trait_sense ts)) now (traits_print below depth (map trait_sense rest))
+      → (kind_at cells next ≡ 2 → ⊥) → (next ≡ n + traits_size ts) × (slash ≡ last_in_slash (map trait_sense ts)) × Puts before
+      (traits_print below depth (map trait_sense ts)) now
   unfolding traits_size
-  left_none parent place [] o t l m k = (omega arith, sym l, record { same = λ x. m x ∙ ap (page out to) (traits_none below depth x) })
+  left_none parent place [] o t l m k = (omega arith, sym l, step_as m (traits_none below depth))
   left_none parent place (x ∷ xs) o t l m k = absurd (k (first_kind cells next parent place x xs o.stand))
 
-  pub left_over : Left s cells n ts below depth out₀ at₀ next slash out to → (kind_at cells next ≡ 2 → ⊥)
-      → (next ≡ n + traits_size ts) × (slash ≡ last_in_slash (map trait_sense ts)) × Puts out₀ at₀ (traits_print below depth (map trait_sense ts)) out to
-  left_over i k = left_none i.parent i.place i.rest i.of i.total i.last i.same k
+  pub left_over : Left s cells n ts below depth before next slash now → (kind_at cells next ≡ 2 → ⊥)
+      → (next ≡ n + traits_size ts) × (slash ≡ last_in_slash (map trait_sense ts)) × Puts before (traits_print below depth (map trait_sense ts)) now
+  left_over i k = left_none i.parent i.place i.rest i.of i.total i.last i.put k
 
 -- ---- what stands behind a marker
 
 -- the first entry of a body is an annotation or a Concept
-body_ends : (cells : List ℕ) (body : Body) (n parent at : ℕ) → Stand cells n (body_entries parent n at body) → Ends cells (n + body_size body) → Ends cells n
+pub body_ends : (cells : List ℕ) (body : Body) (n parent at : ℕ) → Stand cells n (body_entries parent n at body) → Ends cells (n + body_size body) → Ends cells n
 unfolding body_entries body_size annotation_entries
 body_ends cells done n parent at s e = ends_there cells n (n + 0) e (add-zero n)
 body_ends cells (blank_line b body) n parent at s e = body_ends cells body n parent (at + length (blank_onto b [])) s e
@@ -222,13 +219,13 @@ module _ (s cells : List ℕ) (n depth : ℕ) (e : Entry) (g : e ≡ entry_at ce
     (below slash closed sp : Bool)
     (three : (parent at : ℕ) (ts : List Trait) → Stand cells (n + 1) (trait_entries parent (n + 1) at ts) → Ends cells (n + 1 + traits_size ts)
     → below ≡ not (leb (length ts) 2))
-    (shut : closed ≡ eqb e.form 1) (apart : sp ≡ (closed || slash)) (next : ℕ) {out o₁ o₂ o₃ after : List ℕ} {at to₁ to₂ to₃ to : ℕ}
-    (p₁ : Puts out at (λ x. w ++ x) o₁ to₁) (p₂ : TraitsPut s cells (n + 1) below depth o₁ to₁ next slash o₂ to₂)
-    (p₃ : Puts o₂ to₂ (break_onto below sp depth) o₃ to₃)
-    (p₄ : (e : Ending) → closed ≡ is_self e → Puts o₃ to₃ (λ x. ending_onto e (lf ∷ x)) after to) where
+    (shut : closed ≡ eqb e.form 1) (apart : sp ≡ (closed || slash)) (next : ℕ) {before named listed broken after : Page}
+    (p₁ : Puts before (λ x. w ++ x) named) (p₂ : TraitsPut s cells (n + 1) below depth named next slash listed)
+    (p₃ : Puts listed (break_onto below sp depth) broken)
+    (p₄ : (e : Ending) → closed ≡ is_self e → Puts broken (λ x. ending_onto e (lf ∷ x)) after) where
   pub marker_put : (parent place tabs : ℕ) (c : Concept) → OfConcept s cells n parent place tabs c → marker_rule (marker_of c) ≡ true
       → marker_fits name_limit bracket_limit (marker_of c) ≡ true
-      → (next ≡ n + 1 + traits_size (marker_of c).traits) × Puts out at (λ x. print_marker depth (marker_sense (marker_of c)) (ending_of c) (lf ∷ x)) after to
+      → (next ≡ n + 1 + traits_size (marker_of c).traits) × Puts before (λ x. print_marker depth (marker_sense (marker_of c)) (ending_of c) (lf ∷ x)) after
   unfolding marker_fits
   marker_put parent place tabs c o r f =
       let k = marker_of c in
@@ -237,7 +234,7 @@ module _ (s cells : List ℕ) (n depth : ℕ) (e : Entry) (g : e ≡ entry_at ce
       let name : List ℕ = byte "<" ∷ k.name in
       let behind : List ℕ = traits_onto k.traits (k.white ++ m.after) in
       let size : marker_name place k ≡ place + length name = omega arith in
-      let named : w ≡ name = q ∙ ap (λ (x : Entry). take (x.name_end - x.start) (drop x.start s)) own
+      let is_name : w ≡ name = q ∙ ap (λ (x : Entry). take (x.name_end - x.start) (drop x.start s)) own
       ∙ part_is s place (marker_name place k) name behind m.spelt size in
       let traits : OfTraits s cells (n + 1) n (marker_name place k) k.traits =
       record { after = k.white ++ m.after; spelt = ap (λ (i : ℕ). drop i s) size ∙ past_bytes s place name behind m.spelt; stand = m.stand } in
@@ -250,44 +247,12 @@ module _ (s cells : List ℕ) (n depth : ℕ) (e : Entry) (g : e ≡ entry_at ce
       let space_is : sp ≡ spaced (ending_of c) (map trait_sense k.traits) = apart
       ∙ spaced_is (ending_of c) (map trait_sense k.traits) closed slash ends got.1 in (
         got.0,
-        record {
-          same = λ x. let y = break_onto below sp depth (ending_onto (ending_of c) (lf ∷ x)) in
-              ap (page out at) (marker_print below sp (ending_of c) (marker_sense k) depth (lf ∷ x) few space_is
-              ∙ ap (λ (l : List ℕ). l ++ traits_print below depth (map trait_sense k.traits) y) (sym named))
-              ∙ p₁.same (traits_print below depth (map trait_sense k.traits) y) ∙ got.2.same y ∙ p₃.same (ending_onto (ending_of c) (lf ∷ x))
-              ∙ (p₄ (ending_of c) ends).same x;
-        },
+        let ts = map trait_sense k.traits in
+            let end = λ (x : List ℕ). ending_onto (ending_of c) (lf ∷ x) in
+            let broken = λ (x : List ℕ). break_onto below sp depth (end x) in
+            puts_as _
+            (λ x. marker_print below sp (ending_of c) (marker_sense k) depth (lf ∷ x) few space_is
+            ∙ ap (λ (l : List ℕ). l ++ traits_print below depth ts (broken x)) (sym is_name))
+            (puts_then (λ x. w ++ x) (λ x. traits_print below depth ts (broken x)) p₁ (puts_then (traits_print below depth ts) broken got.2
+            (puts_then (break_onto below sp depth) end p₃ (p₄ (ending_of c) ends)))),
       )
-
--- ---- before a trait, and before and at the end
-
-module _ (below : Bool) (depth : ℕ) where
-  pub lead_line : below ≡ true → {out mid after : List ℕ} {at to end : ℕ} → Puts out at (λ x. bytes "\n\t" ++ x) mid to
-      → Puts mid to (tabs_onto depth) after end → Puts out at (lead_onto below depth) after end
-  lead_line b h k = record { same = λ x. rw b (h.same (tabs_onto depth x) ∙ k.same x) }
-
-  pub lead_space : below ≡ false → {out after : List ℕ} {at to : ℕ} → Puts out at (λ x. space ∷ x) after to → Puts out at (lead_onto below depth) after to
-  lead_space b h = record { same = λ x. rw b (h.same x) }
-
-  module _ (sp : Bool) where
-    pub break_line : below ≡ true → {out mid after : List ℕ} {at to end : ℕ} → Puts out at (λ x. lf ∷ x) mid to → Puts mid to (tabs_onto depth) after end
-        → Puts out at (break_onto below sp depth) after end
-    break_line b h k = record { same = λ x. rw b (h.same (tabs_onto depth x) ∙ k.same x) }
-
-    pub break_space : below ≡ false → sp ≡ true → {out after : List ℕ} {at to : ℕ} → Puts out at (λ x. space ∷ x) after to
-        → Puts out at (break_onto below sp depth) after to
-    break_space b s h = record { same = λ x. rw (b, s) (h.same x) }
-
-    pub break_none : below ≡ false → sp ≡ false → {out : List ℕ} {at : ℕ} → Puts out at (break_onto below sp depth) out at
-    break_none b s = record { same = λ x. rw (b, s) }
-
-module _ {out after : List ℕ} {at to : ℕ} (closed : Bool) where
-  pub end_self : closed ≡ true → Puts out at (λ x. bytes "/>\n" ++ x) after to → (e : Ending) → closed ≡ is_self e
-      → Puts out at (λ x. ending_onto e (lf ∷ x)) after to
-  end_self c h block q = true_false (sym c ∙ q)
-  end_self c h self q = record { same = h.same }
-
-  pub end_block : closed ≡ false → Puts out at (λ x. bytes ">\n" ++ x) after to → (e : Ending) → closed ≡ is_self e
-      → Puts out at (λ x. ending_onto e (lf ∷ x)) after to
-  end_block c h block q = record { same = h.same }
-  end_block c h self q = true_false (sym q ∙ c)

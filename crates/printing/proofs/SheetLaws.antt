@@ -18,6 +18,7 @@ use Rattle.entries.specs.Laid.{Stand, kind_at}
 use Rattle.entries.proofs.Laying.{cells_length}
 use Rattle.entries.proofs.Getting.{at_none}
 use Rattle.entries.proofs.Standing.{stand_front, stand_back}
+use Rattle.quoting.specs.declared.page.Page.{Page}
 use Rattle.quoting.specs.Page.{page}
 use Rattle.printing.specs.Standing.{Ends, OfConcept}
 use Rattle.printing.specs.Walking.{OfNotes, OfSheet, NotesPut, ConceptPut}
@@ -80,12 +81,15 @@ module _ (s cells : List ℕ) (t : Sheet) (of : OfSheet s cells t) where
       let kind = ap (λ (e : Entry). e.kind) (own_entry_lem s cells own no_parent (root_start t) t.tabs t.root root_of) in
       omega (arith, sym kind ∙ ap (kind_at cells) (sym z) ∙ k)
 
-  pub sheet_put : {out mid after : List ℕ} {noted to : ℕ} (n next : ℕ) → NotesPut s cells 0 0 out 0 n mid noted
-      → ConceptPut s cells n 0 concept_limit mid noted next after to
-      → page out 0 (canonical t) ≡ page after to []
+  -- `out` is what the page's bytes were at first, and `after` what they are at last, since they lie where they lay
+  pub sheet_put : (out after : List ℕ) {first noted last : Page} (n next : ℕ) → first.out.now ≡ out → first.at ≡ 0
+      → (last.out.ghost_name ≡ first.out.ghost_name → after ≡ last.out.now) → NotesPut s cells 0 0 first n noted
+      → ConceptPut s cells n 0 concept_limit noted next last → page out 0 (canonical t) ≡ page after last.at []
   unfolding meaning print
-  sheet_put n next put concept =
+  sheet_put out after {first} {noted} {last} n next e f g put concept =
       let p = put no_parent before t.annotations notes_of no_note in
       let at : n ≡ own = p.0 ∙ zero-add own in
       let q = (rw at at concept) no_parent (root_start t) t.tabs t.root root_of of.keeps in
-      p.1.same (print_concept 0 (concept_sense t.root) (lf ∷ [])) ∙ q.1.same []
+      ap (λ (l : List ℕ). page l 0 (canonical t)) (sym e) ∙ ap (λ (i : ℕ). page first.out.now i (canonical t)) (sym f)
+      ∙ p.1.same (print_concept 0 (concept_sense t.root) (lf ∷ [])) ∙ q.1.same []
+      ∙ ap (λ (l : List ℕ). page l last.at []) (sym (g (q.1.lies ∙ p.1.lies)))

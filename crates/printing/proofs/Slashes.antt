@@ -4,9 +4,10 @@ use mathlib.Core.Path.{◌≡◌, refl, sym, ap, ◌∙◌}
 use mathlib.Core.Bool.{Bool, false}
 use mathlib.Core.List.{List, [], ◌∷◌, ◌++◌, map, append_assoc, append-nil}
 use native.Mathlib.Omega.{arith}
-use lib.ListN.{length, get_or}
+use lib.ListN.{length}
 use lib.Dec.{eqb}
-use borrow.Author.Tests.{ne_eqb}
+use borrow.Author.Tests.{eqb-true, eqb-false, eq-eqb, ne_eqb}
+use Rattle.std.specs.List.{ends_with}
 use Rattle.paper.specs.declared.brackets.Bracket.{Bracket}
 use Rattle.paper.specs.Bytes.{byte, is_upper, elem}
 use Rattle.paper.specs.Values.{Piece, pieces_onto, string, character, backtick, word, temporal, leaf_onto, opener, closer, Label, label_onto, Value, leaf, empty_bracket}
@@ -95,15 +96,12 @@ last_step t (u ∷ ts) slash e = refl
 
 -- ---- the last byte
 
-pub slash_none : (w : List ℕ) → length w ≡ 0 → false ≡ ends_in_slash w
+pub slash_end : (w : List ℕ) → ends_with eqb w (byte "/" ∷ []) ≡ ends_in_slash w
 unfolding ends_in_slash
-slash_none [] h = refl
-slash_none (b ∷ w) h = absurd (omega arith)
-
-pub slash_last_lem : (w : List ℕ) → (length w ≡ 0 → ⊥) → eqb (get_or w (length w - 1) 0) (byte "/") ≡ ends_in_slash w
-unfolding ends_in_slash
-slash_last_lem [] h = absurd (h refl)
-slash_last_lem (b ∷ []) h = refl
-slash_last_lem (b ∷ c ∷ w) h =
+slash_end [] = refl
+slash_end (b ∷ []) = split (eqb b (byte "/"))
+    (λ e. let q : byte "/" ≡ b = sym (eqb-true b (byte "/") e) in rw (eq-eqb (byte "/") b q) (sym e))
+    (λ e. let n : byte "/" ≡ b → ⊥ = λ q. eqb-false b (byte "/") e (sym q) in rw (ne_eqb (byte "/") b n) (sym e))
+slash_end (b ∷ c ∷ w) =
     let z : length (b ∷ c ∷ w) - 1 ≡ suc (length (c ∷ w) - 1) = omega arith in
-    rw z (slash_last_lem (c ∷ w) (λ q. absurd (omega arith)))
+    rw z (slash_end (c ∷ w))

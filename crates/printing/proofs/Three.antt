@@ -1,5 +1,5 @@
 -- Whether three traits stand: the kinds of their entries, with items between them. Document 01, "Entries". Assumes nothing.
-use Prim.Native.Nat.{ℕ, suc, ◌+◌, ◌≤◌, ◌<◌}
+use Prim.Native.Nat.{ℕ, suc, ◌+◌}
 use mathlib.Core.Path.{◌≡◌, refl, sym, ap, ◌∙◌}
 use mathlib.Core.Bool.{false, not}
 use mathlib.Core.List.{List, [], ◌∷◌}
@@ -11,7 +11,7 @@ use borrow.Author.Tests.{leb-true, lt-leb, eq-eqb, ne_eqb, leb-false}
 use Rattle.paper.specs.Tree.{Trait}
 use Rattle.paper.specs.Grammar.{trait_onto}
 use Rattle.paper.specs.Entries.{item_entries, item_size, trait_size, traits_size, trait_value, trait_entry, trait_entries}
-use Rattle.paper.proofs.Tests.{split, up_to}
+use Rattle.paper.proofs.Tests.{split}
 use Rattle.paper.proofs.Sizes.{item_size_lem}
 use Rattle.entries.specs.Laid.{Stand, kind_at}
 use Rattle.entries.proofs.Standing.{stand_back, kinds_between, item_kinds}
@@ -95,9 +95,3 @@ module _ (cells : List ℕ) (n : ℕ) where
           let q = past_next cells n parent at t (u ∷ ts) s e second p in
           third_go cells (n + trait_size t) parent (at + length (trait_onto t [])) t u ts (trait_back cells n parent at t (u ∷ ts) s)
           (ends_behind cells n parent at t (u ∷ ts) s e) third (rw q at p')
-
--- ---- a walk over items
-
-pub items_step : (cells : List ℕ) (n i : ℕ) → kind_at cells i ≡ 3 → ((j : ℕ) → n ≤ j → j < i → kind_at cells j ≡ 3) → (j : ℕ) → n ≤ j → j < i + 1
-    → kind_at cells j ≡ 3
-items_step cells n i k f j a b = up_to (suc j) i (λ h. f j a (omega arith)) (λ h. let q : j ≡ i = omega arith in ap (kind_at cells) q ∙ k)

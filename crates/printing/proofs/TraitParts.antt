@@ -22,11 +22,13 @@ use Rattle.paper.proofs.Sizes.{item_size_lem}
 use Rattle.text.proofs.Places.{front_behind}
 use Rattle.entries.specs.Laid.{entry_at, Stand, kind_at}
 use Rattle.entries.proofs.Standing.{stand_front, stand_back, stand_entry}
-use Rattle.quoting.specs.Page.{page, Puts}
+use Rattle.quoting.specs.declared.page.Page.{Page}
+use Rattle.quoting.specs.Page.{Puts}
 use Rattle.printing.specs.Standing.{OfValue, OfTrait, OfTraits}
 use Rattle.printing.specs.Marking.{trait_sense}
 use Rattle.printing.specs.Wholes.{ValuePut}
 use Rattle.quoting.proofs.Parts.{part_is}
+use Rattle.quoting.proofs.Putting.{puts_as, puts_then}
 
 -- ---- a trait's bytes
 
@@ -63,21 +65,18 @@ module _ (s cells : List ℕ) (n parent at : ℕ) (t : Trait) (o : OfTrait s cel
         ∙ part_is s (trait_name at t) (trait_value at t) (t.name ++ (byte "=" ∷ [])) (value_onto t.value o.after)
         (named ∙ sym (append_assoc t.name (byte "=" ∷ []) (value_onto t.value o.after))) size
 
-    pub trait_put : (w : List ℕ) → w ≡ take (e.start - e.name_start) (drop e.name_start s) → {out mid after : List ℕ} {to value end next : ℕ}
-        → Puts out to (λ x. w ++ x) mid value → ValuePut s cells n bracket_limit mid value next after end
-        → trait_rule t ≡ true → trait_fits name_limit bracket_limit t ≡ true → (next ≡ n + trait_size t) × Puts out to (print_trait (trait_sense t)) after end
+    pub trait_put : (w : List ℕ) → w ≡ take (e.start - e.name_start) (drop e.name_start s) → {before named after : Page} {next : ℕ}
+        → Puts before (λ x. w ++ x) named → ValuePut s cells n bracket_limit named next after
+        → trait_rule t ≡ true → trait_fits name_limit bracket_limit t ≡ true → (next ≡ n + trait_size t) × Puts before (print_trait (trait_sense t)) after
     unfolding trait_rule trait_fits
-    trait_put w q {out} {to = to} p f r l =
+    trait_put w q p f r l =
         let rule = both (leb 1 (length t.white) && all is_white t.white && name_rule is_lower t.name) (value_rule [] t.value) r in
         let depth = both (leb (length t.name) name_limit) (leb (bracket_depth t.value) bracket_limit) l in
         let got = f [] t.value trait_value_lem rule.1 (leb-true (bracket_depth t.value) bracket_limit depth.1) in
         let said : (x : List ℕ) → t.name ++ (byte "=" ∷ x) ≡ w ++ x = λ x. sym
         (ap (λ (l : List ℕ). l ++ x) (name_is w q) ∙ append_assoc t.name (byte "=" ∷ []) x) in (
           omega (arith, got.0),
-          record {
-            same = λ x. ap (page out to) (said (print_value (value_sense t.value) x)) ∙ p.same (print_value (value_sense t.value) x)
-                ∙ got.1.same x;
-          },
+          puts_as _ (λ x. said (print_value (value_sense t.value) x)) (puts_then (λ x. w ++ x) (print_value (value_sense t.value)) p got.1),
         )
 
 -- ---- traits one after another

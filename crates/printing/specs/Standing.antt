@@ -1,6 +1,6 @@
 -- Trees that stand before the writer: their entries in the cells, their bytes in the sheet.
 -- Document 01, "Entries"; document 02, Five.
-use Rattle.std.specs.Prelude.{ℕ, ◌+◌, ◌/◌, ◌≤◌, ◌<◌, ◌≡◌, List, ◌∷◌, length, drop}
+use Rattle.std.specs.Prelude.{ℕ, ◌+◌, ◌/◌, ◌≤◌, ◌<◌, ◌≡◌, Option, None, Some, List, ◌∷◌, length, drop}
 use Rattle.paper.specs.declared.brackets.Bracket.{Bracket}
 use Rattle.paper.specs.Values.{bracket_form, Label, label_onto, Value, value_onto, value_form}
 use Rattle.paper.specs.Tree.{Trait, Concept, Body}
@@ -8,7 +8,6 @@ use Rattle.paper.specs.Grammar.{trait_onto, traits_onto, concept_onto, body_onto
 use Rattle.paper.specs.Entries.{Entry, entry_cells, items_of, value_width, label_width, item_entry, item_entries, trait_value, trait_entry, trait_entries}
 use Rattle.paper.specs.Entries.{concept_size, concept_entry, inside_entries, body_entries}
 use Rattle.entries.specs.Laid.{Stand, kind_at}
-use Rattle.printing.specs.declared.items.Holding.{Holding}
 
 -- no trait and no item goes on at entry n
 pub record Ends (cells : List ℕ) (n : ℕ) : Type 0 where
@@ -26,10 +25,10 @@ pub record Ahead (cells : List ℕ) (n next : ℕ) : Type 0 where
   pub same : n ≤ next
   pub on : n < length cells / entry_cells → n < next
 
--- what a value of this form holds
-abbrev pub Holds : ℕ → Holding → Type 0
-Holds form Holding.NoItems = (k : Bracket) → form ≡ bracket_form k → ⊥
-Holds form (Holding.Items k) = form ≡ bracket_form k
+-- what a value of this form holds: no items, or those of a bracket
+abbrev pub Holds : ℕ → Option Bracket → Type 0
+Holds form None = (k : Bracket) → form ≡ bracket_form k → ⊥
+Holds form (Some k) = form ≡ bracket_form k
 
 -- the value of entry n, a trait's or an item's
 pub record OfValue (s cells : List ℕ) (n : ℕ) (v : Value) : Type 0 where

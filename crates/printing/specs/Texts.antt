@@ -6,6 +6,7 @@ use Rattle.paper.specs.Bytes.{is_blank, all}
 use Rattle.paper.specs.Tree.{LineEnd, Line}
 use Rattle.paper.specs.Grammar.{line_end_onto, line_onto, lines_onto, line_rule}
 use Rattle.paper.specs.Canonical.{line_sense, print_line, print_lines}
+use Rattle.quoting.specs.declared.page.Page.{Page}
 use Rattle.quoting.specs.Page.{Puts}
 
 abbrev pub inked : List ℕ → List ℕ
@@ -36,6 +37,6 @@ pub record LinesStay (s : List ℕ) (cut tabs at next : ℕ) : Type 0 where
   pub rest : (t : ℕ) (ls : List Line) → drop at s ≡ lines_onto t ls [] → cut ≡ suc t → all line_rule ls ≡ true → Staying t tabs ls s at next
 
 -- these lines were put, whose text stands behind so many tabs, with their text at so many
-abbrev pub LinesPut : List ℕ → ℕ → ℕ → List ℕ → ℕ → List ℕ → ℕ → Type 0
-LinesPut lines cut tabs out at after to =
-    (t : ℕ) (ls : List Line) → lines ≡ lines_onto t ls [] → cut ≡ suc t → all line_rule ls ≡ true → Puts out at (print_lines tabs (map line_sense ls)) after to
+abbrev pub LinesPut : List ℕ → ℕ → ℕ → Page → Page → Type 0
+LinesPut lines cut tabs before after =
+    (t : ℕ) (ls : List Line) → lines ≡ lines_onto t ls [] → cut ≡ suc t → all line_rule ls ≡ true → Puts before (print_lines tabs (map line_sense ls)) after

@@ -1,6 +1,7 @@
 -- What the walk over the entries asks of the tree that stands before it.
 -- Document 01, "Entries", "Sizes" and "Canonical form".
-use Rattle.std.specs.Prelude.{ℕ, suc, ◌+◌, ◌-◌, ◌≤◌, ◌≡◌, Bool, true, List, [], ◌∷◌, map, length, drop, eqb}
+use Rattle.std.specs.Prelude.{ℕ, suc, ◌+◌, ◌-◌, ◌≤◌, ◌≡◌, Bool, true, List, [], ◌∷◌, map, length, drop, eqb, count_by}
+use Rattle.std.specs.List.{range_with_len}
 use Rattle.paper.specs.Found.{pick}
 use Rattle.paper.specs.Bytes.{all, lf}
 use Rattle.paper.specs.Names.{name_limit}
@@ -11,6 +12,7 @@ use Rattle.paper.specs.Entries.{Entry, unnamed, annotation_entries, concept_size
 use Rattle.paper.specs.Canonical.{BodySense, annotation_sense, line_sense, concept_sense, body_sense, print_notes, print_lines, print_concept, print_body, print_more}
 use Rattle.paper.specs.Canonical.{canonical}
 use Rattle.entries.specs.Laid.{entry_at, Stand, kind_at}
+use Rattle.quoting.specs.declared.page.Page.{Page}
 use Rattle.quoting.specs.Page.{page, Puts}
 use Rattle.printing.specs.Standing.{Ends, OfConcept, OfBody}
 
@@ -50,10 +52,11 @@ unfoldable pub traits_in : List Entry → ℕ
 traits_in [] = 0
 traits_in (e ∷ es) = pick (eqb e.kind 2) (suc (traits_in es)) (traits_in es)
 
--- so many traits stand from one entry up to another; and so many others does entry n count, where these stand up to `next`
+-- so many of the entries from one up to another are traits
 abbrev pub Traits : List ℕ → ℕ → ℕ → ℕ → Type 0
-Traits cells from to count = (es : List Entry) → Stand cells from es → to ≡ from + length es → count ≡ traits_in es
+Traits cells from to count = count ≡ count_by (λ n. eqb (kind_at cells n) 2) (range_with_len from (to - from))
 
+-- so many others does entry n count, where its traits stand up to `next`
 abbrev pub Elements : List ℕ → ℕ → ℕ → ℕ → Type 0
 Elements cells n next count = (es : List Entry) → Stand cells n es → next ≡ n + length es → count ≡ (entry_at cells n).count - traits_in es
 
@@ -64,28 +67,28 @@ print_rest between depth inner next = pick between (print_more depth inner next)
 -- ---- what a function that puts such a part leaves of the page, for every tree that stands there, and the entry that comes next
 
 -- the annotations from entry n on, behind which stands none
-abbrev pub NotesPut : List ℕ → List ℕ → ℕ → ℕ → List ℕ → ℕ → ℕ → List ℕ → ℕ → Type 0
-NotesPut s cells n depth out at next after to =
+abbrev pub NotesPut : List ℕ → List ℕ → ℕ → ℕ → Page → ℕ → Page → Type 0
+NotesPut s cells n depth before next after =
     (parent place : ℕ) (notes : List Annotation) → OfNotes s cells n parent place notes → (kind_at cells (n + length notes) ≡ 4 → ⊥)
-    → (next ≡ n + length notes) × Puts out at (print_notes depth (map annotation_sense notes)) after to
+    → (next ≡ n + length notes) × Puts before (print_notes depth (map annotation_sense notes)) after
 
 -- the Content of entry n
-abbrev pub ContentPut : List ℕ → List ℕ → ℕ → ℕ → List ℕ → ℕ → ℕ → List ℕ → ℕ → Type 0
-ContentPut s cells n tabs out at next after to =
+abbrev pub ContentPut : List ℕ → List ℕ → ℕ → ℕ → Page → ℕ → Page → Type 0
+ContentPut s cells n tabs before next after =
     (place t : ℕ) (ls : List Line) → OfContent s cells n place t ls → all line_rule ls ≡ true
-    → (next ≡ n + 1) × Puts out at (print_lines tabs (map line_sense ls)) after to
+    → (next ≡ n + 1) × Puts before (print_lines tabs (map line_sense ls)) after
 
 -- the Concept of entry n, with its line end
-abbrev pub ConceptPut : List ℕ → List ℕ → ℕ → ℕ → ℕ → List ℕ → ℕ → ℕ → List ℕ → ℕ → Type 0
-ConceptPut s cells n depth left out at next after to =
+abbrev pub ConceptPut : List ℕ → List ℕ → ℕ → ℕ → ℕ → Page → ℕ → Page → Type 0
+ConceptPut s cells n depth left before next after =
     (parent place tabs : ℕ) (c : Concept) → OfConcept s cells n parent place tabs c → Keeps left c
-    → (next ≡ n + concept_size c) × Puts out at (λ t. tabs_onto depth (print_concept depth (concept_sense c) (lf ∷ t))) after to
+    → (next ≡ n + concept_size c) × Puts before (λ t. tabs_onto depth (print_concept depth (concept_sense c) (lf ∷ t))) after
 
 -- so many elements of a body, from entry n on
-abbrev pub BodyPut : List ℕ → List ℕ → ℕ → ℕ → ℕ → ℕ → List ℕ → ℕ → ℕ → List ℕ → ℕ → Type 0
-BodyPut s cells n elements depth left out at next after to =
+abbrev pub BodyPut : List ℕ → List ℕ → ℕ → ℕ → ℕ → ℕ → Page → ℕ → Page → Type 0
+BodyPut s cells n elements depth left before next after =
     (parent place : ℕ) (body : Body) → OfBody s cells n parent place body → KeepsBody left body → Ends cells (n + body_size body)
-    → elements ≡ body_count body → (next ≡ n + body_size body) × Puts out at (print_body depth (body_sense body)) after to
+    → elements ≡ body_count body → (next ≡ n + body_size body) × Puts before (print_body depth (body_sense body)) after
 
 -- a whole sheet, from the first byte on
 abbrev pub SheetPut : List ℕ → List ℕ → List ℕ → List ℕ → ℕ → Type 0

@@ -1,40 +1,30 @@
 // Lines of Content, each with its text at its new depth.
 // Document 01, "Canonical form": Content text stands one tab deeper than its marker; empty text is an empty line; LF line ends.
-ghost use Rattle.std.specs.Prelude.{◌≡◌, ◌≤◌, ◌<◌, length, drop};
-ghost use Rattle.paper.specs.Bytes.{length_in};
+ghost use Rattle.std.specs.Prelude.{◌≡◌, ◌≤◌, ◌<◌, not, length, drop, IfSome};
+ghost use Rattle.paper.specs.Bytes.{is_blank, all, length_in};
 ghost use Rattle.paper.specs.Reading.{is_tab};
 ghost use Rattle.paper.specs.Canonical.{print_line};
 ghost use Rattle.quoting.specs.Page.{Puts};
 ghost use Rattle.printing.specs.Texts.{inked, LineStays, LinesStay, PastEnd, LinesPut};
 ghost use Rattle.printing.specs.Walking.{ContentPut};
 
-use crate::items::{Walk, spelling_of};
-use entries::{CELLS, get};
-use quoting::page::{put, put_byte, put_tabs};
+use crate::laid::Laid;
+use quoting::page::Page;
 use text::parts::starts_with;
-use text::runs;
-use text::runs::Class;
+use text::runs::{self, Blank};
 
-// Puts the lines of the Content of entry n, with their text at so many tabs. The closing line behind them has the tabs of their marker.
-pub fn put_content(
-    out: &mut [u8],
-    at: usize,
-    s: &[u8],
-    cells: &[u32],
-    n: usize,
-    tabs: usize,
-) -> Walk
-    ensures { ContentPut s.now cells.now n tabs out.old at result.next out.new result.at }
+// Puts the lines of the Content of entry n, with their text at so many tabs. Answers which entry comes next.
+// The closing line behind them has the tabs of their marker.
+pub fn put_content(page: &mut Page, laid: Laid, n: usize, tabs: usize) -> usize
+    ensures { ContentPut laid.entry.s.now laid.entry.cells.now n tabs page.old result page.new }
 {
-    if cells.len() / CELLS <= n {
-        return Walk { at, next: n };
+    if !laid.has(n) {
+        return n;
     }
-    let own = get(cells, n);
-    let cut = tabs_at(s, own.end as usize) + 1;
-    Walk {
-        at: put_lines(out, at, spelling_of(s, own), cut, tabs),
-        next: n + 1,
-    }
+    let own = laid.at(n);
+    let cut = tabs_at(laid.s, own.end as usize) + 1;
+    put_lines(page, laid.spelling(own), cut, tabs);
+    n + 1
 }
 
 // How many tabs stand at `at`.
@@ -48,23 +38,22 @@ fn tabs_at(s: &[u8], at: usize) -> usize
 }
 
 // Puts lines whose text stands behind `cut` tabs, with their text at so many tabs. Those that stay as they are go in one copy.
-fn put_lines(out: &mut [u8], at: usize, lines: &[u8], cut: usize, tabs: usize) -> usize
-    ensures { LinesPut lines.now cut tabs out.old at out.new result }
+fn put_lines(page: &mut Page, lines: &[u8], cut: usize, tabs: usize)
+    ensures { LinesPut lines.now cut tabs page.old page.new }
 {
-    let mut to = at;
+    // How far lines go is known only when they are read, so the place is kept by hand.
     let mut i = 0;
     while i < lines.len() {
         let next = past_staying(lines, i, cut, tabs);
         if i < next {
-            to = put(out, to, &lines[i..next]);
+            page.put(&lines[i..next]);
             i = next;
         } else {
             let end = runs::text_end(lines, runs::tab_end(lines, i));
-            to = put_line(out, to, &lines[i..end], cut, tabs);
+            put_line(page, &lines[i..end], cut, tabs);
             i = line_after(lines, end);
         }
     }
-    to
 }
 
 // Past whole lines at `at` that are put as they stand.
@@ -76,53 +65,47 @@ fn past_staying(lines: &[u8], at: usize, cut: usize, tabs: usize) -> usize
         return at;
     }
     let mut i = at;
-    loop {
-        let next = past_line(lines, i);
-        if next <= i {
-            return i;
-        }
+    while let Some(next) = past_line(lines, i) {
         i = next;
     }
+    i
 }
 
-// Past the line at `at` if it is put as it stands, an empty one or text with no space behind its tabs, and LF behind it; or else `at`.
-fn past_line(s: &[u8], at: usize) -> usize
+// Past the line at `at` if it is put as it stands: an empty one or text with no space behind its tabs, and LF behind it.
+fn past_line(s: &[u8], at: usize) -> Option<usize>
     requires { at ≤ length s.now }
-    ensures { at < result → LineStays s.now at result }
+    ensures { IfSome result (λ next. (at < next) × LineStays s.now at next) }
 {
     let mark = runs::tab_end(s, at);
     let end = runs::text_end(s, mark);
-    if end == s.len() {
-        return at;
-    }
-    if s[end] != b'\n' {
-        return at;
+    if end == s.len() || s[end] != b'\n' {
+        return None;
     }
     if end == at {
-        return end + 1;
+        return Some(end + 1);
     }
-    if mark == end {
-        return at;
+    if mark < end && s[mark] != b' ' {
+        return Some(end + 1);
     }
-    if s[mark] == b' ' {
-        return at;
-    }
-    end + 1
+    None
+}
+
+// Whether a line has more than spaces and tabs behind `cut` bytes.
+fn has_ink(line: &[u8], cut: usize) -> bool
+    ensures { result ≡ not (all is_blank (drop cut line.now)) }
+{
+    cut < line.len() && runs::end::<Blank>(line, cut) < line.len()
 }
 
 // Puts a line whose text stands behind `cut` bytes: the text at so many tabs, or an empty line where it is only spaces and tabs.
-fn put_line(out: &mut [u8], at: usize, line: &[u8], cut: usize, tabs: usize) -> usize
-    ensures { Puts out.old at (print_line tabs (inked (drop cut line.now))) out.new result }
+fn put_line(page: &mut Page, line: &[u8], cut: usize, tabs: usize)
+    ensures { Puts page.old (print_line tabs (inked (drop cut line.now))) page.new }
 {
-    if line.len() <= cut {
-        return put_byte(out, at, b'\n');
+    if has_ink(line, cut) {
+        page.put_tabs(tabs);
+        page.put(&line[cut..]);
     }
-    if runs::end(line, cut, Class::Blank) == line.len() {
-        return put_byte(out, at, b'\n');
-    }
-    let text = put_tabs(out, at, tabs);
-    let end = put(out, text, &line[cut..]);
-    put_byte(out, end, b'\n')
+    page.put_byte(b'\n');
 }
 
 // Behind the line end that stands at `at`.

@@ -1,6 +1,6 @@
 // The value of a trait or of an item, with all that it holds.
 // Document 01, "Canonical form"; document 02, Five: comma and one space between items, colon and one space behind a map's key.
-ghost use Rattle.std.specs.Prelude.{◌≡◌, ◌∷◌, ◌++◌, ◌-◌, take, drop, ltb};
+ghost use Rattle.std.specs.Prelude.{◌∷◌, ◌++◌, ltb};
 ghost use Rattle.paper.specs.Found.{pick};
 ghost use Rattle.paper.specs.Bytes.{byte, space};
 ghost use Rattle.paper.specs.Values.{opener};
@@ -8,136 +8,85 @@ ghost use Rattle.quoting.specs.Page.{Puts};
 ghost use Rattle.printing.specs.Standing.{Holds, Ahead};
 ghost use Rattle.printing.specs.Wholes.{ItemLabelPut, ValuePut};
 
-use entries::{CELLS, Entry, get};
+use crate::laid::Laid;
 use paper::brackets::Bracket;
-use paper::forms;
+use paper::forms::Form;
 use quoting::leaf::{put_label, put_leaf};
-use quoting::page::{put, put_byte};
-use quoting::spans::part;
+use quoting::page::Page;
 
-// Where the page goes on, and the number of the entry that comes next.
-#[derive(Clone, Copy)]
-pub struct Walk {
-    pub at: usize,
-    pub next: usize,
-}
-
-// What a value holds: no items, or those of a bracket.
-#[derive(Clone, Copy)]
-enum Holding {
-    NoItems,
-    Items(Bracket),
-}
-
-// What a value of this form holds. Most hold no items, which one comparison tells.
-fn held_by(form: u32) -> Holding
+// The bracket of a value of the form with this number, if it holds items. Most hold none, which one comparison tells.
+// A search in an array of the brackets would be no plainer.
+fn bracket_of(form: u32) -> Option<Bracket>
     ensures { Holds form result }
 {
-    if form < forms::LIST {
-        return Holding::NoItems;
+    if form < Form::List.number() {
+        None
+    } else if form == Form::List.number() {
+        Some(Bracket::List)
+    } else if form == Form::Set.number() {
+        Some(Bracket::Set)
+    } else if form == Form::Map.number() {
+        Some(Bracket::Map)
+    } else if form == Form::Tuple.number() {
+        Some(Bracket::Tuple)
+    } else {
+        None
     }
-    match form {
-        forms::LIST => Holding::Items(Bracket::List),
-        forms::SET => Holding::Items(Bracket::Set),
-        forms::MAP => Holding::Items(Bracket::Map),
-        forms::TUPLE => Holding::Items(Bracket::Tuple),
-        _ => Holding::NoItems,
-    }
-}
-
-// The name that an entry has in the sheet; of a map's item it is the key.
-pub fn name_of(s: &[u8], own: Entry) -> &[u8]
-    ensures { result.now ≡ take (own.name_end - own.name_start) (drop own.name_start s.now) }
-{
-    part(s, own.name_start as usize, own.name_end as usize)
-}
-
-// The spelling that an entry's span names.
-pub fn spelling_of(s: &[u8], own: Entry) -> &[u8]
-    ensures { result.now ≡ take (own.end - own.start) (drop own.start s.now) }
-{
-    part(s, own.start as usize, own.end as usize)
 }
 
 // Puts what opens a bracket of this kind.
-fn put_opener(out: &mut [u8], at: usize, kind: Bracket) -> usize
-    ensures { Puts out.old at (λ next. opener kind ++ next) out.new result }
+fn put_opener(page: &mut Page, kind: Bracket)
+    ensures { Puts page.old (λ next. opener kind ++ next) page.new }
 {
     match kind {
-        Bracket::List => put_byte(out, at, b'['),
-        Bracket::Set => put(out, at, b"set["),
-        Bracket::Map => put(out, at, b"map["),
-        Bracket::Tuple => put_byte(out, at, b'('),
+        Bracket::List => page.put(b"["),
+        Bracket::Set => page.put(b"set["),
+        Bracket::Map => page.put(b"map["),
+        Bracket::Tuple => page.put(b"("),
     }
 }
 
 // Puts the label of the item of entry n in a bracket of this kind: a map's key, colon and space, and nothing in any other.
-fn put_item_label(
-    out: &mut [u8],
-    at: usize,
-    s: &[u8],
-    cells: &[u32],
-    n: usize,
-    kind: Bracket,
-) -> usize
-    ensures { ItemLabelPut s.now cells.now n kind out.old at out.new result }
+fn put_item_label(page: &mut Page, laid: Laid, n: usize, kind: Bracket)
+    ensures { ItemLabelPut laid.entry.s.now laid.entry.cells.now n kind page.old page.new }
 {
     if kind.is_keyed() {
-        let own = get(cells, n);
-        return put_label(out, at, name_of(s, own));
+        put_label(page, laid.name(laid.at(n)));
     }
-    at
 }
 
-// Puts what stands between two items, where there are items left.
-fn put_comma(out: &mut [u8], at: usize, left: u32) -> usize
-    ensures { Puts out.old at (λ next. pick (ltb 0 left) (byte "," ∷ space ∷ next) next) out.new result }
+// Puts what stands between two items, before an item behind so many others.
+fn put_comma(page: &mut Page, others: u32)
+    ensures { Puts page.old (λ next. pick (ltb 0 others) (byte "," ∷ space ∷ next) next) page.new }
 {
-    if 0 < left {
-        return put(out, at, b", ");
+    if 0 < others {
+        page.put(b", ");
     }
-    at
 }
 
-// Puts the value of entry n, in which at most so many brackets stand in one another.
-pub fn put_value(
-    out: &mut [u8],
-    at: usize,
-    s: &[u8],
-    cells: &[u32],
-    n: usize,
-    brackets: usize,
-) -> Walk
-    ensures { Ahead cells.now n result.next
-        × ValuePut s.now cells.now n brackets out.old at result.next out.new result.at }
+// Puts the value of entry n, in which at most so many brackets stand in one another. Answers which entry comes next.
+pub fn put_value(page: &mut Page, laid: Laid, n: usize, brackets: usize) -> usize
+    ensures { Ahead laid.entry.cells.now n result
+        × ValuePut laid.entry.s.now laid.entry.cells.now n brackets page.old result page.new }
 {
-    if cells.len() / CELLS <= n {
-        return Walk { at, next: n };
+    if !laid.has(n) {
+        return n;
     }
-    let own = get(cells, n);
-    let form = own.form;
-    let Holding::Items(kind) = held_by(form) else {
-        let w = spelling_of(s, own);
-        return Walk {
-            at: put_leaf(out, at, form, w),
-            next: n + 1,
-        };
+    let own = laid.at(n);
+    let Some(kind) = bracket_of(own.form) else {
+        put_leaf(page, own.form, laid.spelling(own));
+        return n + 1;
     };
     if brackets == 0 {
-        return Walk { at, next: n + 1 };
+        return n + 1;
     }
-    let mut to = put_opener(out, at, kind);
+    put_opener(page, kind);
     let mut next = n + 1;
-    let mut left = own.count;
-    while 0 < left {
-        let start = put_item_label(out, to, s, cells, next, kind);
-        let item = put_value(out, start, s, cells, next, brackets - 1);
-        next = item.next;
-        left -= 1;
-        to = put_comma(out, item.at, left);
+    for i in 0..own.count {
+        put_comma(page, i);
+        put_item_label(page, laid, next, kind);
+        next = put_value(page, laid, next, brackets - 1);
     }
-    Walk {
-        at: put_byte(out, to, kind.closer()),
-        next,
-    }
+    page.put_byte(kind.closer());
+    next
 }

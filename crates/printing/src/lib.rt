@@ -5,5 +5,6 @@
 pub mod concepts;
 mod content;
 mod items;
+mod laid;
 mod markers;
 mod notes;

@@ -6,35 +6,30 @@ ghost use Rattle.paper.specs.Canonical.{print_notes};
 ghost use Rattle.quoting.specs.Page.{Puts};
 ghost use Rattle.printing.specs.Walking.{NotesPut};
 
-use crate::items::{Walk, spelling_of};
-use entries::get;
-use paper::kinds;
-use quoting::page::{put, put_byte, put_tabs};
+use crate::laid::Laid;
+use paper::kinds::Kind;
+use quoting::page::Page;
 use quoting::spaced::put_collapsed;
 
-// Puts the annotations from entry n on.
-pub fn put_notes(out: &mut [u8], at: usize, s: &[u8], cells: &[u32], n: usize, depth: usize) -> Walk
-    ensures { (n ≤ result.next)
-        × NotesPut s.now cells.now n depth out.old at result.next out.new result.at }
+// Puts the annotations from entry n on. Answers which entry comes next.
+pub fn put_notes(page: &mut Page, laid: Laid, n: usize, depth: usize) -> usize
+    ensures { (n ≤ result)
+        × NotesPut laid.entry.s.now laid.entry.cells.now n depth page.old result page.new }
 {
-    let mut to = at;
     let mut next = n;
-    loop {
-        let note = get(cells, next);
-        if note.kind != kinds::ANNOTATION {
-            return Walk { at: to, next };
-        }
-        to = put_note(out, to, spelling_of(s, note), depth);
+    while laid.is_of(next, Kind::Annotation) {
+        put_note(page, laid.spelling(laid.at(next)), depth);
         next += 1;
     }
+    next
 }
 
 // Puts an annotation of this text.
-fn put_note(out: &mut [u8], at: usize, text: &[u8], depth: usize) -> usize
-    ensures { Puts out.old at (print_notes depth (collapse text.now ∷ [])) out.new result }
+fn put_note(page: &mut Page, text: &[u8], depth: usize)
+    ensures { Puts page.old (print_notes depth (collapse text.now ∷ [])) page.new }
 {
-    let mark = put_tabs(out, at, depth);
-    let start = put_byte(out, mark, b'[');
-    let end = put_collapsed(out, start, text);
-    put(out, end, b"]\n")
+    page.put_tabs(depth);
+    page.put_byte(b'[');
+    put_collapsed(page, text);
+    page.put(b"]\n");
 }

@@ -1,74 +1,85 @@
--- White space collapsed, put byte by byte, and letters copied in lower case. Document 01, "Canonical form". Assumes nothing.
+-- White space collapsed, and letters in lower case, put byte by byte. Document 01, "Canonical form". Assumes nothing.
 use Prim.Native.Nat.{ℕ, ◌+◌, ◌≤◌, ◌<◌}
 use mathlib.Core.Path.{◌≡◌, refl, sym, ap, ◌∙◌}
-use mathlib.Core.Bool.{Bool, true, false}
+use mathlib.Core.Bool.{true, false}
 use mathlib.Core.List.{List, [], ◌∷◌, ◌++◌, map}
 use native.Mathlib.Omega.{arith}
-use lib.ListN.{length, drop, set, get_or, length-map, drop_of_length-le, get_or-map}
-use lib.Seq.{sets}
-use Rattle.paper.specs.Found.{pick}
-use Rattle.paper.specs.Bytes.{is_upper, space, is_white}
+use lib.ListN.{length, drop, get_or, drop_of_length-le}
+use lib.Dec.{ltb}
+use borrow.Author.Tests.{ltb-true, ltb-false, le-leb, lt-leb}
+use Rattle.std.specs.Char.{to_ascii_lowercase}
+use Rattle.paper.specs.Bytes.{is_white, is_upper}
 use Rattle.paper.specs.Values.{collapse, collapse_on, collapse_gap}
 use Rattle.paper.specs.Canonical.{lower}
-use Rattle.paper.proofs.Tests.{true_false}
+use Rattle.paper.proofs.Tests.{split}
 use Rattle.text.proofs.Places.{here}
-use Rattle.quoting.specs.Page.{page, Puts}
-use Rattle.quoting.proofs.Putting.{stores_more}
+use Rattle.quoting.specs.declared.page.Page.{Page}
+use Rattle.quoting.specs.declared.spaced.Spacing.{Spacing}
+use Rattle.quoting.specs.declared.spaced.Spacing.TheVariants.{Start, Word, Gap}
+use Rattle.quoting.specs.Page.{Step, Puts}
+use Rattle.quoting.specs.Spacing.{widened, gap_onto}
+use Rattle.quoting.proofs.Putting.{puts_then, step_as, step_then}
 
--- a turn of the loop that copies in lower case
-pub lower_more : (w out : List ℕ) (at i b : ℕ) → i < length w → b ≡ lower (get_or w i 0)
-    → sets (set out (at + i) b) (at + (i + 1)) (drop (i + 1) (map lower w)) ≡ sets out (at + i) (drop i (map lower w))
+-- what is left to put behind what stands before it
+abbrev pub left : Spacing → List ℕ → List ℕ
+left Start l = collapse l
+left Word l = collapse_on l
+left Gap l = collapse_gap l
+
+pub white_left : (spacing : Spacing) (b : ℕ) (l : List ℕ) → is_white b ≡ true → left spacing (b ∷ l) ≡ left (widened spacing) l
+unfolding collapse
+white_left Start b l e = rw (e, collapse)
+white_left Word b l e = rw (e, collapse_on)
+white_left Gap b l e = rw (e, collapse_gap)
+
+pub word_left : (spacing : Spacing) (b : ℕ) (l : List ℕ) → is_white b ≡ false → left spacing (b ∷ l) ≡ gap_onto spacing (b ∷ left Word l)
+unfolding collapse
+word_left Start b l e = rw (e, collapse)
+word_left Word b l e = rw (e, collapse_on)
+word_left Gap b l e = rw (e, collapse_gap)
+
+pub none_left : (spacing : Spacing) → left spacing [] ≡ []
+unfolding collapse
+none_left Start = refl
+none_left Word = refl
+none_left Gap = refl
+
+gap_append : (spacing : Spacing) (l next : List ℕ) → gap_onto spacing l ++ next ≡ gap_onto spacing (l ++ next)
+gap_append Start l next = refl
+gap_append Word l next = refl
+gap_append Gap l next = refl
+
+module _ (w : List ℕ) (i : ℕ) (spacing : Spacing) {before now : Page} {f : List ℕ → List ℕ} (so_far : Step before f now (λ next. left spacing (drop i w) ++ next)) where
+  pub white_on : i < length w → is_white (get_or w i 0) ≡ true → Step before f now (λ next. left (widened spacing) (drop (i + 1) w) ++ next)
+  white_on h e = step_as so_far
+      (λ next. ap (λ (l : List ℕ). l ++ next) (ap (left spacing) (here w i h) ∙ white_left spacing (get_or w i 0) (drop (i + 1) w) e))
+
+  pub word_on : {mid after : Page} → i < length w → is_white (get_or w i 0) ≡ false → Puts now (gap_onto spacing) mid → Puts mid (λ next. get_or w i 0 ∷ next) after
+      → Step before f after (λ next. left Word (drop (i + 1) w) ++ next)
+  word_on h e p q =
+      let rest = left Word (drop (i + 1) w) in
+      step_then (λ next. gap_onto spacing (get_or w i 0 ∷ next)) (λ next. rest ++ next) so_far
+      (λ next. ap (λ (l : List ℕ). l ++ next) (ap (left spacing) (here w i h) ∙ word_left spacing (get_or w i 0) (drop (i + 1) w) e)
+      ∙ gap_append spacing (get_or w i 0 ∷ rest) next)
+      (puts_then (gap_onto spacing) (λ next. get_or w i 0 ∷ next) p q)
+
+  pub over : length w ≤ i → Puts before f now
+  over h = step_as so_far (λ next. ap (λ (l : List ℕ). l ++ next) (ap (left spacing) (drop_of_length-le w h) ∙ none_left spacing))
+
+-- ---- lower case
+
+lower_is : (b : ℕ) → to_ascii_lowercase b ≡ lower b
 unfolding lower is_upper
-lower_more w out at i b h e =
-    let q : b ≡ get_or (map lower w) i 0 = e ∙ sym (get_or-map lower w i 0) in
-    stores_more out (map lower w) at i b (omega (arith, length-map w lower)) q
+lower_is b =
+    split (ltb b 65)
+    (λ e. let h : b < 65 = ltb-true b 65 e in rw (e, lt-leb 65 b h))
+    (λ e. let h : 65 ≤ b = ltb-false b 65 e in split (ltb b 91)
+    (λ f. let k : b ≤ 90 = omega (arith, ltb-true b 91 f) in rw (e, f, le-leb 65 b h, le-leb b 90 k))
+    (λ f. let k : 90 < b = omega (arith, ltb-false b 91 f) in rw (e, f, le-leb 65 b h, lt-leb b 90 k)))
 
--- what is left to put: in front of the first word, behind a word, or in a gap behind one
-abbrev pub left : Bool → Bool → List ℕ → List ℕ
-left false gap l = collapse l
-left true false l = collapse_on l
-left true true l = collapse_gap l
-
--- a gap stands only behind a word
-abbrev pub Behind : Bool → Bool → Type 0
-Behind begun gap = gap ≡ true → begun ≡ true
-
-pub white_left : (begun gap : Bool) (b : ℕ) (l : List ℕ) → is_white b ≡ true → left begun gap (b ∷ l) ≡ left begun begun l
-unfolding collapse
-white_left false gap b l e = rw (e, collapse)
-white_left true false b l e = rw (e, collapse_on)
-white_left true true b l e = rw (e, collapse_gap)
-
-pub word_left : (begun gap : Bool) (b : ℕ) (l : List ℕ) → is_white b ≡ false → Behind begun gap
-    → left begun gap (b ∷ l) ≡ pick gap (space ∷ b ∷ collapse_on l) (b ∷ collapse_on l)
-unfolding collapse
-word_left false false b l e h = rw (e, collapse)
-word_left false true b l e h = true_false (sym (h refl))
-word_left true false b l e h = rw (e, collapse_on)
-word_left true true b l e h = rw (e, collapse_gap)
-
-pub none_left : (begun gap : Bool) → left begun gap [] ≡ []
-unfolding collapse
-none_left false gap = refl
-none_left true false = refl
-none_left true true = refl
-
-pick_append : (gap : Bool) (a next : List ℕ) → pick gap (space ∷ a) a ++ next ≡ pick gap (space ∷ (a ++ next)) (a ++ next)
-pick_append true a next = refl
-pick_append false a next = refl
-
-module _ (w : List ℕ) (i : ℕ) (begun gap : Bool) (next : List ℕ) where
-  pub white_on : i < length w → is_white (get_or w i 0) ≡ true → left begun gap (drop i w) ++ next ≡ left begun begun (drop (i + 1) w) ++ next
-  white_on h e = ap (λ (l : List ℕ). l ++ next) (ap (left begun gap) (here w i h) ∙ white_left begun gap (get_or w i 0) (drop (i + 1) w) e)
-
-  pub word_on : {out mid after : List ℕ} {to word end : ℕ} → i < length w → is_white (get_or w i 0) ≡ false → Behind begun gap
-      → Puts out to (λ next. pick gap (space ∷ next) next) mid word → Puts mid word (λ next. get_or w i 0 ∷ next) after end
-      → page out to (left begun gap (drop i w) ++ next) ≡ page after end (left true false (drop (i + 1) w) ++ next)
-  word_on {out} {to = to} h e b p q =
-      ap (λ (l : List ℕ). page out to (l ++ next)) (ap (left begun gap) (here w i h) ∙ word_left begun gap (get_or w i 0) (drop (i + 1) w) e b)
-      ∙ ap (page out to) (pick_append gap (get_or w i 0 ∷ collapse_on (drop (i + 1) w)) next)
-      ∙ p.same ((get_or w i 0 ∷ collapse_on (drop (i + 1) w)) ++ next)
-      ∙ q.same (collapse_on (drop (i + 1) w) ++ next)
-
-  pub over : length w ≤ i → left begun gap (drop i w) ++ next ≡ next
-  over h = ap (λ (l : List ℕ). l ++ next) (ap (left begun gap) (drop_of_length-le w h) ∙ none_left begun gap)
+module _ (w : List ℕ) (i : ℕ) {before now : Page} {f : List ℕ → List ℕ} (so_far : Step before f now (λ next. map lower (drop i w) ++ next)) where
+  pub lower_on : i < length w → (b : ℕ) → b ≡ to_ascii_lowercase (get_or w i 0) → {after : Page} → Puts now (λ next. b ∷ next) after
+      → Step before f after (λ next. map lower (drop (i + 1) w) ++ next)
+  lower_on h b is p = step_then (λ next. b ∷ next) (λ next. map lower (drop (i + 1) w) ++ next) so_far
+      (λ next. ap (λ (l : List ℕ). map lower l ++ next) (here w i h)
+      ∙ ap (λ (x : ℕ). x ∷ (map lower (drop (i + 1) w) ++ next)) (sym (is ∙ lower_is (get_or w i 0)))) p

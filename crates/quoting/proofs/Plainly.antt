@@ -15,7 +15,9 @@ use Rattle.paper.proofs.Tests.{true_false, split}
 use Rattle.paper.proofs.Lists.{all_head, all_run}
 use Rattle.text.proofs.Stretch.{Stretch}
 use Rattle.leaves.specs.Plain.{is_plain}
-use Rattle.quoting.specs.Page.{page, Puts}
+use Rattle.quoting.specs.declared.page.Page.{Page}
+use Rattle.quoting.specs.Page.{Puts}
+use Rattle.quoting.proofs.Putting.{step_then}
 use Rattle.quoting.proofs.Sequences.{Left}
 use Rattle.quoting.proofs.Spelling.{byte_direct, piece_run}
 
@@ -93,11 +95,11 @@ behind quote (suc n) (four digits ∷ ps) h r = no_mark quote n (byte "u" ∷ (d
 behind quote (suc n) (braces digits ∷ ps) h r = no_mark quote n (byte "u" ∷ byte "{" ∷ (digits ++ (byte "}" ∷ pieces_onto ps []))) h
 
 -- the run that stands at a place was copied, and the spelling goes on behind it
-pub rest_plain : (quote : ℕ) (w out₀ : List ℕ) (at : ℕ) (ps : List Piece) (i : ℕ) (out : List ℕ) (to : ℕ) → Left (piece_run quote) w out₀ at ps i out to
-    → (stop : ℕ) → Stretch (is_plain quote) w i stop → (after : List ℕ) (end : ℕ) → Puts out to (λ next. take (stop - i) (drop i w) ++ next) after end
-    → Left (piece_run quote) w out₀ at ps stop after end
+pub rest_plain : (quote : ℕ) (w : List ℕ) (before : Page) (ps : List Piece) (i : ℕ) (now : Page) → Left (piece_run quote) w before ps i now
+    → (stop : ℕ) → Stretch (is_plain quote) w i stop → (after : Page) → Puts now (λ next. take (stop - i) (drop i w) ++ next) after
+    → Left (piece_run quote) w before ps stop after
 unfolding piece_run
-rest_plain quote w out₀ at ps i out to l stop run after end p =
+rest_plain quote w before ps i now l stop run after p =
     let n : stop - i ≤ length_in (is_plain quote) (drop i w) = omega (arith, run.0) in
     let far : i + (stop - i) ≡ stop = omega (arith, run.1) in
     let b = behind quote (stop - i) l.more (rw l.stands at n) l.kept in
@@ -106,6 +108,6 @@ rest_plain quote w out₀ at ps i out to l stop run after end p =
       more = b.more;
       stands = ap (λ (k : ℕ). drop k w) (sym far) ∙ sym (drop-drop (stop - i) i w) ∙ ap (drop (stop - i)) front ∙ b.stands;
       kept = b.kept;
-      same = λ next. l.same next ∙ ap (page out to) (b.same next ∙ ap (λ (x : List ℕ). take (stop - i) x ++ bytes_onto quote (pieces_mean b.more) next) (sym front))
-          ∙ p.same (bytes_onto quote (pieces_mean b.more) next);
+      put = step_then (λ next. take (stop - i) (drop i w) ++ next) (bytes_onto quote (pieces_mean b.more)) l.put
+          (λ next. b.same next ∙ ap (λ (x : List ℕ). take (stop - i) x ++ bytes_onto quote (pieces_mean b.more) next) (sym front)) p;
     }

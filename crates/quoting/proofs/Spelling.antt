@@ -17,7 +17,9 @@ use Rattle.text.proofs.Places.{here, front_behind}
 use Rattle.paper.proofs.Lists.{both, front_length, front_least, starts_is}
 use Rattle.paper.proofs.Scalars.{by_scalar}
 use Rattle.paper.proofs.Pieces.{piece_longer}
+use Rattle.quoting.specs.declared.page.Page.{Page}
 use Rattle.quoting.specs.Page.{Puts}
+use Rattle.quoting.proofs.Putting.{puts_then}
 use Rattle.quoting.proofs.Sequences.{Sequence, Left, left_all, left_on, left_over}
 
 pub bytes_append : (quote : ℕ) (a b next : List ℕ) → bytes_onto quote (a ++ b) next ≡ bytes_onto quote a (bytes_onto quote b next)
@@ -80,14 +82,14 @@ module _ (v : ℕ) where
       rw (lt-leb v 0x7F f, lt-leb v 0x7FF h, lt-leb v 0xFFFF g)
 
 -- so many bytes put one after another
-pub bytes_one : (quote a : ℕ) {out after : List ℕ} {at to : ℕ} → Puts out at (byte_onto quote a) after to → Puts out at (bytes_onto quote (a ∷ [])) after to
+pub bytes_one : (quote a : ℕ) {p q : Page} → Puts p (byte_onto quote a) q → Puts p (bytes_onto quote (a ∷ [])) q
 unfolding bytes_onto
-bytes_one quote a h = record { same = h.same }
+bytes_one quote a h = h
 
-pub bytes_more : (quote a : ℕ) (l : List ℕ) {out mid after : List ℕ} {at to end : ℕ} → Puts out at (byte_onto quote a) mid to
-    → Puts mid to (bytes_onto quote l) after end → Puts out at (bytes_onto quote (a ∷ l)) after end
+pub bytes_more : (quote a : ℕ) (l : List ℕ) {p q r : Page} → Puts p (byte_onto quote a) q → Puts q (bytes_onto quote l) r
+    → Puts p (bytes_onto quote (a ∷ l)) r
 unfolding bytes_onto
-bytes_more quote a l h k = record { same = λ next. h.same (bytes_onto quote l next) ∙ k.same next }
+bytes_more quote a l h k = puts_then (byte_onto quote a) (bytes_onto quote l) h k
 
 -- ---- which piece stands here
 
@@ -196,24 +198,24 @@ piece_run quote =
     }
 
 -- the piece that stands at a place was put, and the spelling goes on at another
-abbrev pub Put : ℕ → List ℕ → ℕ → List ℕ → ℕ → ℕ → List ℕ → ℕ → Type 0
-Put quote w i out to n after end =
+abbrev pub Put : ℕ → List ℕ → ℕ → Page → ℕ → Page → Type 0
+Put quote w i now n after =
     (p : Piece) (left : List ℕ) → drop i w ≡ piece_onto p left → piece_rule quote p ≡ true
-    → (drop n w ≡ left) × Puts out to (bytes_onto quote (piece_means p)) after end
+    → (drop n w ≡ left) × Puts now (bytes_onto quote (piece_means p)) after
 
-module _ (quote : ℕ) (w out₀ : List ℕ) (at : ℕ) (ps : List Piece) where
-  pub rest_all : w ≡ pieces_onto ps [] → all (piece_rule quote) ps ≡ true → Left (piece_run quote) w out₀ at ps 0 out₀ at
+module _ (quote : ℕ) (w : List ℕ) (before : Page) (ps : List Piece) where
+  pub rest_all : w ≡ pieces_onto ps [] → all (piece_rule quote) ps ≡ true → Left (piece_run quote) w before ps 0 before
   unfolding piece_run
-  rest_all e r = left_all (piece_run quote) w out₀ at ps e r
+  rest_all e r = left_all (piece_run quote) w before ps e r
 
-  module _ (i : ℕ) (out : List ℕ) (to : ℕ) (so_far : Left (piece_run quote) w out₀ at ps i out to) where
-    pub rest_on : i < length w → (n : ℕ) (after : List ℕ) (end : ℕ) → Put quote w i out to n after end → Left (piece_run quote) w out₀ at ps n after end
+  module _ (i : ℕ) (now : Page) (so_far : Left (piece_run quote) w before ps i now) where
+    pub rest_on : i < length w → (n : ℕ) (after : Page) → Put quote w i now n after → Left (piece_run quote) w before ps n after
     unfolding piece_run
-    rest_on h n after end f = left_on (piece_run quote) w out₀ at ps i out to so_far h n after end f
+    rest_on h n after f = left_on (piece_run quote) w before ps i now so_far h n after f
 
-    pub rest_over : length w ≤ i → Puts out₀ at (bytes_onto quote (pieces_mean ps)) out to
+    pub rest_over : length w ≤ i → Puts before (bytes_onto quote (pieces_mean ps)) now
     unfolding piece_run
-    rest_over h = left_over (piece_run quote) w out₀ at ps i out to so_far h
+    rest_over h = left_over (piece_run quote) w before ps i now so_far h
 
 -- ---- hex digits
 
@@ -222,12 +224,12 @@ unfolding spells_scalar
 spelt_small digits e = by_scalar (hex_value 0 digits) (both (all is_hex digits) (is_scalar (hex_value 0 digits)) e).1 (λ h. omega arith) (λ l h. h)
 
 -- the digits at a place, put
-pub digits_put : (quote : ℕ) (w digits left out after : List ℕ) (at most to end : ℕ) → drop at w ≡ digits ++ left → spells_scalar digits ≡ true
+pub digits_put : (quote : ℕ) (w digits left : List ℕ) (at most : ℕ) {now after : Page} → drop at w ≡ digits ++ left → spells_scalar digits ≡ true
     → min most (length_in is_hex (digits ++ left)) ≡ length digits
     → (end' v : ℕ) → end' ≡ at + min most (length_in is_hex (drop at w)) → v ≡ hex_value 0 (take (end' - at) (drop at w))
-    → (v ≤ 0x10FFFF → Puts out to (bytes_onto quote (encode v)) after end)
-    → (drop end' w ≡ left) × Puts out to (bytes_onto quote (encode (hex_value 0 digits))) after end
-digits_put quote w digits left out after at most to end e s m n v f g p =
+    → (v ≤ 0x10FFFF → Puts now (bytes_onto quote (encode v)) after)
+    → (drop end' w ≡ left) × Puts now (bytes_onto quote (encode (hex_value 0 digits))) after
+digits_put quote w digits left at most e s m n v f g p =
     let size : n ≡ at + length digits = f ∙ ap (λ (l : List ℕ). at + min most (length_in is_hex l)) e ∙ ap (λ (k : ℕ). at + k) m in
     let less : n - at ≡ length digits = omega arith in
     let same : v ≡ hex_value 0 digits =
@@ -240,10 +242,10 @@ digits_put quote w digits left out after at most to end e s m n v f g p =
 -- ---- one piece, put
 
 -- digits at a place were put, and the spelling goes on at another
-abbrev pub Spelt : ℕ → List ℕ → ℕ → ℕ → List ℕ → ℕ → ℕ → List ℕ → ℕ → Type 0
-Spelt quote w at most out to n after end =
+abbrev pub Spelt : ℕ → List ℕ → ℕ → ℕ → Page → ℕ → Page → Type 0
+Spelt quote w at most now n after =
     (digits left : List ℕ) → drop at w ≡ digits ++ left → spells_scalar digits ≡ true → min most (length_in is_hex (digits ++ left)) ≡ length digits
-    → (drop n w ≡ left) × Puts out to (bytes_onto quote (encode (hex_value 0 digits))) after end
+    → (drop n w ≡ left) × Puts now (bytes_onto quote (encode (hex_value 0 digits))) after
 
 no_u_there : (b : ℕ) (l : List ℕ) → starts_with (bytes "\\u") (byte "\\" ∷ b ∷ l) ≡ false → eqb b (byte "u") ≡ false
 unfolding starts_with
@@ -253,16 +255,16 @@ no_brace_there : (l : List ℕ) → starts_with (bytes "\\u{") (byte "\\" ∷ by
 unfolding starts_with
 no_brace_there l e = e
 
-module _ (quote : ℕ) (w : List ℕ) (at : ℕ) (out after : List ℕ) (to end : ℕ) where
-  pub put_itself : at < length w → (get_or w at 0 ≡ byte "\\" → ⊥) → Puts out to (byte_onto quote (get_or w at 0)) after end
-      → Put quote w at out to (at + 1) after end
+module _ (quote : ℕ) (w : List ℕ) (at : ℕ) (now after : Page) where
+  pub put_itself : at < length w → (get_or w at 0 ≡ byte "\\" → ⊥) → Puts now (byte_onto quote (get_or w at 0)) after
+      → Put quote w at now (at + 1) after
   put_itself h n p piece left e r =
       let i = itself quote left (get_or w at 0) (drop (at + 1) w) piece (sym (here w at h) ∙ e) (ne_eqb (get_or w at 0) (byte "\\") n) in
       (i.0, rw i.1 (bytes_one quote (get_or w at 0) p))
 
   module _ (small : quote < byte "\\") where
     pub put_letter : at + 1 < length w → get_or w at 0 ≡ byte "\\" → starts_with (bytes "\\u") (drop at w) ≡ false → (x : ℕ) → x ≡ letter_means (get_or w (at + 1) 0)
-        → Puts out to (byte_onto quote x) after end → Put quote w at out to (at + 2) after end
+        → Puts now (byte_onto quote x) after → Put quote w at now (at + 2) after
     put_letter h b s x m p piece left e r =
         let h' : at < length w = omega arith in
         let two : at + 1 + 1 ≡ at + 2 = omega arith in
@@ -274,15 +276,15 @@ module _ (quote : ℕ) (w : List ℕ) (at : ℕ) (out after : List ℕ) (to end 
         (no_u_there (get_or w (at + 1) 0) (drop (at + 2) w) (rw front at s)) in
         (i.0, rw (i.1, ← m) (bytes_one quote x p))
 
-    pub put_cut : at < length w → length w - at < 2 → get_or w at 0 ≡ byte "\\" → (n : ℕ) → Put quote w at out to n after end
+    pub put_cut : at < length w → length w - at < 2 → get_or w at 0 ≡ byte "\\" → (n : ℕ) → Put quote w at now n after
     put_cut h s b n piece left e r =
         let over : length w ≤ at + 1 = omega arith in
         let front : drop at w ≡ byte "\\" ∷ [] =
         here w at h ∙ ap (λ (k : ℕ). k ∷ drop (at + 1) w) b ∙ ap (λ (l : List ℕ). byte "\\" ∷ l) (drop_of_length-le w over) in
         no_piece quote left small piece (sym front ∙ e) r
 
-    pub put_braces : starts_with (bytes "\\u{") (drop at w) ≡ true → (n : ℕ) → Spelt quote w (at + 3) 6 out to n after end
-        → Put quote w at out to (n + 1) after end
+    pub put_braces : starts_with (bytes "\\u{") (drop at w) ≡ true → (n : ℕ) → Spelt quote w (at + 3) 6 now n after
+        → Put quote w at now (n + 1) after
     put_braces s n f piece left e r =
         let front : drop at w ≡ byte "\\" ∷ byte "u" ∷ byte "{" ∷ drop (at + 3) w =
         starts_is (bytes "\\u{") (drop at w) s ∙ ap (λ (l : List ℕ). byte "\\" ∷ byte "u" ∷ byte "{" ∷ l) (drop-drop 3 at w) in
@@ -291,7 +293,7 @@ module _ (quote : ℕ) (w : List ℕ) (at : ℕ) (out after : List ℕ) (to end 
         (sym (front_behind w n (byte "}") left got.0), rw d.means got.1)
 
     pub put_four : starts_with (bytes "\\u{") (drop at w) ≡ false → starts_with (bytes "\\u") (drop at w) ≡ true → (n : ℕ)
-        → Spelt quote w (at + 2) 4 out to n after end → Put quote w at out to n after end
+        → Spelt quote w (at + 2) 4 now n after → Put quote w at now n after
     put_four off s n f piece left e r =
         let front : drop at w ≡ byte "\\" ∷ byte "u" ∷ drop (at + 2) w =
         starts_is (bytes "\\u") (drop at w) s ∙ ap (λ (l : List ℕ). byte "\\" ∷ byte "u" ∷ l) (drop-drop 2 at w) in

@@ -9,18 +9,21 @@ use lib.ListN.{length, drop, get_or, length-drop}
 use lib.Seq.{drop-drop, get_or-drop}
 use lib.Dec.{eqb}
 use borrow.Author.Tests.{eqb-true}
-use Rattle.paper.specs.Found.{pick}
-use Rattle.paper.specs.Bytes.{byte, bytes, space, is_white, starts_with}
+use Rattle.paper.specs.Bytes.{byte, bytes, is_white, starts_with}
 use Rattle.paper.specs.Values.{Piece, direct, escaped, four, braces, piece_onto, pieces_onto, piece_means, pieces_mean, letter_means, backtick_rule, collapse}
-use Rattle.paper.specs.Values.{collapse_on}
 use Rattle.paper.specs.Canonical.{byte_onto, bytes_onto}
 use Rattle.paper.proofs.Tests.{true_false}
 use Rattle.paper.proofs.Lists.{both, starts_is}
 use Rattle.paper.proofs.Pieces.{piece_longer}
 use Rattle.text.proofs.Places.{here}
-use Rattle.quoting.specs.Page.{page, Puts}
+use Rattle.quoting.specs.declared.page.Page.{Page}
+use Rattle.quoting.specs.declared.spaced.Spacing.{Spacing}
+use Rattle.quoting.specs.declared.spaced.Spacing.TheVariants.{Start, Word, Gap}
+use Rattle.quoting.specs.Page.{Step, Puts}
+use Rattle.quoting.specs.Spacing.{widened, gap_onto}
 use Rattle.quoting.specs.Ticks.{First}
-use Rattle.quoting.proofs.Collapsing.{left, Behind, white_left, word_left, none_left}
+use Rattle.quoting.proofs.Putting.{step_as, step_then, puts_then}
+use Rattle.quoting.proofs.Collapsing.{left, white_left, word_left, none_left}
 
 -- ---- the piece at a place
 
@@ -96,27 +99,26 @@ module _ (w : List ℕ) (at : ℕ) where
 abbrev quote : ℕ
 quote = byte "\""
 
-pub record Ticks (w out₀ : List ℕ) (at : ℕ) (ps : List Piece) (i : ℕ) (begun gap : Bool) (out : List ℕ) (to : ℕ) : Type 0 where
+pub record Ticks (w : List ℕ) (before : Page) (ps : List Piece) (i : ℕ) (spacing : Spacing) (now : Page) : Type 0 where
   pub rest : List Piece
   pub after : Bool
   pub spelt : drop i w ≡ pieces_onto rest []
   pub rule : backtick_rule after rest ≡ true
-  pub same : (next : List ℕ) → page out₀ at (bytes_onto quote (collapse (pieces_mean ps)) next)
-      ≡ page out to (bytes_onto quote (left begun gap (pieces_mean rest)) next)
+  pub put : Step before (bytes_onto quote (collapse (pieces_mean ps))) now (bytes_onto quote (left spacing (pieces_mean rest)))
 
 -- a gap's space is put as it is
-gap_bytes : (gap : Bool) (b : ℕ) (l next : List ℕ) → bytes_onto quote (pick gap (space ∷ b ∷ l) (b ∷ l)) next
-    ≡ pick gap (space ∷ byte_onto quote b (bytes_onto quote l next)) (byte_onto quote b (bytes_onto quote l next))
+gap_bytes : (spacing : Spacing) (b : ℕ) (l next : List ℕ) → bytes_onto quote (gap_onto spacing (b ∷ l)) next ≡ gap_onto spacing (byte_onto quote b (bytes_onto quote l next))
 unfolding bytes_onto byte_onto
-gap_bytes true b l next = refl
-gap_bytes false b l next = refl
+gap_bytes Start b l next = refl
+gap_bytes Word b l next = refl
+gap_bytes Gap b l next = refl
 
-module _ (w out₀ : List ℕ) (at : ℕ) (ps : List Piece) (i : ℕ) (begun gap : Bool) (out : List ℕ) (to own : ℕ) where
+module _ (w : List ℕ) (before : Page) (ps : List Piece) (i : ℕ) (spacing : Spacing) (now : Page) (own : ℕ) where
   -- the byte at `own` is the first of what is left
   abbrev pub Next : Type 0
   Next = (after : Bool) (ps : List Piece) → drop i w ≡ pieces_onto ps [] → backtick_rule after ps ≡ true → First w own ps
 
-  pub ticks_white : Ticks w out₀ at ps i begun gap out to → Next → is_white (get_or w own 0) ≡ true → Ticks w out₀ at ps (own + 1) begun begun out to
+  pub ticks_white : Ticks w before ps i spacing now → Next → is_white (get_or w own 0) ≡ true → Ticks w before ps (own + 1) (widened spacing) now
   ticks_white t f e =
       let one = f t.after t.rest t.spelt t.rule in
       record {
@@ -124,36 +126,32 @@ module _ (w out₀ : List ℕ) (at : ℕ) (ps : List Piece) (i : ℕ) (begun gap
         after = one.after;
         spelt = one.left;
         rule = one.rule;
-        same = λ next. t.same next
-            ∙ ap (λ (l : List ℕ). page out to (bytes_onto quote l next))
-            (ap (left begun gap) one.means ∙ white_left begun gap (get_or w own 0) (pieces_mean one.rest) e);
+        put = step_as t.put
+            (λ next. ap (λ (l : List ℕ). bytes_onto quote l next) (ap (left spacing) one.means ∙ white_left spacing (get_or w own 0) (pieces_mean one.rest) e));
       }
 
-  pub ticks_word : Ticks w out₀ at ps i begun gap out to → Next → is_white (get_or w own 0) ≡ false → Behind begun gap → {mid after : List ℕ} {word end : ℕ}
-      → Puts out to (λ next. pick gap (space ∷ next) next) mid word → Puts mid word (byte_onto quote (get_or w own 0)) after end
-      → Ticks w out₀ at ps (own + 1) true false after end
-  ticks_word t f e b p q =
+  pub ticks_word : Ticks w before ps i spacing now → Next → is_white (get_or w own 0) ≡ false → {mid after : Page} → Puts now (gap_onto spacing) mid
+      → Puts mid (byte_onto quote (get_or w own 0)) after → Ticks w before ps (own + 1) Word after
+  ticks_word t f e p q =
       let one = f t.after t.rest t.spelt t.rule in
-      let on = collapse_on (pieces_mean one.rest) in
+      let on = left Word (pieces_mean one.rest) in
       record {
         rest = one.rest;
         after = one.after;
         spelt = one.left;
         rule = one.rule;
-        same = λ next. t.same next
-            ∙ ap (λ (l : List ℕ). page out to (bytes_onto quote l next))
-            (ap (left begun gap) one.means ∙ word_left begun gap (get_or w own 0) (pieces_mean one.rest) e b)
-            ∙ ap (page out to) (gap_bytes gap (get_or w own 0) on next)
-            ∙ p.same (byte_onto quote (get_or w own 0) (bytes_onto quote on next))
-            ∙ q.same (bytes_onto quote on next);
+        put = step_then (λ next. gap_onto spacing (byte_onto quote (get_or w own 0) next)) (bytes_onto quote on) t.put
+            (λ next. ap (λ (l : List ℕ). bytes_onto quote l next) (ap (left spacing) one.means ∙ word_left spacing (get_or w own 0) (pieces_mean one.rest) e)
+            ∙ gap_bytes spacing (get_or w own 0) on next)
+            (puts_then (gap_onto spacing) (byte_onto quote (get_or w own 0)) p q);
       }
 
   ticks_none : (qs : List Piece) → drop i w ≡ pieces_onto qs []
-      → ((next : List ℕ) → page out₀ at (bytes_onto quote (collapse (pieces_mean ps)) next) ≡ page out to (bytes_onto quote (left begun gap (pieces_mean qs)) next))
-      → length w ≤ i → Puts out₀ at (bytes_onto quote (collapse (pieces_mean ps))) out to
+      → Step before (bytes_onto quote (collapse (pieces_mean ps))) now (bytes_onto quote (left spacing (pieces_mean qs)))
+      → length w ≤ i → Puts before (bytes_onto quote (collapse (pieces_mean ps))) now
   unfolding pieces_onto pieces_mean bytes_onto
-  ticks_none [] e s h = record { same = λ next. s next ∙ ap (λ (l : List ℕ). page out to (bytes_onto quote l next)) (none_left begun gap) }
+  ticks_none [] e s h = step_as s (λ next. ap (λ (l : List ℕ). bytes_onto quote l next) (none_left spacing))
   ticks_none (p ∷ qs) e s h = absurd (omega (arith, ap length e, length-drop i w, piece_longer p (pieces_onto qs [])))
 
-  pub ticks_over : Ticks w out₀ at ps i begun gap out to → length w ≤ i → Puts out₀ at (bytes_onto quote (collapse (pieces_mean ps))) out to
-  ticks_over t h = ticks_none t.rest t.spelt t.same h
+  pub ticks_over : Ticks w before ps i spacing now → length w ≤ i → Puts before (bytes_onto quote (collapse (pieces_mean ps))) now
+  ticks_over t h = ticks_none t.rest t.spelt t.put h

@@ -3,17 +3,27 @@
 use Rattle.std.specs.Prelude.{ℕ, ◌+◌, ◌≡◌, List, length, leb}
 use Rattle.std.proofs.lemmas.List.Edits.{sets}
 use Rattle.paper.specs.Found.{pick}
+use Rattle.quoting.specs.declared.page.Page.{Page}
 
 -- the bytes of a page and the place behind what was put, or that it had no room
-pub data Page : Type 0 where
-  holds : List ℕ → ℕ → Page
-  full : Page
+pub data Filled : Type 0 where
+  holds : List ℕ → ℕ → Filled
+  full : Filled
 
 -- these bytes put at a place
-unfoldable pub page : List ℕ → ℕ → List ℕ → Page
+unfoldable pub page : List ℕ → ℕ → List ℕ → Filled
 page out at w = pick (leb (at + length w) (length out)) (holds (sets out at w) (at + length w)) full
 
--- What was put in front of whatever follows: to put `onto next` before is to put `next` now.
--- `onto` is a printer of the paper, which prints in front of what follows; two such steps are one after the other.
-pub record Puts (out : List ℕ) (at : ℕ) (onto : List ℕ → List ℕ) (after : List ℕ) (to : ℕ) : Type 0 where
-  pub same : (next : List ℕ) → page out at (onto next) ≡ page after to next
+-- these bytes put on a page, where it goes on
+abbrev pub filled : Page → List ℕ → Filled
+filled p w = page p.out.now p.at w
+
+-- What was put in front of whatever follows, where some of it may still be left: to put `onto next` before is to put `left next` now.
+-- The page lies where it lay. `onto` is a printer of the paper, which prints in front of what follows.
+pub record Step (before : Page) (onto : List ℕ → List ℕ) (after : Page) (left : List ℕ → List ℕ) : Type 0 where
+  pub lies : after.out.ghost_name ≡ before.out.ghost_name
+  pub same : (next : List ℕ) → filled before (onto next) ≡ filled after (left next)
+
+-- all of it was put
+abbrev pub Puts : Page → (List ℕ → List ℕ) → Page → Type 0
+Puts before onto after = Step before onto after (λ next. next)

@@ -7,9 +7,9 @@ ghost use Rattle.paper.specs.Canonical.{bytes_onto};
 ghost use Rattle.quoting.specs.Page.{Puts};
 ghost use Rattle.quoting.specs.Ticks.{First};
 
+use crate::page::Page;
 use crate::quoted::put_escaped;
-use crate::spaced::put_gap;
-use text::classes::is_white;
+use crate::spaced::Spacing;
 use text::parts::starts_with;
 
 // Where the byte is that the piece at `at` stands for: behind the backslash of an escaped backtick, else there.
@@ -26,26 +26,18 @@ fn meant_at(w: &[u8], at: usize) -> usize
 }
 
 // Puts what a spelling between backticks stands for, each run of white space as one space and none at the ends.
-pub fn put_backtick(out: &mut [u8], at: usize, w: &[u8]) -> usize
+pub fn put_backtick(page: &mut Page, w: &[u8])
     ensures { (ps : List Piece) → w.now ≡ pieces_onto ps [] → backtick_rule false ps ≡ true
-        → Puts out.old at (bytes_onto (byte "\"") (collapse (pieces_mean ps))) out.new result }
+        → Puts page.old (bytes_onto (byte "\"") (collapse (pieces_mean ps))) page.new }
 {
-    let mut to = at;
+    // A piece is of one byte or of two, so the place is kept by hand.
+    let mut spacing = Spacing::Start;
     let mut i = 0;
-    let mut begun = false;
-    let mut gap = false;
     while i < w.len() {
         let own = meant_at(w, i);
-        if is_white(w[own]) {
-            gap = begun;
-            i = own + 1;
-        } else {
-            let word = put_gap(out, to, gap);
-            to = put_escaped(out, word, b'"', w[own]);
-            begun = true;
-            gap = false;
-            i = own + 1;
+        if spacing.passes(page, w[own]) {
+            put_escaped(page, b'"', w[own]);
         }
+        i = own + 1;
     }
-    to
 }

@@ -8,74 +8,74 @@ ghost use Rattle.quoting.specs.Page.{Puts};
 ghost use Rattle.quoting.specs.Leaves.{LeafPut, KeyPut, LabelPut};
 
 use crate::backticks::put_backtick;
-use crate::page::{put, put_byte};
+use crate::page::Page;
 use crate::quoted::{are_plain, put_pieces};
 use crate::spaced::put_lower;
 use crate::spans::inner;
-use paper::forms;
+use paper::forms::Form;
 use text::parts::starts_with;
 
 // Puts a spelling that stands between two of this quote, quoted anew.
-fn put_quoted(out: &mut [u8], at: usize, quote: u8, w: &[u8]) -> usize
+fn put_quoted(page: &mut Page, quote: u8, w: &[u8])
     requires { quote < byte "\\" }
     ensures { (ps : List Piece) → w.now ≡ quote ∷ pieces_onto ps (quote ∷ []) → all (piece_rule quote) ps ≡ true
-        → Puts out.old at (λ next. quote ∷ bytes_onto quote (pieces_mean ps) (quote ∷ next)) out.new result }
+        → Puts page.old (λ next. quote ∷ bytes_onto quote (pieces_mean ps) (quote ∷ next)) page.new }
 {
     let spelling = inner(w);
     if are_plain(quote, spelling) {
-        return put(out, at, w);
+        page.put(w);
+    } else {
+        page.put_byte(quote);
+        put_pieces(page, quote, spelling);
+        page.put_byte(quote);
     }
-    let opened = put_byte(out, at, quote);
-    let closed = put_pieces(out, opened, quote, spelling);
-    put_byte(out, closed, quote)
 }
 
 // Puts a string; its first byte says whether it stands between backticks.
-fn put_string(out: &mut [u8], at: usize, w: &[u8]) -> usize
-    ensures { LeafPut 1 w.now out.old at out.new result }
+fn put_string(page: &mut Page, w: &[u8])
+    ensures { LeafPut 1 w.now page.old page.new }
 {
     if starts_with(w, 0, b"`") {
-        let spelling = inner(w);
-        let opened = put_byte(out, at, b'"');
-        let closed = put_backtick(out, opened, spelling);
-        return put_byte(out, closed, b'"');
+        page.put_byte(b'"');
+        put_backtick(page, inner(w));
+        page.put_byte(b'"');
+    } else {
+        put_quoted(page, b'"', w);
     }
-    put_quoted(out, at, b'"', w)
 }
 
-// Puts a value of this form that holds no items.
-pub fn put_leaf(out: &mut [u8], at: usize, form: u32, w: &[u8]) -> usize
-    ensures { LeafPut form w.now out.old at out.new result }
+// Puts a value of the form with this number that holds no items.
+pub fn put_leaf(page: &mut Page, form: u32, w: &[u8])
+    ensures { LeafPut form w.now page.old page.new }
 {
-    if form == forms::STRING {
-        return put_string(out, at, w);
+    if form == Form::String.number() {
+        put_string(page, w);
+    } else if form == Form::Character.number() {
+        put_quoted(page, b'\'', w);
+    } else if form == Form::Uuid.number() {
+        put_lower(page, w);
+    } else {
+        page.put(w);
     }
-    if form == forms::CHARACTER {
-        return put_quoted(out, at, b'\'', w);
-    }
-    if form == forms::UUID {
-        return put_lower(out, at, w);
-    }
-    put(out, at, w)
 }
 
 // Puts a map's key by its first byte: a string or a character quoted anew, any other as it stands.
-fn put_key(out: &mut [u8], at: usize, w: &[u8]) -> usize
-    ensures { KeyPut w.now out.old at out.new result }
+fn put_key(page: &mut Page, w: &[u8])
+    ensures { KeyPut w.now page.old page.new }
 {
     if starts_with(w, 0, b"\"") {
-        return put_quoted(out, at, b'"', w);
+        put_quoted(page, b'"', w);
+    } else if starts_with(w, 0, b"'") {
+        put_quoted(page, b'\'', w);
+    } else {
+        page.put(w);
     }
-    if starts_with(w, 0, b"'") {
-        return put_quoted(out, at, b'\'', w);
-    }
-    put(out, at, w)
 }
 
 // Puts what stands before a map's item: its key, a colon and one space.
-pub fn put_label(out: &mut [u8], at: usize, w: &[u8]) -> usize
-    ensures { LabelPut w.now out.old at out.new result }
+pub fn put_label(page: &mut Page, w: &[u8])
+    ensures { LabelPut w.now page.old page.new }
 {
-    let colon = put_key(out, at, w);
-    put(out, colon, b": ")
+    put_key(page, w);
+    page.put(b": ");
 }

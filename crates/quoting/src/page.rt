@@ -1,52 +1,67 @@
 // A page: bytes are put on it one behind the other. What has no room is left out, and the place is then behind the page's end for good.
 // Document 01, "Canonical form" and refusal 12.
-ghost use Rattle.std.specs.Prelude.{◌∷◌, ◌++◌};
+ghost use Rattle.std.specs.Prelude.{◌≡◌, true, false, List, ℕ, ◌∷◌, ◌++◌, ◌+◌, ◌≤◌, length};
 ghost use Rattle.paper.specs.Grammar.{tabs_onto};
 ghost use Rattle.quoting.specs.Page.{Puts};
 
-// Puts a byte, and answers the place behind it.
-pub fn put_byte(out: &mut [u8], at: usize, b: u8) -> usize
-    ensures { Puts out.old at (λ next. b ∷ next) out.new result }
-{
-    if out.len() <= at {
-        return out.len() + 1;
-    }
-    out[at] = b;
-    at + 1
+// The bytes of a page, and the place where it goes on.
+#[derive(Drop)]
+pub struct Page<'a> {
+    pub out: &'a mut [u8],
+    pub at: usize,
 }
 
-// Puts these bytes.
-pub fn put(out: &mut [u8], at: usize, part: &[u8]) -> usize
-    ensures { Puts out.old at (λ next. part.now ++ next) out.new result }
-{
-    if out.len() < at {
-        return at;
+impl<'a> Page<'a> {
+    // A page that is still empty.
+    pub fn new(out: &'a mut [u8]) -> Page<'a>
+        ensures lies { result.out.ghost_name ≡ out.entry.ghost_name }
+        ensures bytes { result.out.now ≡ out.old }
+        ensures place { result.at ≡ 0 }
+    {
+        Page { out, at: 0 }
     }
-    if out.len() - at < part.len() {
-        return out.len() + 1;
-    }
-    let mut i = 0;
-    while i < part.len() {
-        out[at + i] = part[i];
-        i += 1;
-    }
-    at + part.len()
-}
 
-// Puts so many tabs.
-pub fn put_tabs(out: &mut [u8], at: usize, tabs: usize) -> usize
-    ensures { Puts out.old at (tabs_onto tabs) out.new result }
-{
-    if out.len() < at {
-        return at;
+    // Whether there is room for so many bytes more. Where there is none, the place is behind the page's end from now on.
+    fn has_room(&mut self, more: usize) -> bool
+        ensures room { result ≡ true → (self.new ≡ self.old) × (self.new.at + more ≤ length self.new.out.now) }
+        ensures full { result ≡ false → (w : List ℕ) → length w ≡ more → Puts self.old (λ next. w ++ next) self.new }
+    {
+        if self.at <= self.out.len() && more <= self.out.len() - self.at {
+            return true;
+        }
+        self.at = self.out.len() + 1;
+        false
     }
-    if out.len() - at < tabs {
-        return out.len() + 1;
+
+    // Puts a byte.
+    pub fn put_byte(&mut self, b: u8)
+        ensures { Puts self.old (λ next. b ∷ next) self.new }
+    {
+        if self.has_room(1) {
+            self.out[self.at] = b;
+            self.at += 1;
+        }
     }
-    let mut i = 0;
-    while i < tabs {
-        out[at + i] = b'\t';
-        i += 1;
+
+    // Puts these bytes.
+    pub fn put(&mut self, part: &[u8])
+        ensures { Puts self.old (λ next. part.now ++ next) self.new }
+    {
+        if self.has_room(part.len()) {
+            let end = self.at + part.len();
+            self.out[self.at..end].copy_from_slice(part);
+            self.at = end;
+        }
     }
-    at + tabs
+
+    // Puts so many tabs.
+    pub fn put_tabs(&mut self, tabs: usize)
+        ensures { Puts self.old (tabs_onto tabs) self.new }
+    {
+        if self.has_room(tabs) {
+            let end = self.at + tabs;
+            self.out[self.at..end].fill(b'\t');
+            self.at = end;
+        }
+    }
 }

@@ -1,68 +1,62 @@
-// White space collapsed, as in annotations, and UUIDs in lower case.
+// White space collapsed, as in annotations and backtick strings, and UUIDs in lower case.
 // Document 01, "Canonical form": space and tab runs become one space, ends trimmed; UUIDs: lower case.
-ghost use Rattle.std.specs.Prelude.{◌≡◌, ◌∷◌, ◌++◌, map};
-ghost use Rattle.paper.specs.Found.{pick};
-ghost use Rattle.paper.specs.Bytes.{space};
+ghost use Rattle.std.specs.Prelude.{◌≡◌, true, false, ◌++◌, map};
+ghost use Rattle.paper.specs.Bytes.{is_white};
 ghost use Rattle.paper.specs.Values.{collapse};
 ghost use Rattle.paper.specs.Canonical.{lower};
 ghost use Rattle.quoting.specs.Page.{Puts};
+ghost use Rattle.quoting.specs.Spacing.{widened, gap_onto};
 
-use crate::page::put_byte;
-use text::classes::{is_upper, is_white};
+use crate::page::Page;
+use text::classes::is_white;
 
-// Puts a space where there is a gap.
-pub fn put_gap(out: &mut [u8], at: usize, gap: bool) -> usize
-    ensures { Puts out.old at (λ next. pick gap (space ∷ next) next) out.new result }
-{
-    if gap {
-        return put_byte(out, at, b' ');
+// What stands before the next byte: no word, a word directly, or a word and then white space.
+#[derive(Clone, Copy)]
+pub enum Spacing {
+    Start,
+    Word,
+    Gap,
+}
+
+impl Spacing {
+    // Passes a byte, and answers whether it is to be put. A space is put before it if it begins a word behind another.
+    pub fn passes(&mut self, page: &mut Page, b: u8) -> bool
+        ensures white { result ≡ false
+            → (is_white b ≡ true) × (self.new ≡ widened self.old) × (page.new ≡ page.old) }
+        ensures word { result ≡ true
+            → (is_white b ≡ false) × (self.new ≡ Spacing.Word) × Puts page.old (gap_onto self.old) page.new }
+    {
+        if is_white(b) {
+            if let Spacing::Word = *self {
+                *self = Spacing::Gap;
+            }
+            return false;
+        }
+        if let Spacing::Gap = *self {
+            page.put_byte(b' ');
+        }
+        *self = Spacing::Word;
+        true
     }
-    at
 }
 
 // Puts these bytes with each run of white space as one space, and none at the ends.
-pub fn put_collapsed(out: &mut [u8], at: usize, w: &[u8]) -> usize
-    ensures { Puts out.old at (λ next. collapse w.now ++ next) out.new result }
+pub fn put_collapsed(page: &mut Page, w: &[u8])
+    ensures { Puts page.old (λ next. collapse w.now ++ next) page.new }
 {
-    let mut to = at;
-    let mut i = 0;
-    let mut begun = false;
-    let mut gap = false;
-    while i < w.len() {
-        if is_white(w[i]) {
-            gap = begun;
-            i += 1;
-        } else {
-            let word = put_gap(out, to, gap);
-            to = put_byte(out, word, w[i]);
-            begun = true;
-            gap = false;
-            i += 1;
+    let mut spacing = Spacing::Start;
+    for b in w {
+        if spacing.passes(page, *b) {
+            page.put_byte(*b);
         }
     }
-    to
-}
-
-fn lower(b: u8) -> u8
-    ensures { result ≡ lower b }
-{
-    if is_upper(b) { b + 32 } else { b }
 }
 
 // Puts these bytes in lower case.
-pub fn put_lower(out: &mut [u8], at: usize, w: &[u8]) -> usize
-    ensures { Puts out.old at (λ next. map lower w.now ++ next) out.new result }
+pub fn put_lower(page: &mut Page, w: &[u8])
+    ensures { Puts page.old (λ next. map lower w.now ++ next) page.new }
 {
-    if out.len() < at {
-        return at;
+    for b in w {
+        page.put_byte(b.to_ascii_lowercase());
     }
-    if out.len() - at < w.len() {
-        return out.len() + 1;
-    }
-    let mut i = 0;
-    while i < w.len() {
-        out[at + i] = lower(w[i]);
-        i += 1;
-    }
-    at + w.len()
 }

@@ -5,7 +5,6 @@
 mod input;
 mod print;
 
-use paper::Answer;
 use std::io;
 use std::process::ExitCode;
 
@@ -40,9 +39,8 @@ fn main(rt: HostRuntime) -> ExitCode {
 fn print_answer(rt: &impl Print, table: &[u8], roll: &[u8]) -> io::Result<()> {
     let mut records = [0u32; RECORDS];
     let mut cells = [0u32; CELLS];
-    let answer = rolls::read(table, roll, &mut records, &mut cells);
-    let Answer::Accepted { place: _, count } = answer else {
-        return print::refusal(rt, answer);
-    };
-    print::records(rt, &records, count)
+    match rolls::read(table, roll, &mut records, &mut cells) {
+        Ok(read) => print::records(rt, &records, read.count),
+        Err(refused) => print::refusal(rt, refused),
+    }
 }

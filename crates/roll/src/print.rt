@@ -3,7 +3,7 @@
 ghost use Rattle.std.specs.Prelude.{◌*◌, ◌≤◌, length};
 ghost use Rattle.paper.specs.Roll.{record_cells};
 
-use paper::Answer;
+use paper::Refused;
 use std::io;
 
 // The cells of a record.
@@ -13,40 +13,28 @@ const RECORD: usize = 5;
 pub fn records(rt: &impl Print, cells: &[u32], count: usize) -> io::Result<()>
     requires { count * record_cells ≤ length cells.now }
 {
-    let mut i = 0;
-    while i < count {
-        let start = i * RECORD;
-        let end = start + RECORD;
-        record(rt, &cells[start..end])?;
-        i += 1;
+    for row in cells.chunks_exact(RECORD).take(count) {
+        record(rt, row)?;
     }
     Ok(())
 }
 
 // Prints numbers as decimals split by single spaces, and a line end.
 fn record(rt: &impl Print, cells: &[u32]) -> io::Result<()> {
-    let mut i = 0;
-    while i < cells.len() {
+    for (i, cell) in cells.iter().enumerate() {
         if 0 < i {
-            text(rt, " ")?;
+            rt.print(" ")?;
         }
-        cell(rt, cells[i])?;
-        i += 1;
+        rt.print(cell)?;
     }
-    text(rt, "\n")
-}
-
-fn cell(rt: &impl Print, cell: u32) -> io::Result<()> {
-    number(rt, cell as u64)
+    rt.println("")
 }
 
 // Prints the refusal of a roll.
-pub fn refusal(rt: &impl Print, answer: Answer) -> io::Result<()> {
-    text(rt, "refused ")?;
-    number(rt, answer.number() as u64)?;
-    text(rt, " ")?;
-    number(rt, answer.place() as u64)?;
-    text(rt, "\n")
+pub fn refusal(rt: &impl Print, refused: Refused) -> io::Result<()> {
+    let number = u32::from(refused.refusal);
+    let place = refused.place;
+    println!(rt; "refused {number} {place}")
 }
 
 // Says on standard error why the program failed. Where there is no memory for that text, it is said with the number behind it.
@@ -64,12 +52,4 @@ fn reason(text: &str) -> &str {
         Some((reason, _)) => reason,
         None => text,
     }
-}
-
-fn number(rt: &impl Print, number: u64) -> io::Result<()> {
-    rt.print(number)
-}
-
-fn text(rt: &impl Print, text: &str) -> io::Result<()> {
-    rt.print(text)
 }

@@ -1,7 +1,7 @@
 -- Adding a form to a roll: the first entry, the room behind the first bytes, what the writer leaves of it, and the further LF.
 -- Document 01, "Rolls", and refusals 12, 14 and 16. Assumes nothing.
 use Prim.Native.Nat.{ℕ, suc, ◌+◌, ◌-◌, ◌≤◌, ◌<◌, min}
-use mathlib.Core.Path.{◌≡◌, sym, ap, ap₂, ◌∙◌}
+use mathlib.Core.Path.{◌≡◌, refl, sym, ap, ap₂, ◌∙◌}
 use mathlib.Core.Bool.{true, false}
 use mathlib.Core.List.{List, [], ◌∷◌, ◌++◌, append-nil, append_assoc}
 use native.Mathlib.Nat.{zero-add}
@@ -10,10 +10,10 @@ use lib.ListN.{length, take, drop, get_or, set, replicate, length-append, take-a
 use lib.Seq.{length-take-le, drop-drop, drop-append-le, drop-cons, set_at}
 use borrow.Rule.Slice.PartMut.{mid_of, put_mid, put_same, mid_len}
 use borrow.Author.Tests.{le-leb, lt-leb}
-use Rattle.paper.specs.declared.Answer.{Answer}
-use Rattle.paper.specs.declared.Answer.TheVariants.{Accepted, Refused}
+use Rattle.std.specs.Prelude.{Ok, Err}
 use Rattle.paper.specs.declared.Refusal.{Refusal}
-use Rattle.paper.specs.Answer.{Told, accepted, refused, told}
+use Rattle.paper.specs.Answer.{Answer, accepted_at, refused_at, accepted, refused, told}
+use Rattle.paper.specs.declared.Told.{Told}
 use Rattle.paper.specs.Bytes.{lf}
 use Rattle.paper.specs.Tree.{Annotation, Sheet}
 use Rattle.paper.specs.Grammar.{blanks_onto}
@@ -21,16 +21,18 @@ use Rattle.paper.specs.Limits.{sheet_limit}
 use Rattle.paper.specs.Entries.{Entry, all_cells, no_parent, unnamed, annotation_entries, concept_entry, inside_entries, root_start, entries}
 use Rattle.paper.specs.Canonical.{canonical}
 use Rattle.paper.specs.Reading.{Reading}
-use Rattle.paper.specs.Writing.{Writing, not_written, written_at, write_form}
+use Rattle.paper.specs.Writing.{Begun, tree, unread, begin, Writing, not_written, written_at, write_form}
 use Rattle.paper.specs.Roll.{roll_limit, add_fits, ends_in_line, add_form, add_tree, adding}
-use Rattle.paper.proofs.Tests.{up_to}
+use Rattle.paper.proofs.Tests.{split, up_to}
 use Rattle.paper.proofs.Lists.{by_front}
-use Rattle.paper.proofs.Told.{number_positive}
+use Rattle.paper.proofs.Numbers.{number_positive}
 use Rattle.entries.specs.Laid.{entry_at}
 use Rattle.entries.proofs.Getting.{at_drop}
 use Rattle.printing.specs.Walking.{OfSheet}
 use Rattle.layout.proofs.WriteLaws.{form_fits_lem, form_not, Passed, Read}
 use Rattle.rolls.specs.Adding.{unended, SheetAdded}
+use Rattle.rolls.specs.Promises.{AddsUnder}
+use Rattle.paper.specs.declared.Refused.{Refused}
 
 -- ---- the first entry: an annotation's, or the root Concept's
 
@@ -130,7 +132,7 @@ module _ (out after form : List ℕ) (r : Answer) (e : record { answer = told r;
     pub answer : told r ≡ refused 12 0
     pub left : after ≡ out
 
-  pub wrote : (place count : ℕ) → r ≡ Accepted place count → Wrote count
+  pub wrote : (place count : ℕ) → r ≡ Ok (accepted_at place count) → Wrote count
   wrote place count is =
       up_to (length form) (min (length out) sheet_limit)
       (λ h.
@@ -144,7 +146,7 @@ module _ (out after form : List ℕ) (r : Answer) (e : record { answer = told r;
       let q = e ∙ form_not 0 out form h in
       absurd (omega (arith, sym (ap (λ (x : Told). x.number) (ap told is)) ∙ ap (λ (x : Writing). x.answer.number) q)))
 
-  pub unwritten : (why : Refusal) (place : ℕ) → r ≡ Refused why place → Unwritten
+  pub unwritten : (why : Refusal) (place : ℕ) → r ≡ Err (refused_at why place) → Unwritten
   unwritten why place is =
       up_to (length form) (min (length out) sheet_limit)
       (λ h.
@@ -157,12 +159,12 @@ module _ (out after form : List ℕ) (r : Answer) (e : record { answer = told r;
 -- the answer of a roll that does not end in LF, seen on a page
 module _ (page after form : List ℕ) (r : Answer) (e : record { answer = told r; out = after; cells = replicate 0 0 } ≡ write_form 0 page form)
     (room n : ℕ) (few : room < sheet_limit) (size : length page ≡ room) where
-  pub page_long : (why : Refusal) (place : ℕ) → r ≡ Refused why place → told r ≡ unended form room n
+  pub page_long : (why : Refusal) (place : ℕ) → r ≡ Err (refused_at why place) → told r ≡ unended form room n
   page_long why place is =
       let none = unwritten page after form r e why place is in
       none.answer ∙ rw (lt-leb (length form) room (omega (arith, none.long)))
 
-  pub page_holds : (place count : ℕ) → r ≡ Accepted place count → refused 14 n ≡ unended form room n
+  pub page_holds : (place count : ℕ) → r ≡ Ok (accepted_at place count) → refused 14 n ≡ unended form room n
   page_holds place count is =
       let did = wrote page after form r e place count is in
       rw (le-leb (length form) room (omega (arith, did.room)))
@@ -197,7 +199,7 @@ module _ (roll form after : List ℕ) (n room : ℕ) (r : Answer) (is : room ≡
   part_length : length (mid_of n size roll) ≡ room - 1
   part_length = mid_len n (n + (room - 1)) roll (omega arith) ∙ omega arith
 
-  module _ (place count : ℕ) (told_so : r ≡ Accepted place count) where
+  module _ (place count : ℕ) (told_so : r ≡ Ok (accepted_at place count)) where
     did : Wrote (mid_of n size roll) after form r e count
     did = wrote (mid_of n size roll) after form r e place count told_so
 
@@ -216,7 +218,7 @@ module _ (roll form after : List ℕ) (n room : ℕ) (r : Answer) (is : room ≡
         ap₂ (λ (m : ℕ) (l : List ℕ). record { answer = accepted 0 m; out = l; cells = replicate lent 0 }) total put
         ∙ add_ended lent roll form n room is (omega (arith, did.room, part_length)) ended
 
-  pub form_long : (lent : ℕ) (why : Refusal) (place : ℕ) → r ≡ Refused why place
+  pub form_long : (lent : ℕ) (why : Refusal) (place : ℕ) → r ≡ Err (refused_at why place)
       → record { answer = told r; out = put_mid n size roll after; cells = replicate lent 0 } ≡ add_form lent roll n form
   form_long lent why place told_so =
       let none = unwritten (mid_of n size roll) after form r e why place told_so in
@@ -226,15 +228,41 @@ module _ (roll form after : List ℕ) (n room : ℕ) (r : Answer) (is : room ≡
 
 -- ---- adding, from the table on
 
--- a refused reading is passed through
-pub refused_added : (table s roll : List ℕ) (n lent : ℕ) (answer : Told) (after : List ℕ) → Passed table s lent answer after
-    → record { answer = answer; out = roll; cells = after } ≡ adding table s roll n lent
+-- a refused table or sheet is passed through
+pub under_refused : (table s roll : List ℕ) (n lent : ℕ) (r : Answer) (e : Refused) (zeros : List ℕ) → Passed table s lent (told (Err e)) zeros → r ≡ Err e
+    → AddsUnder table s roll n lent (told r) roll
 unfolding adding
-refused_added table s roll n lent answer after p =
-    rw (p.begins, adding) (ap (λ (x : Reading). record { answer = x.answer; out = roll; cells = x.cells }) p.is)
+under_refused table s roll n lent r e zeros p is =
+    let k : record { answer = told (Err e); out = roll; cells = zeros } ≡ adding table s roll n lent =
+    rw (p.begins, adding) (ap (λ (x : Reading). record { answer = x.answer; out = roll; cells = x.cells }) p.is) in
+    rw is (ap (λ (x : Writing). x.answer) k, ap (λ (x : Writing). x.out) k)
 
-pub sheet_added : (table s roll held after cells : List ℕ) (n lent : ℕ) (answer : Told) → Read table s lent held
-    → SheetAdded s held roll n answer after → cells ≡ replicate lent 0
-    → record { answer = answer; out = after; cells = cells } ≡ adding table s roll n lent
+-- what adding the tree leaves that the sheet reads to
+pub sheet_added : (table s roll held after : List ℕ) (n lent : ℕ) (answer : Told) → Read table s lent held → SheetAdded s held roll n answer after
+    → AddsUnder table s roll n lent answer after
 unfolding adding
-sheet_added table s roll held after cells n lent answer read f z = rw (read.begins, adding, z) (f read.it lent read.of)
+sheet_added table s roll held after n lent answer read f =
+    let e : record { answer = answer; out = after; cells = replicate lent 0 } ≡ adding table s roll n lent =
+    rw (read.begins, adding) (f read.it lent read.of) in
+    (ap (λ (x : Writing). x.answer) e, ap (λ (x : Writing). x.out) e)
+
+-- every cell is zero after every answer
+form_cells : (lent n : ℕ) (roll form : List ℕ) → (add_form lent roll n form).cells ≡ replicate lent 0
+unfolding add_form
+form_cells lent n roll form =
+    split (add_fits roll n form)
+    (λ f. split (ends_in_line roll n) (λ g. rw (f, add_form, g)) (λ g. rw (f, add_form, g)))
+    (λ f. rw (f, add_form))
+
+tree_cells : (lent n : ℕ) (roll : List ℕ) (t : Sheet) → (add_tree lent roll n t).cells ≡ replicate lent 0
+unfolding add_tree
+tree_cells lent n roll t =
+    by_front t.annotations (λ e. rw (e, add_tree) (form_cells lent n roll (canonical t))) (λ a notes e. rw (e, add_tree))
+
+pub adding_cells : (table s roll : List ℕ) (n lent : ℕ) → (adding table s roll n lent).cells ≡ replicate lent 0
+unfolding adding
+adding_cells table s roll n lent = by_tree (begin table s lent) refl
+  where
+    by_tree : (b : Begun) → begin table s lent ≡ b → (adding table s roll n lent).cells ≡ replicate lent 0
+    by_tree (unread k at) b = rw (b, adding)
+    by_tree (tree t) b = rw (b, adding) (tree_cells lent n roll t)

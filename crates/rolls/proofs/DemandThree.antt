@@ -6,15 +6,14 @@ use mathlib.Core.Bool.{true}
 use mathlib.Core.List.{List, [], ◌∷◌, ◌++◌}
 use native.Mathlib.Omega.{arith}
 use lib.ListN.{length, take, replicate}
-use Rattle.paper.specs.Answer.{told}
-use Rattle.paper.specs.declared.Answer.{Answer}
-use Rattle.paper.specs.declared.Answer.TheVariants.{Accepted}
+use Rattle.std.specs.Prelude.{Ok}
+use Rattle.paper.specs.Answer.{Answer, accepted_at, told}
 use Rattle.paper.specs.Bytes.{lf}
 use Rattle.paper.specs.Reading.{Reading, reading}
 use Rattle.paper.specs.Writing.{Writing}
 use Rattle.paper.specs.Roll.{roll_limit, record_cells, parts, parts_of, together, Record, record_of, records_of, filled_records, RollReading, roll_room}
 use Rattle.paper.specs.Roll.{Written, begun, grown, Hurt}
-use Rattle.paper.proofs.Told.{told_injective, told_apart}
+use Rattle.paper.proofs.Numbers.{told_injective, told_apart}
 use Rattle.paper.proofs.Rolls.{records_many, listing, records_around}
 use Rattle.paper.proofs.Boundaries.{Still, Singles}
 use Rattle.paper.proofs.BeforeSheets.{OnlyBlank}
@@ -24,7 +23,7 @@ use Rattle.rolls.specs.Promises.{ReadsRoll, AddsSheet}
 
 -- an acceptance of the whole roll with these records, nothing behind them, and entry cells that are zero
 pub record ListsAll (roll : List ℕ) (es : List Record) (records lent : ℕ) (r : Answer) (after cells : List ℕ) : Type 0 where
-  pub answer : r ≡ Accepted (length roll) (length es)
+  pub answer : r ≡ Ok (accepted_at (length roll) (length es))
   pub are : after ≡ filled_records records es
   pub zeros : cells ≡ replicate lent 0
 
@@ -33,7 +32,7 @@ lists : {x : RollReading} {roll : List ℕ} {records lent : ℕ} {r : Answer} {a
 lists {roll = roll} {r = r} es e l =
     let q = e ∙ l in
     record {
-      answer = told_injective r (Accepted (length roll) (length es)) (ap (λ (x : RollReading). x.answer) q);
+      answer = told_injective r (Ok (accepted_at (length roll) (length es))) (ap (λ (x : RollReading). x.answer) q);
       are = ap (λ (x : RollReading). x.records) q;
       zeros = ap (λ (x : RollReading). x.cells) q;
     }
@@ -58,7 +57,7 @@ pub record ReadAlone (table roll : List ℕ) (records lent : ℕ) (r : Answer) (
   pub lists : ListsAll roll (records_of table lent (length lead) sheets) records lent r after cells
 
 pub read_each_alone : (table roll : List ℕ) (records lent place many : ℕ) (after cells : List ℕ)
-    → ReadsRoll table roll records lent (Accepted place many) after cells → ReadAlone table roll records lent (Accepted place many) after cells
+    → ReadsRoll table roll records lent (Ok (accepted_at place many)) after cells → ReadAlone table roll records lent (Ok (accepted_at place many)) after cells
 read_each_alone table roll records lent place many after cells e =
     let a = each_alone table roll records lent place many (sym (ap (λ (x : RollReading). x.answer) e)) in
     record {
@@ -74,7 +73,7 @@ read_each_alone table roll records lent place many after cells e =
 
 -- the records that an acceptance counts lie in the lent cells
 pub records_fit : (table roll : List ℕ) (records lent place many : ℕ) (after cells : List ℕ)
-    → ReadsRoll table roll records lent (Accepted place many) after cells → many * record_cells ≤ records
+    → ReadsRoll table roll records lent (Ok (accepted_at place many)) after cells → many * record_cells ≤ records
 records_fit table roll records lent place many after cells e =
     let a = read_each_alone table roll records lent place many after cells e in
     let n : many ≡ length a.sheets =
@@ -87,7 +86,7 @@ records_fit table roll records lent place many after cells e =
 pub data Kept (table : List ℕ) : List ℕ → Type 0 where
   empty : Kept table []
   added : (r s spare : List ℕ) (lent total : ℕ) (after cells : List ℕ) → Kept table r
-      → AddsSheet table s (r ++ spare) (length r) lent (Accepted 0 total) after cells → Kept table (take total after)
+      → AddsSheet table s (r ++ spare) (length r) lent (Ok (accepted_at 0 total)) after cells → Kept table (take total after)
 
 kept_written : {table r : List ℕ} → Kept table r → Written table r
 kept_written empty = begun
@@ -123,8 +122,8 @@ module _ (table roll : List ℕ) (before : List (List ℕ)) (p : List ℕ) (othe
 
   -- read by itself or in its roll it is no acceptance, where at least the ">" of its end is lost, and its line end is kept
   pub read_cut_is_refused : Kept table roll → parts_of roll ≡ parts [] (before ++ (p ∷ others)) → (k : ℕ) → k + 3 ≤ length p
-      → (r : Answer) (cells : List ℕ) → ReadsSheet table (take k p ++ (lf ∷ [])) lent r cells → (place many : ℕ) → r ≡ Accepted place many → ⊥
+      → (r : Answer) (cells : List ℕ) → ReadsSheet table (take k p ++ (lf ∷ [])) lent r cells → (place many : ℕ) → r ≡ Ok (accepted_at place many) → ⊥
   read_cut_is_refused kept e k l r cells a place many y =
       let c = cut_is_refused table roll before p others k lent (kept_written kept) e l in
-      let q : told (Accepted place many) ≡ (reading table (take k p ++ (lf ∷ [])) lent).answer = ap told (sym y) ∙ ap (λ (x : Reading). x.answer) a in
+      let q : told (Ok (accepted_at place many)) ≡ (reading table (take k p ++ (lf ∷ [])) lent).answer = ap told (sym y) ∙ ap (λ (x : Reading). x.answer) a in
       told_apart c.number c.place place many c.least (sym (q ∙ ap (λ (x : Reading). x.answer) c.is))

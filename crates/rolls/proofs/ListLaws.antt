@@ -8,10 +8,10 @@ use lib.ListN.{length, take, replicate}
 use lib.Seq.{sets, length-take-le}
 use lib.Dec.{ltb}
 use borrow.Author.Tests.{lt-ltb, le-ltb, ltb-false, ne_eqb}
-use Rattle.paper.specs.declared.Answer.{Answer}
-use Rattle.paper.specs.declared.Answer.TheVariants.{Accepted, Refused}
+use Rattle.std.specs.Prelude.{Result, Ok, Err}
 use Rattle.paper.specs.declared.Refusal.{Refusal}
-use Rattle.paper.specs.Answer.{Told, accepted, refused, number_of, told}
+use Rattle.paper.specs.Answer.{Answer, accepted_at, refused_at, accepted, refused, number_of, told}
+use Rattle.paper.specs.declared.Told.{Told}
 use Rattle.paper.specs.Found.{Found, found, fault, and_then}
 use Rattle.paper.specs.Bytes.{is_blank, front, behind}
 use Rattle.paper.specs.Modes.{Modes, mode_table, read_table}
@@ -19,16 +19,15 @@ use Rattle.paper.specs.Tree.{Blank}
 use Rattle.paper.specs.Reading.{blank_lines, last_blanks}
 use Rattle.paper.specs.Roll.{roll_limit, record_cells, Parts, parts, parts_of, Record, all_records, filled_records}
 use Rattle.paper.specs.Roll.{RollReading, roll_room, only_blanks, roll_faults, roll_records, roll_reading}
-use Rattle.paper.proofs.Told.{number_positive}
+use Rattle.paper.proofs.Numbers.{number_positive}
 use Rattle.paper.proofs.Tests.{split}
 use Rattle.paper.proofs.Finds.{Reads}
 use Rattle.paper.proofs.Lines.{ReadBlanks, blanks_reads}
 use Rattle.paper.proofs.Rolls.{records_many}
 use Rattle.modes.specs.Table.{Valid}
 use Rattle.modes.proofs.Answered.{number_told, count_told}
-use Rattle.lines.specs.Parts.{Seen, seen, passed}
-use Rattle.lines.specs.declared.part.Part.{Part}
-use Rattle.lines.specs.declared.part.Part.TheVariants.{Read, Refused as NotRead}
+use Rattle.lines.specs.Parts.{Seen, reached, passed}
+use Rattle.paper.specs.declared.Refused.{Refused}
 use Rattle.sheets.proofs.SheetLaws.{all_zero}
 use Rattle.rolls.specs.Boundaries.{sheets_in, BoundaryFrom, sheets_from}
 use Rattle.rolls.specs.Records.{lay_records, unread, unread_in, records_in}
@@ -37,7 +36,7 @@ use Rattle.rolls.proofs.Passing.{roll_parts}
 use Rattle.rolls.proofs.RecordLaws.{lay_behind, lay_stands, lay_over, lay_filled, unread_many}
 
 -- a refusal has no acceptance's number
-not_accepted : (a : Answer) (why : Refusal) (p : ℕ) → a ≡ Refused why p → (told a).number ≡ 0 → ⊥
+not_accepted : (a : Answer) (why : Refusal) (p : ℕ) → a ≡ Err (refused_at why p) → (told a).number ≡ 0 → ⊥
 not_accepted a why p q z = number_positive why (sym (ap (λ (x : Answer). (told x).number) q) ∙ z)
 
 -- a fault before the first boundary has a number
@@ -76,7 +75,7 @@ module _ (table r : List ℕ) (lent : ℕ) (records : List ℕ) where
       go (parts lead sheets) = rw (lt-ltb roll_limit (length r) h, roll_faults)
 
   module _ (h : length r ≤ roll_limit) where
-    pub table_bad : {after : List ℕ} (a : Answer) (why : Refusal) (p : ℕ) → told a ≡ read_table table → a ≡ Refused why p → Lists table r lent records (told a) after
+    pub table_bad : {after : List ℕ} (a : Answer) (why : Refusal) (p : ℕ) → told a ≡ read_table table → a ≡ Err (refused_at why p) → Lists table r lent records (told a) after
     unfolding roll_faults read_table
     table_bad a why p e q = refuses (go (mode_table table) refl (parts_of r)) (not_accepted a why p q)
       where
@@ -94,23 +93,23 @@ lead_long : {r : List ℕ} {first : ℕ} → BoundaryFrom r 0 first → length (
 lead_long {r} {first} b = length-take-le first r b.begins.inside
 
 -- what stands before the first boundary
-module _ (table r records : List ℕ) (h : length r ≤ roll_limit) (v : Valid table) {first : ℕ} (b : BoundaryFrom r 0 first) (lead : Part)
-    (e : seen lead ≡ passed (take first r) (only_blanks (take first r))) where
-  pub lead_bad : (lent : ℕ) {after : List ℕ} (why : Refusal) (place : ℕ) → lead ≡ NotRead why place → Lists table r lent records (refused 14 place) after
+module _ (table r records : List ℕ) (h : length r ≤ roll_limit) (v : Valid table) {first : ℕ} (b : BoundaryFrom r 0 first) (lead : Result ℕ Refused)
+    (e : reached lead ≡ passed (take first r) (only_blanks (take first r))) where
+  pub lead_bad : (lent : ℕ) {after : List ℕ} (f : Refused) → lead ≡ Err f → Lists table r lent records (refused 14 f.place) after
   unfolding roll_faults
-  lead_bad lent why place q = refuses table r lent records (go (only_blanks (take first r)) refl (sym (ap seen q) ∙ e)) (λ z. omega arith)
+  lead_bad lent f q = refuses table r lent records (go (only_blanks (take first r)) refl (sym (ap reached q) ∙ e)) (λ z. omega arith)
     where
-      go : (x : Found (List ℕ)) → only_blanks (take first r) ≡ x → seen (NotRead why place) ≡ passed (take first r) x
-          → refused 14 place ≡ faults table r records
-      go (found bs left) f g = absurd (number_positive why (ap (λ (s : Seen). s.number) g))
-      go (fault n left) f g =
-          rw (roll_parts b, le-ltb roll_limit (length r) h, roll_faults, v, f) (ap (refused 14) (ap (λ (s : Seen). s.place) g))
+      go : (x : Found (List ℕ)) → only_blanks (take first r) ≡ x → reached (Err f) ≡ passed (take first r) x
+          → refused 14 f.place ≡ faults table r records
+      go (found bs left) k g = absurd (number_positive f.refusal (ap (λ (s : Seen). s.number) g))
+      go (fault n left) k g =
+          rw (roll_parts b, le-ltb roll_limit (length r) h, roll_faults, v, k) (ap (refused 14) (ap (λ (s : Seen). s.place) g))
 
-  pub lead_good : (end made own : ℕ) → lead ≡ Read end made own → Led table r records first
+  pub lead_good : (end : ℕ) → lead ≡ Ok end → Led table r records first
   unfolding roll_faults
-  lead_good end made own q = record { boundary = b; counted = go (only_blanks (take first r)) refl (sym (ap seen q) ∙ e) }
+  lead_good end q = record { boundary = b; counted = go (only_blanks (take first r)) refl (sym (ap reached q) ∙ e) }
     where
-      go : (x : Found (List ℕ)) → only_blanks (take first r) ≡ x → seen (Read end made own) ≡ passed (take first r) x
+      go : (x : Found (List ℕ)) → only_blanks (take first r) ≡ x → reached (Ok end) ≡ passed (take first r) x
           → counted_from (roll_room (length records)) r first (sheets_from r first) ≡ faults table r records
       go (found bs left) f g =
           ap (λ (n : ℕ). counted_from (roll_room (length records)) r n (sheets_from r first)) (sym (lead_long b))
@@ -120,10 +119,10 @@ module _ (table r records : List ℕ) (h : length r ≤ roll_limit) (v : Valid t
 -- ---- the sheets are found, or one is over
 
 module _ {table r records : List ℕ} {first : ℕ} (l : Led table r records first) (a : Answer) {mid : List ℕ} (g : FindsSheets r first records (told a) mid) where
-  pub sheets_bad : (lent : ℕ) (why : Refusal) (p : ℕ) → a ≡ Refused why p → Lists table r lent records (told a) mid
+  pub sheets_bad : (lent : ℕ) (why : Refusal) (p : ℕ) → a ≡ Err (refused_at why p) → Lists table r lent records (told a) mid
   sheets_bad lent why p k = refuses table r lent records (g.says ∙ l.counted) (not_accepted a why p k)
 
-  module _ (place count : ℕ) (k : a ≡ Accepted place count) where
+  module _ (place count : ℕ) (k : a ≡ Ok (accepted_at place count)) where
     abbrev sheets : List (List ℕ)
     sheets = sheets_from r first
 
@@ -175,8 +174,8 @@ module _ {table r records : List ℕ} {first : ℕ} (l : Led table r records fir
 module _ (table r : List ℕ) (lent : ℕ) (records : List ℕ) where
   -- the records fit their cells
   pub records_fit : (a : Answer) {mid : List ℕ} → Lists table r lent records (told a) mid → (n : ℕ) → n ≡ (told a).count → n * record_cells ≤ length records
-  records_fit (Accepted p c) g n e = omega (arith, (g.counts refl).1)
-  records_fit (Refused why p) g n e = omega arith
+  records_fit (Ok a) g n e = omega (arith, (g.counts refl).1)
+  records_fit (Err f) g n e = omega arith
 
   -- the records of an acceptance, and none of a refusal
   made : (p c : ℕ) (q : Parts) → roll_records table lent (accepted p c) q ≡ records_in table lent q
@@ -190,13 +189,13 @@ module _ (table r : List ℕ) (lent : ℕ) (records : List ℕ) where
   zeroed : (a : Answer) (mid : List ℕ) → Lists table r lent records (told a) mid → length mid ≡ length records → (n : ℕ) → n ≡ (told a).count
       → sets mid (n * record_cells) (replicate (length mid - n * record_cells) 0) ≡ filled_records (length records) (roll_records table lent (told a) (parts_of r))
   unfolding filled_records all_records
-  zeroed (Accepted p c) mid g same n e =
+  zeroed (Ok a) mid g same n e =
       let es : List Record = records_in table lent (parts_of r) in
       let as_many : length es ≡ n = records_in_lem table lent (parts_of r) ∙ sym (g.counts refl).0 ∙ sym e in
-      rw (same, g.laid refl, ← as_many, made p c (parts_of r)) (lay_filled records es (omega (arith, as_many, (g.counts refl).1)))
-  zeroed (Refused why p) mid g same n e =
+      rw (same, g.laid refl, ← as_many, made a.place a.count (parts_of r)) (lay_filled records es (omega (arith, as_many, (g.counts refl).1)))
+  zeroed (Err f) mid g same n e =
       let all : length mid ≡ length records - record_cells * 0 = omega arith in
-      rw (none_made why p (parts_of r), e) (all_zero mid ∙ ap (λ (k : ℕ). replicate k 0) all)
+      rw (none_made f.refusal f.place (parts_of r), e) (all_zero mid ∙ ap (λ (k : ℕ). replicate k 0) all)
 
   pub roll_done : (a : Answer) (mid : List ℕ) → Lists table r lent records (told a) mid → length mid ≡ length records → (n : ℕ) → n ≡ (told a).count
       → (after cells : List ℕ) → after ≡ sets mid (n * record_cells) (replicate (length mid - n * record_cells) 0) → cells ≡ replicate lent 0

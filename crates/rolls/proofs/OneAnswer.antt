@@ -3,10 +3,10 @@
 use Prim.Native.Nat.{ℕ}
 use mathlib.Core.Path.{◌≡◌, sym, ap, ◌∙◌}
 use mathlib.Core.List.{List}
+use Rattle.paper.specs.Answer.{Answer}
 use Rattle.paper.specs.Roll.{RollReading}
 use Rattle.paper.specs.Writing.{Writing}
-use Rattle.paper.specs.declared.Answer.{Answer}
-use Rattle.paper.proofs.Told.{told_injective}
+use Rattle.paper.proofs.Numbers.{told_injective}
 use Rattle.rolls.specs.Promises.{ReadsRoll, AddsSheet}
 
 pub one_answer_rolls_read : (table roll : List ℕ) (records lent : ℕ) (r r' : Answer) (kept kept' cells cells' : List ℕ) → ReadsRoll table roll records lent r kept cells

@@ -1,6 +1,6 @@
 -- Bytes of a roll that are passed over on the way to a boundary, and the sheet that runs to it. Over plain lists. Assumes nothing.
 -- Document 01, "Rolls".
-use Prim.Native.Nat.{ℕ, ◌+◌, ◌-◌, ◌≤◌, ◌<◌}
+use Prim.Native.Nat.{ℕ, zero, suc, ◌+◌, ◌-◌, ◌≤◌, ◌<◌}
 use mathlib.Core.Path.{◌≡◌, refl, sym, ap, ◌∙◌}
 use mathlib.Core.Bool.{Bool, true, false, ◌&&◌}
 use mathlib.Core.List.{List, [], ◌∷◌, ◌++◌, append_assoc, append-nil}
@@ -12,6 +12,7 @@ use borrow.Author.Tests.{eq-eqb, ne_eqb}
 use Rattle.paper.specs.Bytes.{byte, bytes, is_upper, starts_in, starts_with, lf}
 use Rattle.paper.specs.Roll.{is_boundary, ends_line, Parts, parts, in_front, parts_from, parts_of}
 use Rattle.paper.proofs.Tests.{split, true_false, up_to}
+use Rattle.text.specs.Runs.{AllFrom}
 use Rattle.text.proofs.Places.{here}
 use Rattle.lines.specs.Parts.{part}
 use Rattle.rolls.specs.Boundaries.{sheets_in, led, may_begin, Passes, LineTo, Begins, BoundaryFrom, sheets_from, SheetTo}
@@ -129,7 +130,7 @@ unfolding is_boundary starts_with
 other_first c l e = rw (e, starts_with)
 
 -- an LF that no "<" follows, or another byte
-no_begin_passes : (r : List ℕ) (at : ℕ) → at + 1 < length r → may_begin (get_or r at 0) (get_or r (at + 1) 0) ≡ false → Passes false false r at (at + 1)
+pub no_begin_passes : (r : List ℕ) (at : ℕ) → at + 1 < length r → may_begin (get_or r at 0) (get_or r (at + 1) 0) ≡ false → Passes false false r at (at + 1)
 no_begin_passes r at h e =
     split (ends_line (get_or r at 0))
     (λ t. let other : eqb (get_or r (at + 1) 0) (byte "<") ≡ false = rw t at e in
@@ -137,12 +138,18 @@ no_begin_passes r at h e =
     passes_then (rw t at (byte_passes r at (omega arith))) (no_boundary none (passes_none false r (at + 1) (omega arith))))
     (λ t. rw t at (byte_passes r at (omega arith)))
 
--- one byte of a block further; so many places at which a sheet may begin were counted
-pub block_on : (r : List ℕ) (at i count one : ℕ) → at + i + 1 < length r → (count ≡ 0 → Passes false false r at (at + i))
-    → (one ≡ 0 → may_begin (get_or r (at + i) 0) (get_or r (at + i + 1) 0) ≡ false) → count + one ≡ 0 → Passes false false r at (at + (i + 1))
-block_on r at i count one h so_far none e =
-    let next : at + (i + 1) ≡ at + i + 1 = omega arith in
-    rw next (passes_then (so_far (omega arith)) (no_begin_passes r (at + i) h (none (omega arith))))
+-- bytes over each of which no sheet begins
+pub all_pass : {kind : ℕ → Type 0} {r : List ℕ} {at to : ℕ} → AllFrom kind at to → to ≤ length r
+    → ((i : ℕ) → at ≤ i → i < to → kind i → Passes false false r i (i + 1)) → Passes false false r at to
+all_pass {kind} {r} {at} {to} f h each =
+    let end : at + (to - at) ≡ to = omega (arith, f.ahead) in
+    rw end at (go (to - at) (omega (arith, f.ahead)))
+  where
+    go : (n : ℕ) → at + n ≤ to → Passes false false r at (at + n)
+    go zero l = let none : at + 0 ≡ at = omega arith in rw none (passes_none false r at (omega arith))
+    go (suc n) l =
+        let next : at + suc n ≡ at + n + 1 = omega arith in
+        rw next (passes_then (go n (omega arith)) (each (at + n) (omega arith) (omega arith) (f.each (at + n) (omega arith) (omega arith))))
 
 -- ---- sheets from a boundary on
 

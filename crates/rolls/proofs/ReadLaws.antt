@@ -7,7 +7,7 @@ use mathlib.Core.List.{List, [], ◌∷◌, ◌++◌}
 use native.Mathlib.Omega.{arith}
 use lib.ListN.{length, drop, length-append, length-drop}
 use lib.Seq.{drop-drop, take-append_seam, drop-append_seam}
-use Rattle.paper.specs.Answer.{Told}
+use Rattle.paper.specs.declared.Told.{Told}
 use Rattle.paper.specs.Found.{Found, found, fault}
 use Rattle.paper.specs.Tree.{Sheet}
 use Rattle.paper.specs.Limits.{sheet_limit, entry_limit}

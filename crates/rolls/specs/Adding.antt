@@ -1,7 +1,8 @@
 -- What adding leaves of the roll, for the tree that a sheet and its entries are of.
 -- Document 01, "Rolls", and refusals 12, 14 and 16.
 use Rattle.std.specs.Prelude.{ℕ, ◌≡◌, List, length, replicate, leb}
-use Rattle.paper.specs.Answer.{Told, refused}
+use Rattle.paper.specs.Answer.{refused}
+use Rattle.paper.specs.declared.Told.{Told}
 use Rattle.paper.specs.Found.{pick}
 use Rattle.paper.specs.Tree.{Sheet}
 use Rattle.paper.specs.Canonical.{canonical}

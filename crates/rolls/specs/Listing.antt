@@ -1,7 +1,8 @@
 -- Listing a roll: what finding its sheets, reading them and both together answer and write where nothing is zeroed.
 -- Document 01, "Rolls" and "Order".
 use Rattle.std.specs.Prelude.{ℕ, suc, ◌+◌, ◌*◌, ◌≤◌, ◌≡◌, true, false, List, [], ◌∷◌, ◌++◌, length, take, drop, ltb}
-use Rattle.paper.specs.Answer.{Told, accepted, refused}
+use Rattle.paper.specs.Answer.{accepted, refused}
+use Rattle.paper.specs.declared.Told.{Told}
 use Rattle.paper.specs.Reading.{reading}
 use Rattle.paper.specs.Roll.{record_cells, parts_of, together, all_records, roll_room, roll_faults}
 use Rattle.lines.specs.Parts.{part}

@@ -2,7 +2,8 @@
 -- Document 01, "Rolls".
 use Rattle.std.specs.Prelude.{ℕ, ◌+◌, ◌*◌, List, [], ◌∷◌, length, get_or}
 use Rattle.std.proofs.lemmas.List.Edits.{sets}
-use Rattle.paper.specs.Answer.{Told, accepted}
+use Rattle.paper.specs.Answer.{accepted}
+use Rattle.paper.specs.declared.Told.{Told}
 use Rattle.paper.specs.Roll.{Record, record_cells, all_records, records_of, Parts, parts}
 use Rattle.rolls.specs.declared.records.Record.{Record as InCode}
 

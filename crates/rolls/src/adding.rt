@@ -9,7 +9,8 @@ ghost use Rattle.rolls.specs.Adding.{IsRead, SheetAdded, FormAdded, Unended};
 use crate::LIMIT;
 use entries::get;
 use layout::write_form;
-use paper::{Answer, Refusal, kinds};
+use paper::kinds::Kind;
+use paper::{Accepted, Answer, Refusal};
 use text::utf8::Cursor;
 
 // Adds the form of the sheet that has just these entries, where no annotation stands before its root.
@@ -18,11 +19,8 @@ pub fn add_sheet(sheet: &[u8], cells: &[u32], roll: &mut [u8], n: usize) -> Answ
     ensures { SheetAdded sheet.now cells.now roll.old n (told result) roll.new }
 {
     let first = get(cells, 0);
-    if first.kind == kinds::ANNOTATION {
-        return Answer::Refused {
-            refusal: Refusal::RootAnnotated,
-            place: first.start as usize - 1,
-        };
+    if first.kind == Kind::Annotation.number() {
+        return Err(Refusal::RootAnnotated.at(first.start as usize - 1));
     }
     add_form(sheet, cells, roll, n)
 }
@@ -35,26 +33,20 @@ fn add_form(sheet: &[u8], cells: &[u32], roll: &mut [u8], n: usize) -> Answer
 {
     let room = room_behind(roll.len(), n);
     if room == 0 {
-        return Answer::Refused {
-            refusal: Refusal::NoRoom,
-            place: 0,
-        };
+        return Err(Refusal::NoRoom.at(0));
     }
     let most = room - 1;
     if !ends_in_line(roll, n) {
         return refuse_unended(sheet, cells, most, n);
     }
     let last = n + most;
-    let written = write_form(sheet, cells, &mut roll[n..last]);
-    let Answer::Accepted { place: _, count } = written else {
-        return written;
-    };
-    let end = n + count;
+    let written = write_form(sheet, cells, &mut roll[n..last])?;
+    let end = n + written.count;
     roll[end] = b'\n';
-    Answer::Accepted {
+    Ok(Accepted {
         place: 0,
         count: end + 1,
-    }
+    })
 }
 
 // How many bytes may be added behind the first n of a roll with this room: up to its end, up to the limit of a roll, and no more than a
@@ -62,16 +54,7 @@ fn add_form(sheet: &[u8], cells: &[u32], roll: &mut [u8], n: usize) -> Answer
 fn room_behind(room: usize, n: usize) -> usize
     ensures { result ≡ min (min room roll_limit - n) sheet_limit }
 {
-    let end = if LIMIT < room { LIMIT } else { room };
-    if end <= n {
-        return 0;
-    }
-    let left = end - n;
-    if Cursor::LIMIT < left {
-        Cursor::LIMIT
-    } else {
-        left
-    }
+    room.min(LIMIT).saturating_sub(n).min(Cursor::LIMIT)
 }
 
 // Whether the first n bytes are none, or end in LF.
@@ -89,12 +72,6 @@ fn refuse_unended(sheet: &[u8], cells: &[u32], room: usize, n: usize) -> Answer
     ensures { Unended sheet.now cells.now room n (told result) }
 {
     let mut page = [0; Cursor::LIMIT];
-    let written = write_form(sheet, cells, &mut page[..room]);
-    let Answer::Accepted { place: _, count: _ } = written else {
-        return written;
-    };
-    Answer::Refused {
-        refusal: Refusal::BeforeBoundary,
-        place: n,
-    }
+    write_form(sheet, cells, &mut page[..room])?;
+    Err(Refusal::BeforeBoundary.at(n))
 }

@@ -8,12 +8,14 @@ mod listing;
 mod records;
 
 ghost use Rattle.std.specs.Prelude.{length};
-ghost use Rattle.rolls.specs.Promises.{ReadsRoll, AddsSheet};
+ghost use Rattle.paper.specs.Answer.{told};
+ghost use Rattle.rolls.specs.Promises.{ReadsRoll, AddsSheet, AddsUnder};
 
 use adding::add_sheet;
 use entries::{CELLS, zero_from};
 use listing::list;
-use paper::Answer;
+use modes::Modes;
+use paper::{Answer, Told};
 use sheets::read_under;
 
 // A roll has at most so many bytes.
@@ -26,7 +28,7 @@ pub fn read(table: &[u8], roll: &[u8], records: &mut [u32], cells: &mut [u32]) -
         result records.new cells.new }
 {
     let answer = list(table, roll, records, cells);
-    zero_from(records, answer.count() * records::CELLS);
+    zero_from(records, Told::from(answer).count * records::CELLS);
     zero_from(cells, 0);
     answer
 }
@@ -38,18 +40,28 @@ pub fn add(table: &[u8], sheet: &[u8], roll: &mut [u8], n: usize, cells: &mut [u
         roll.new cells.new }
 {
     let mut index = [0; modes::index::CELLS];
-    let modes = modes::read_into(table, &mut index);
-    let Answer::Accepted { place: _, count: _ } = modes else {
-        zero_from(cells, 0);
-        return modes;
+    let answer = match modes::read_into(table, &mut index) {
+        Ok(_) => add_under(
+            Modes {
+                table,
+                index: &index,
+            },
+            sheet,
+            roll,
+            n,
+            cells,
+        ),
+        refused => refused,
     };
-    let reading = read_under(table, sheet, cells, &index);
-    let Answer::Accepted { place: _, count } = reading else {
-        zero_from(cells, 0);
-        return reading;
-    };
-    let end = count * CELLS;
-    let answer = add_sheet(sheet, &cells[..end], roll, n);
     zero_from(cells, 0);
     answer
+}
+
+// Adds the form under a table that is in order. What it leaves in the cells is not told.
+fn add_under(modes: Modes, sheet: &[u8], roll: &mut [u8], n: usize, cells: &mut [u32]) -> Answer
+    ensures { AddsUnder modes.entry.table.now sheet.now roll.old n (length cells.old) (told result) roll.new }
+{
+    let read = read_under(modes, sheet, cells)?;
+    let end = read.count * CELLS;
+    add_sheet(sheet, &cells[..end], roll, n)
 }

@@ -3,7 +3,6 @@
 ghost use Rattle.std.specs.Prelude.{◌≡◌, ◌^◌, ◌≤◌, ◌<◌, length};
 ghost use Rattle.paper.specs.Answer.{told};
 ghost use Rattle.paper.specs.Roll.{roll_limit, parts_of};
-ghost use Rattle.modes.specs.Index.{Indexed};
 ghost use Rattle.rolls.specs.Boundaries.{Begins};
 ghost use Rattle.rolls.specs.Records.{record_in, lay_records, unread_of, records_in};
 ghost use Rattle.rolls.specs.Listing.{FindsSheets, Spans, ReadsRecord, AllFound, Lists};
@@ -11,9 +10,8 @@ ghost use Rattle.rolls.specs.Listing.{FindsSheets, Spans, ReadsRecord, AllFound,
 use crate::LIMIT;
 use crate::boundaries::{next_boundary, sheet_end};
 use crate::records::{CELLS, Record, put, room};
-use lines::part::Part;
-use modes::index::Index;
-use paper::{Answer, Refusal};
+use modes::Modes;
+use paper::{Accepted, Answer, Refusal, Told};
 use sheets::{read_rest, read_under};
 
 // Makes the records of a roll. An acceptance has the roll's length and how many they are; it zeroes no cell, and what a refusal
@@ -23,29 +21,21 @@ pub fn list(table: &[u8], roll: &[u8], records: &mut [u32], cells: &mut [u32]) -
         records.new }
 {
     if LIMIT < roll.len() {
-        return Answer::Refused {
-            refusal: Refusal::RollTooLong,
-            place: LIMIT,
-        };
+        return Err(Refusal::RollTooLong.at(LIMIT));
     }
     let mut index = [0; modes::index::CELLS];
-    let modes = modes::read_into(table, &mut index);
-    let Answer::Accepted { .. } = modes else {
-        return modes;
+    modes::read_into(table, &mut index)?;
+    let modes = Modes {
+        table,
+        index: &index,
     };
     let first = next_boundary(roll, 0);
-    if let Part::Refused { place, .. } = read_rest(&roll[..first], 0) {
-        return Answer::Refused {
-            refusal: Refusal::BeforeBoundary,
-            place,
-        };
+    if let Err(before) = read_rest(&roll[..first], 0) {
+        return Err(Refusal::BeforeBoundary.at(before.place));
     }
-    let found = find_sheets(roll, first, records);
-    let Answer::Accepted { count, .. } = found else {
-        return found;
-    };
-    read_sheets(table, roll, records, count, cells, &index);
-    found
+    let found = find_sheets(roll, first, records)?;
+    read_sheets(modes, roll, records, found.count, cells);
+    Ok(found)
 }
 
 // Finds the sheets of a roll, whose first one begins at `first`, and makes a record of each with its start and its end.
@@ -58,17 +48,14 @@ fn find_sheets(roll: &[u8], first: usize, records: &mut [u32]) -> Answer
     let mut count = 0;
     while at < roll.len() {
         if most <= count {
-            return Answer::Refused {
-                refusal: Refusal::TooManySheets,
-                place: at,
-            };
+            return Err(Refusal::TooManySheets.at(at));
         }
         let end = sheet_end(roll, at);
         put(records, count, found_at(at, end));
         at = end;
         count += 1;
     }
-    Answer::Accepted { place: at, count }
+    Ok(Accepted { place: at, count })
 }
 
 // The record of a sheet that is found and not yet read.
@@ -86,36 +73,20 @@ fn found_at(start: usize, end: usize) -> Record
 }
 
 // Reads each sheet that was found, in order.
-fn read_sheets(
-    table: &[u8],
-    roll: &[u8],
-    records: &mut [u32],
-    count: usize,
-    cells: &mut [u32],
-    index: &Index,
-)
-    requires { Indexed table.now index.now × AllFound roll.now records.old count }
+fn read_sheets(modes: Modes, roll: &[u8], records: &mut [u32], count: usize, cells: &mut [u32])
+    requires { AllFound roll.now records.old count }
     ensures { records.new ≡ lay_records records.old 0
-        (records_in table.now (length cells.old) (parts_of roll.now)) }
+        (records_in modes.entry.table.now (length cells.old) (parts_of roll.now)) }
 {
-    let mut n = 0;
-    while n < count {
-        read_sheet(table, roll, records, n, cells, index);
-        n += 1;
+    for n in 0..count {
+        read_sheet(modes, roll, records, n, cells);
     }
 }
 
 // Reads the sheet of record number `n` by itself, and puts its answer into the record.
-fn read_sheet(
-    table: &[u8],
-    roll: &[u8],
-    records: &mut [u32],
-    n: usize,
-    cells: &mut [u32],
-    index: &Index,
-)
-    requires { Indexed table.now index.now × Spans roll.now records.old n }
-    ensures { ReadsRecord table.now roll.now (length cells.old) records.old n
+fn read_sheet(modes: Modes, roll: &[u8], records: &mut [u32], n: usize, cells: &mut [u32])
+    requires { Spans roll.now records.old n }
+    ensures { ReadsRecord modes.entry.table.now roll.now (length cells.old) records.old n
         records.new }
 {
     let at = n * CELLS;
@@ -123,16 +94,16 @@ fn read_sheet(
     let end = records[at + 1];
     let from = start as usize;
     let to = end as usize;
-    let answer = read_under(table, &roll[from..to], cells, index);
+    let answer = Told::from(read_under(modes, &roll[from..to], cells));
     put(
         records,
         n,
         Record {
             start,
             end,
-            number: answer.number(),
-            place: answer.place() as u32,
-            entries: answer.count() as u32,
+            number: answer.number,
+            place: answer.place as u32,
+            entries: answer.count as u32,
         },
     );
 }

@@ -4,6 +4,8 @@ ghost use Rattle.std.specs.Prelude.{◌≡◌, [], ◌∷◌, suc, ◌*◌, ◌�
 ghost use Rattle.paper.specs.Roll.{record_cells, roll_room};
 ghost use Rattle.rolls.specs.Records.{record_in, lay_records};
 
+use entries::lay;
+
 // A record is so many cells, and a roll has at most so many sheets.
 pub const CELLS: usize = 5;
 
@@ -22,8 +24,7 @@ pub struct Record {
 pub fn room(lent: usize) -> usize
     ensures { result ≡ roll_room lent }
 {
-    let whole = lent / CELLS;
-    if LIMIT < whole { LIMIT } else { whole }
+    (lent / CELLS).min(LIMIT)
 }
 
 // Writes record number `n`.
@@ -31,10 +32,5 @@ pub fn put(records: &mut [u32], n: usize, e: Record)
     requires { suc n * record_cells ≤ length records.old }
     ensures { records.new ≡ lay_records records.old n (record_in e ∷ []) }
 {
-    let at = n * CELLS;
-    records[at] = e.start;
-    records[at + 1] = e.end;
-    records[at + 2] = e.number;
-    records[at + 3] = e.place;
-    records[at + 4] = e.entries;
+    lay(records, n, [e.start, e.end, e.number, e.place, e.entries]);
 }

@@ -5,7 +5,8 @@ use mathlib.Core.Path.{◌≡◌, refl, sym, ap, ◌∙◌}
 use mathlib.Core.List.{List, [], ◌∷◌}
 use native.Mathlib.Omega.{arith}
 use lib.ListN.{length, drop, length-drop}
-use Rattle.paper.specs.declared.Refusal.{Refusal}
+use Rattle.std.specs.Prelude.{Result, Ok, Err}
+use Rattle.paper.specs.declared.Refused.{Refused}
 use Rattle.paper.specs.Found.{Found, found, and_then}
 use Rattle.paper.specs.Bytes.{length_in, behind}
 use Rattle.paper.specs.Modes.{Modes}
@@ -22,9 +23,8 @@ use Rattle.entries.specs.Laid.{lay, slot_after}
 use Rattle.entries.specs.declared.Slot.{Slot}
 use Rattle.entries.proofs.Laying.{lay_append}
 use Rattle.entries.proofs.Slots.{fits_after}
-use Rattle.lines.specs.Parts.{Makes, MakesNotes}
+use Rattle.lines.specs.Parts.{seen, Makes, MakesNotes}
 use Rattle.lines.specs.declared.part.Part.{Part}
-use Rattle.lines.specs.declared.part.Part.TheVariants.{Read, Refused}
 use Rattle.lines.proofs.Crossing.{FoundAt, found_at_lem, makes_passed, makes_read}
 use Rattle.lines.proofs.Lengths.{notes_long}
 use Rattle.sheets.specs.Concepts.{Ready, whole_concept, ReadsConcept, annotated_entries, ReadsAnnotated}
@@ -37,8 +37,8 @@ onward m deeper room notes line =
     found (record { notes = notes; tabs = length_in is_tab line; concept = c }) left)
 
 -- annotations that are read from a place to the start of a line, and entered
-pub record NotesAt (table index s : List ℕ) (at : ℕ) (cells : List ℕ) (slot : Slot) (mid : List ℕ) (line made : ℕ) : Type 0 where
-  pub stands : Ready table index s at cells slot
+pub record NotesAt (s : List ℕ) (at : ℕ) (cells : List ℕ) (slot : Slot) (mid : List ℕ) (line made : ℕ) : Type 0 where
+  pub stands : Ready s at cells slot
   pub it : List Annotation
   pub finds : annotations (slot.room - slot.next) (drop at s) ≡ found it (drop line s)
   pub covers : drop at s ≡ annotations_onto it (drop line s)
@@ -48,20 +48,20 @@ pub record NotesAt (table index s : List ℕ) (at : ℕ) (cells : List ℕ) (slo
   pub inside : line ≤ length s
   pub laid : mid ≡ lay cells slot.next (annotation_entries slot.parent at it)
 
-module _ {table index s : List ℕ} {at : ℕ} {cells : List ℕ} {slot : Slot} (h : Ready table index s at cells slot) {notes : Part} {mid : List ℕ}
-    (n : MakesNotes s at cells slot notes mid) where
-  pub notes_refused : (deeper : ℕ) {why : Refusal} {place : ℕ} → notes ≡ Refused why place → ReadsAnnotated table s at deeper cells slot notes mid
-  notes_refused deeper {why} {place} q =
+module _ {s : List ℕ} {at : ℕ} {cells : List ℕ} {slot : Slot} (h : Ready s at cells slot) {mid : List ℕ} where
+  pub notes_refused : (table : List ℕ) (deeper : ℕ) {e : Refused} → MakesNotes s at cells slot (Err e) mid → {r : Result Part Refused} → r ≡ Err e
+      → ReadsAnnotated table s at deeper cells slot r mid
+  notes_refused table deeper {e} n {r} q =
       let room = slot.room - slot.next in
-      makes_passed _ _ _ _ _ _ _ notes mid length length (λ x. and_then x (onward (modes_of table) deeper room)) (λ k left. refl)
-      (annotations room (drop at s)) why place n.says q refl
+      makes_passed _ _ _ _ _ _ _ r mid length length (λ x. and_then x (onward (modes_of table) deeper room)) (λ k left. refl)
+      (annotations room (drop at s)) e n.says q refl
 
-  pub notes_at : {line made own : ℕ} → notes ≡ Read line made own → NotesAt table index s at cells slot mid line made
-  notes_at {line} {made} {own} q =
+  pub notes_at : {p : Part} → MakesNotes s at cells slot (Ok p) mid → NotesAt s at cells slot mid p.end p.made
+  notes_at {p} n =
       let room = slot.room - slot.next in
       let f =
-      found_at_lem length length s notes (λ ns left. ReadAnnotations room (drop at s) ns left) at (annotations room (drop at s)) line made own n.says
-      (annotations_reads room (drop at s)) h.in_sheet.inside q in
+      found_at_lem length length s (Ok p) (λ ns left. ReadAnnotations room (drop at s) ns left) at (annotations room (drop at s)) p n.says
+      (annotations_reads room (drop at s)) h.in_sheet.inside refl in
       record {
         stands = h;
         it = f.it;
@@ -71,11 +71,11 @@ module _ {table index s : List ℕ} {at : ℕ} {cells : List ℕ} {slot : Slot} 
         few = omega (arith, f.many, f.holds.fits, h.fits.inside);
         ahead = f.ahead;
         inside = f.inside;
-        laid = n.laid f.it (drop line s) f.finds;
+        laid = n.laid f.it (drop p.end s) f.finds;
       }
 
 -- where there are none, the line is the one where they were due, and so are its tabs
-module _ {table index s : List ℕ} {at : ℕ} {cells : List ℕ} {slot : Slot} {mid : List ℕ} {line made : ℕ} (n : NotesAt table index s at cells slot mid line made) where
+module _ {s : List ℕ} {at : ℕ} {cells : List ℕ} {slot : Slot} {mid : List ℕ} {line made : ℕ} (n : NotesAt s at cells slot mid line made) where
   same_line : made ≡ 0 → line ≡ at
   unfolding annotations_onto
   same_line z = go n.it (n.many ∙ z) n.covers
@@ -88,15 +88,15 @@ module _ {table index s : List ℕ} {at : ℕ} {cells : List ℕ} {slot : Slot} 
   tabs_there run z = rw (same_line z) run
 
 -- the Concept behind them, whose tabs end at a mark
-module _ {table index s : List ℕ} {at : ℕ} {cells : List ℕ} {slot : Slot} {mid : List ℕ} {line made : ℕ} (n : NotesAt table index s at cells slot mid line made)
+module _ {s : List ℕ} {at : ℕ} {cells : List ℕ} {slot : Slot} {mid : List ℕ} {line made : ℕ} (n : NotesAt s at cells slot mid line made)
     {mark : ℕ} (run : Stretch is_tab s line mark) {next : Slot} (lends : next ≡ slot_after slot made) where
   abbrev room : ℕ
   room = slot.room - slot.next
 
-  pub concept_stands : length mid ≡ length cells → Ready table index s mark mid next
+  pub concept_stands : length mid ≡ length cells → Ready s mark mid next
   concept_stands e = stands_on n.stands run.2 (fits_after made n.stands.fits e n.few lends)
 
-  module _ (deeper : ℕ) {r : Part} {after : List ℕ} (k : ReadsConcept table s mark (mark - line) deeper mid next r after) where
+  module _ (table : List ℕ) (deeper : ℕ) {r : Result Part Refused} {after : List ℕ} (k : ReadsConcept table s mark (mark - line) deeper mid next r after) where
     abbrev m : Modes
     m = modes_of table
 
@@ -136,19 +136,22 @@ module _ {table index s : List ℕ} {at : ℕ} {cells : List ℕ} {slot : Slot} 
         ∙ ap (λ (l : List ℕ). and_then (concept_of m bounds deeper (room - length noted) tabs l) (λ c left. found (with_notes c) left))
         (behind_at is_tab s line mark run)
 
-    pub concept_refused : {why : Refusal} {place : ℕ} → r ≡ Refused why place → ReadsAnnotated table s at deeper cells slot r after
-    concept_refused {why} {place} e =
-        makes_passed _ _ _ _ _ _ _ r after concept_size (λ c. 1) (λ x. and_then x (λ c left. found (with_notes c) left)) (λ j left. refl) reading why place
-        made_concept.says e by_concept
+    pub concept_refused : {e : Refused} → r ≡ Err e → {last : Result Part Refused} → last ≡ Err e → ReadsAnnotated table s at deeper cells slot last after
+    concept_refused {e} p {last} q =
+        makes_passed _ _ _ _ _ _ _ last after concept_size (λ c. 1) (λ x. and_then x (λ c left. found (with_notes c) left)) (λ j left. refl) reading e
+        (ap seen (sym p) ∙ made_concept.says) q by_concept
 
-    module _ {end inside mine : ℕ} (e : r ≡ Read end inside mine) where
+    module _ {p : Part} (e : r ≡ Ok p) where
+      abbrev end : ℕ
+      end = p.end
+
       the_concept : FoundAt concept_size (λ c. 1)
-          (λ c left. ReadConcept m bounds deeper (room - length noted) tabs (drop mark s) c left) s mark reading end inside mine
+          (λ c left. ReadConcept m bounds deeper (room - length noted) tabs (drop mark s) c left) s mark reading p.end p.made p.own
       the_concept =
-          found_at_lem concept_size (λ c. 1) s r _ mark reading end inside mine made_concept.says
+          found_at_lem concept_size (λ c. 1) s r _ mark reading p made_concept.says
           (concept_reads m bounds (length (drop mark s) + 1) deeper (room - length noted) tabs (drop mark s)) run.2 e
 
-      pub all_few : slot.next + made + inside ≤ slot.room
+      pub all_few : slot.next + made + p.made ≤ slot.room
       all_few = omega (arith, n.few, n.many, the_concept.many, the_concept.holds.fits)
 
       laid : after ≡ lay cells slot.next (annotated_entries slot.parent slot.next at (with_notes the_concept.it))
@@ -160,9 +163,8 @@ module _ {table index s : List ℕ} {at : ℕ} {cells : List ℕ} {slot : Slot} 
           ∙ ap (λ (i : ℕ). lay (lay cells slot.next first) (slot.next + i) others) (sym (notes_size noted slot.parent at))
           ∙ lay_append cells slot.next first others
 
-      pub annotated_read : ReadsAnnotated table s at deeper cells slot (Read end (made + inside) (made + 1)) after
+      pub annotated_read : ReadsAnnotated table s at deeper cells slot (Ok (record { end = p.end; made = made + p.made; own = made + 1 })) after
       annotated_read =
-          makes_read _ _ _ _ _ _ _ (Read end (made + inside) (made + 1)) after (with_notes the_concept.it) end (made + inside) (made + 1) refl
-          the_concept.inside
+          makes_read _ _ _ _ _ _ _ (Ok (record { end = p.end; made = made + p.made; own = made + 1 })) after (with_notes the_concept.it) _ refl the_concept.inside
           (by_concept ∙ ap (λ (x : Found Concept). and_then x (λ c left. found (with_notes c) left)) the_concept.finds) (omega (arith, n.many, the_concept.many))
           (omega (arith, n.many)) laid

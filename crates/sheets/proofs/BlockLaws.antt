@@ -5,7 +5,8 @@ use mathlib.Core.Path.{◌≡◌, refl, sym, ap, ◌∙◌}
 use mathlib.Core.List.{List, []}
 use native.Mathlib.Omega.{arith}
 use lib.ListN.{length, drop, length-drop}
-use Rattle.paper.specs.declared.Refusal.{Refusal}
+use Rattle.std.specs.Prelude.{Result, Ok, Err}
+use Rattle.paper.specs.declared.Refused.{Refused}
 use Rattle.paper.specs.Found.{Found, found, fault, and_then}
 use Rattle.paper.specs.Bytes.{length_in, behind}
 use Rattle.paper.specs.Modes.{Modes}
@@ -19,10 +20,9 @@ use Rattle.paper.proofs.Concepts.{body_reads}
 use Rattle.paper.proofs.Fuel.{block_of_lem}
 use Rattle.entries.specs.Laid.{lay}
 use Rattle.entries.specs.declared.Slot.{Slot}
-use Rattle.lines.specs.Parts.{seen, seen_of, passed, Makes}
+use Rattle.lines.specs.Parts.{seen, seen_of, reached, passed, Makes}
 use Rattle.lines.specs.declared.part.Part.{Part}
-use Rattle.lines.specs.declared.part.Part.TheVariants.{Read, Refused}
-use Rattle.lines.proofs.Crossing.{found_at_lem, fault_at, makes_passed, makes_read}
+use Rattle.lines.proofs.Crossing.{found_at_lem, reached_at, fault_at, makes_passed, makes_read}
 use Rattle.lines.proofs.Ends.{RestAt}
 use Rattle.lines.proofs.Lengths.{blank_long}
 use Rattle.sheets.specs.Concepts.{Ready, InsideAt, up_to_mark}
@@ -45,14 +45,14 @@ lined_reads s P (found b line) h = (tail_then h.0 (tail_drop (length_in is_tab l
 lined_reads s P (fault n left) h = h
 
 -- what is refused up to a mark is refused before it
-fault_unmarked : (s : List ℕ) (x : Found Body) (r : Part) {why : Refusal} {place : ℕ} → seen r ≡ seen_of body_size body_count s (up_to_mark x)
-    → r ≡ Refused why place → seen r ≡ seen_of body_size body_count s x
-fault_unmarked s (found b line) r {why} {place} e q =
-    let f = fault_at body_size body_count s r (found b (behind is_tab line)) why place e q in
+fault_unmarked : (s : List ℕ) (x : Found Body) (e : Refused) → seen (Err e) ≡ seen_of body_size body_count s (up_to_mark x)
+    → seen (Err e) ≡ seen_of body_size body_count s x
+fault_unmarked s (found b line) e k =
+    let f = fault_at body_size body_count s (Err e) (found b (behind is_tab line)) e k refl in
     let faults = f.faults in
     let no : ◌≡◌ {A = ℕ} 0 1 = cc in
     absurd (omega arith)
-fault_unmarked s (fault n left) r e q = e
+fault_unmarked s (fault n left) e k = k
 
 -- children that are read up to the mark behind the tabs of the closing line, and entered
 pub record BodyAt (s : List ℕ) (at : ℕ) (cells : List ℕ) (slot : Slot) (m : Modes) (deeper : ℕ) (after : List ℕ) (mark made own : ℕ) : Type 0 where
@@ -66,33 +66,33 @@ pub record BodyAt (s : List ℕ) (at : ℕ) (cells : List ℕ) (slot : Slot) (m 
   pub inside : mark ≤ length s
   pub laid : after ≡ lay cells slot.next (body_entries slot.parent slot.next (at + length (blank_onto rest [])) it)
 
-module _ {table index s : List ℕ} {at : ℕ} {cells : List ℕ} {slot : Slot} (h : Ready table index s at cells slot) (m : Modes) (deeper : ℕ) where
+module _ {s : List ℕ} {at : ℕ} {cells : List ℕ} {slot : Slot} (h : Ready s at cells slot) (m : Modes) (deeper : ℕ) where
   abbrev room : ℕ
   room = slot.room - slot.next
 
-  pub rest_refused : (k : Marker) (tabs : ℕ) (r : Part) → seen r ≡ passed s (line_rest (drop at s)) → {why : Refusal} {place : ℕ} → r ≡ Refused why place
+  pub rest_refused : (k : Marker) (tabs : ℕ) (e : Refused) → seen (Err e) ≡ passed s (line_rest (drop at s)) → {r : Result Part Refused} → r ≡ Err e
       → InsideAt s at tabs cells slot (block_of m bounds deeper (slot.room - slot.next) k (drop at s)) r cells
-  rest_refused k tabs r e {why} {place} q =
-      makes_passed _ _ _ _ _ _ _ r cells (λ b. 0) (λ b. 0) (λ x. and_then x (bodied m deeper room k)) (λ n left. refl) (line_rest (drop at s)) why place e q
+  rest_refused k tabs e p {r} q =
+      makes_passed _ _ _ _ _ _ _ r cells (λ b. 0) (λ b. 0) (λ x. and_then x (bodied m deeper room k)) (λ n left. refl) (line_rest (drop at s)) e p q
       (block_of_lem m bounds deeper room k (drop at s))
 
-  module _ {start : ℕ} (rest : RestAt s at start) {body : Part} {after : List ℕ}
+  module _ {start : ℕ} (rest : RestAt s at start) {body : Result Part Refused} {after : List ℕ}
       (b : Makes body_size body_count (body_entries slot.parent slot.next start) s cells slot.next
       (up_to_mark (body_of m bounds deeper room (drop start s))) body after) where
     by_rest : (k : Marker) → block_of m bounds deeper room k (drop at s) ≡ bodied m deeper room k rest.it (drop start s)
     by_rest k = block_of_lem m bounds deeper room k (drop at s) ∙ ap (λ (x : Found Blank). and_then x (bodied m deeper room k)) rest.finds
 
-    pub body_refused : (k : Marker) (tabs : ℕ) {why : Refusal} {place : ℕ} → body ≡ Refused why place
-        → InsideAt s at tabs cells slot (block_of m bounds deeper (slot.room - slot.next) k (drop at s)) body after
-    body_refused k tabs {why} {place} q =
+    pub body_refused : (k : Marker) (tabs : ℕ) {e : Refused} → body ≡ Err e → {r : Result Part Refused} → r ≡ Err e
+        → InsideAt s at tabs cells slot (block_of m bounds deeper (slot.room - slot.next) k (drop at s)) r after
+    body_refused k tabs {e} p {r} q =
         let inner = body_of m bounds deeper room (drop start s) in
-        makes_passed _ _ _ _ _ _ _ body after body_size body_count (λ x. and_then x (closed k rest.it)) (λ n left. refl) inner why place
-        (fault_unmarked s inner body b.says q) q (by_rest k)
+        makes_passed _ _ _ _ _ _ _ r after body_size body_count (λ x. and_then x (closed k rest.it)) (λ n left. refl) inner e
+        (fault_unmarked s inner e (ap seen (sym p) ∙ b.says)) q (by_rest k)
 
-    pub body_at : {mark made own : ℕ} → body ≡ Read mark made own → BodyAt s at cells slot m deeper after mark made own
-    body_at {mark} {made} {own} q =
+    pub body_at : {p : Part} → body ≡ Ok p → BodyAt s at cells slot m deeper after p.end p.made p.own
+    body_at {p} q =
         let inner = body_of m bounds deeper room (drop start s) in
-        let f = found_at_lem body_size body_count s body (Lined inner) start (up_to_mark inner) mark made own b.says
+        let f = found_at_lem body_size body_count s body (Lined inner) start (up_to_mark inner) p b.says
         (lined_reads (drop start s) _ inner (body_reads m bounds (length (drop start s) + 2) deeper room (drop start s))) rest.inside q in
         let starts : start ≡ at + length (blank_onto rest.it []) =
         omega (arith, ap length rest.covers, blank_long rest.it (drop start s), length-drop at s, length-drop start s, rest.ahead, rest.inside) in
@@ -105,29 +105,26 @@ module _ {table index s : List ℕ} {at : ℕ} {cells : List ℕ} {slot : Slot} 
           many = f.many;
           owned = f.owned;
           inside = f.inside;
-          laid = b.laid f.it (drop mark s) f.finds ∙ ap (λ (i : ℕ). lay cells slot.next (body_entries slot.parent slot.next i f.it)) starts;
+          laid = b.laid f.it (drop p.end s) f.finds ∙ ap (λ (i : ℕ). lay cells slot.next (body_entries slot.parent slot.next i f.it)) starts;
         }
 
 -- the closing marker of a Concept of this name, due at the mark
 module _ {s : List ℕ} {at : ℕ} {cells : List ℕ} {slot : Slot} {m : Modes} {deeper : ℕ} {after : List ℕ} {mark made own : ℕ}
-    (body : BodyAt s at cells slot m deeper after mark made own) (k : Marker) {w : List ℕ} (named : k.name ≡ w) (tabs : ℕ) (last : Part)
-    (e : seen last ≡ passed s (closing w (drop mark s))) where
+    (body : BodyAt s at cells slot m deeper after mark made own) (k : Marker) {w : List ℕ} (named : k.name ≡ w) (tabs : ℕ) where
   abbrev whole : Concept
   whole = children k body.rest body.it (length_in is_tab body.line)
 
   by_body : block_of m bounds deeper (slot.room - slot.next) k (drop at s) ≡ and_then (closing w (drop mark s)) (λ b end. found whole end)
   by_body = body.finds k ∙ rw (named, body.marks)
 
-  pub closing_refused : {why : Refusal} {place : ℕ} → last ≡ Refused why place
-      → InsideAt s at tabs cells slot (block_of m bounds deeper (slot.room - slot.next) k (drop at s)) last after
-  closing_refused {why} {place} q =
-      makes_passed _ _ _ _ _ _ _ last after (λ b. 0) (λ b. 0) (λ x. and_then x (λ b end. found whole end)) (λ n left. refl) (closing w (drop mark s)) why place e q by_body
+  pub closing_refused : (e : Refused) → seen (Err e) ≡ passed s (closing w (drop mark s)) → {r : Result Part Refused} → r ≡ Err e
+      → InsideAt s at tabs cells slot (block_of m bounds deeper (slot.room - slot.next) k (drop at s)) r after
+  closing_refused e p {r} q =
+      makes_passed _ _ _ _ _ _ _ r after (λ b. 0) (λ b. 0) (λ x. and_then x (λ b end. found whole end)) (λ n left. refl) (closing w (drop mark s)) e p q by_body
 
-  pub block_read : {end none few : ℕ} → last ≡ Read end none few
-      → InsideAt s at tabs cells slot (block_of m bounds deeper (slot.room - slot.next) k (drop at s)) (Read end made own) after
-  block_read {end} {none} {few} q =
-      let f =
-      found_at_lem (λ b. 0) (λ b. 0) s last (λ b left. drop mark s ≡ closing_onto w left) mark (closing w (drop mark s)) end none few e (closing_reads w (drop mark s))
-      body.inside q in
-      makes_read _ _ _ _ _ _ _ (Read end made own) after whole end made own refl f.inside
+  pub block_read : {end : ℕ} → reached (Ok end) ≡ passed s (closing w (drop mark s))
+      → InsideAt s at tabs cells slot (block_of m bounds deeper (slot.room - slot.next) k (drop at s)) (Ok (record { end = end; made = made; own = own })) after
+  block_read {end} e =
+      let f = reached_at (λ b left. drop mark s ≡ closing_onto w left) s mark (closing w (drop mark s)) (Ok end) end e (closing_reads w (drop mark s)) body.inside refl in
+      makes_read _ _ _ _ _ _ _ (Ok (record { end = end; made = made; own = own })) after whole _ refl f.inside
       (by_body ∙ ap (λ (x : Found ℕ). and_then x (λ b end. found whole end)) f.finds) (sym body.many) (sym body.owned) body.laid

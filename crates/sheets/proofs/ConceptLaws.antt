@@ -6,7 +6,9 @@ use native.Mathlib.Omega.{arith}
 use lib.ListN.{length, drop, length-drop}
 use lib.Seq.{drop-drop}
 use borrow.Author.Tests.{eq-eqb, ne_eqb}
-use Rattle.paper.specs.declared.Refusal.{Refusal}
+use Rattle.std.specs.Prelude.{Result, Ok, Err}
+use Rattle.paper.specs.declared.Refused.{Refused}
+use Rattle.paper.specs.Forms.{number_of_body}
 use Rattle.paper.specs.declared.Mode.TheVariants.{Children}
 use Rattle.paper.specs.Found.{Found, found, fault, and_then}
 use Rattle.paper.specs.Bytes.{byte}
@@ -31,8 +33,7 @@ use Rattle.lines.specs.Parts.{seen, Makes, part, content_entries}
 use Rattle.lines.specs.declared.part.Part.{Part}
 use Rattle.lines.proofs.Crossing.{FoundAt, found_at_lem, makes_passed, makes_read}
 use Rattle.lines.proofs.ReadAt.{part_is}
-use Rattle.sheets.specs.declared.opening.Opening.{Opening}
-use Rattle.sheets.specs.declared.opening.Opening.TheVariants.{Opened, Refused}
+use Rattle.sheets.specs.declared.opening.Opened.{Opened}
 use Rattle.sheets.specs.Opening.{part_of, made_by, traits_in, entered_by, ReadsOpening}
 use Rattle.sheets.specs.Concepts.{Ready, ReadsConcept, ended_by, cells_ended, Ends, inside_of, inside_size, inside_count, body_of_concept, InsideAt, ReadsInside}
 use Rattle.sheets.proofs.Slots.{stands_on}
@@ -41,20 +42,21 @@ use Rattle.sheets.proofs.Marked.{form_of, after, concept_marked, ending_of, Form
 
 -- ---- what follows a marker of a form that ends at a place
 
-module _ {table index s : List ℕ} {at : ℕ} {cells : List ℕ} {slot : Slot} (h : Ready table index s at cells slot) (deeper tabs form : ℕ) (k : Marker) where
-  abbrev Inside : Part → List ℕ → Type 0
-  Inside r last = InsideAt s at tabs cells slot (inside_of form (modes_of table) deeper (slot.room - slot.next) tabs k (drop at s)) r last
+module _ {s : List ℕ} {at : ℕ} {cells : List ℕ} {slot : Slot} (h : Ready s at cells slot) (m : Modes) (deeper tabs form : ℕ) (k : Marker) where
+  abbrev Inside : Result Part Refused → List ℕ → Type 0
+  Inside r last = InsideAt s at tabs cells slot (inside_of form m deeper (slot.room - slot.next) tabs k (drop at s)) r last
 
-  pub inside_closed : form ≡ 1 → {r : Part} → r ≡ Part.Read at 0 0 → Inside r cells
+  pub inside_closed : form ≡ 1 → {p : Part} → p ≡ record { end = at; made = 0; own = 0 } → Inside (Ok p) cells
   unfolding inside_of
-  inside_closed f {r} e = makes_read _ _ _ _ _ _ _ r cells (self_closed k) at 0 0 e h.in_sheet.inside (rw (f, inside_of)) refl refl (sym (lay_none cells slot.next))
+  inside_closed f {p} e =
+      makes_read _ _ _ _ _ _ _ (Ok p) cells (self_closed k) _ (ap Ok e) h.in_sheet.inside (rw (f, inside_of)) refl refl (sym (lay_none cells slot.next))
 
-  pub inside_block : form ≡ 2 → {r : Part} {last : List ℕ}
-      → InsideAt s at tabs cells slot (block_of (modes_of table) bounds deeper (slot.room - slot.next) k (drop at s)) r last → Inside r last
+  pub inside_block : form ≡ 2 → {r : Result Part Refused} {last : List ℕ}
+      → InsideAt s at tabs cells slot (block_of m bounds deeper (slot.room - slot.next) k (drop at s)) r last → Inside r last
   unfolding inside_of
   inside_block f b = rw (ne_eqb form 1 (λ e. omega arith), inside_of, eq-eqb form 2 f) b
 
-  pub inside_content : (form ≡ 1 → ⊥) → (form ≡ 2 → ⊥) → {r : Part} {last : List ℕ}
+  pub inside_content : (form ≡ 1 → ⊥) → (form ≡ 2 → ⊥) → {r : Result Part Refused} {last : List ℕ}
       → Makes (λ c. 1) (λ c. 1) (content_entries slot.parent tabs at) s cells slot.next (content_of tabs (slot.room - slot.next) k (drop at s)) r last
       → Inside r last
   unfolding inside_of
@@ -118,25 +120,38 @@ entry_is parent at tabs c form count to end f n t e = rw (f, n, t, e)
 
 -- ---- a Concept whose "<" is due at a place
 
-pub marker_refused : {table index s : List ℕ} {at : ℕ} {cells : List ℕ} {slot : Slot} → Ready table index s at cells slot
-    → {deeper : ℕ} {o : Opening} {mid : List ℕ} → ReadsOpening table s at deeper cells slot o mid
-    → (tabs : ℕ) {why : Refusal} {place : ℕ} → o ≡ Refused why place → {r : Part} → r ≡ Part.Refused why place
-    → ReadsConcept table s at tabs deeper cells slot r mid
-marker_refused {table} {index} {s} {at} {cells} {slot} h {deeper} {o} {mid} opens tabs {why} {place} q {r} e =
+pub marker_refused : (table : List ℕ) {s : List ℕ} {at : ℕ} {cells : List ℕ} {slot : Slot} (deeper : ℕ) {e : Refused} {mid : List ℕ}
+    → ReadsOpening table s at deeper cells slot (Err e) mid → (tabs : ℕ) {r : Result Part Refused} → r ≡ Err e → ReadsConcept table s at tabs deeper cells slot r mid
+marker_refused table {s} {at} {cells} {slot} deeper {e} {mid} opens tabs {r} q =
     let room = slot.room - slot.next in
     makes_passed _ _ _ _ _ _ _ r mid made_by traits_in (λ x. and_then x (after (modes_of table) deeper room tabs)) (λ n left. refl)
-    (opening (modes_of table) bounds deeper room (drop at s)) why place (ap seen (e ∙ sym (ap part_of q)) ∙ opens.makes.says) e
-    (concept_marked (modes_of table) deeper room tabs (drop at s))
+    (opening (modes_of table) bounds deeper room (drop at s)) e opens.makes.says q (concept_marked (modes_of table) deeper room tabs (drop at s))
 
 -- its marker was read
-pub record MarkerAt (table index s : List ℕ) (at : ℕ) (cells : List ℕ) (slot : Slot) (deeper : ℕ) (mid : List ℕ) (form to end made own : ℕ) (inside : Nesting) : Type 0 where
-  pub stands : Ready table index s at cells slot
-  pub answer : Opening
-  pub opens : ReadsOpening table s at deeper cells slot answer mid
-  pub told : answer ≡ Opened form to end made own inside
+pub record MarkerAt (table s : List ℕ) (at : ℕ) (cells : List ℕ) (slot : Slot) (deeper : ℕ) (mid : List ℕ) (o : Opened) : Type 0 where
+  pub stands : Ready s at cells slot
+  pub opens : ReadsOpening table s at deeper cells slot (Ok o) mid
 
-module _ {table index s : List ℕ} {at : ℕ} {cells : List ℕ} {slot : Slot} {deeper : ℕ} {mid : List ℕ} {form to end made own : ℕ} {inside : Nesting}
-    (known : MarkerAt table index s at cells slot deeper mid form to end made own inside) where
+module _ {table s : List ℕ} {at : ℕ} {cells : List ℕ} {slot : Slot} {deeper : ℕ} {mid : List ℕ} {o : Opened}
+    (known : MarkerAt table s at cells slot deeper mid o) where
+  abbrev form : ℕ
+  form = number_of_body o.form
+
+  abbrev to : ℕ
+  to = o.to
+
+  abbrev end : ℕ
+  end = o.end
+
+  abbrev made : ℕ
+  made = o.made
+
+  abbrev own : ℕ
+  own = o.own
+
+  abbrev inside : Nesting
+  inside = o.inside
+
   abbrev room : ℕ
   room = slot.room - slot.next
 
@@ -148,9 +163,8 @@ module _ {table index s : List ℕ} {at : ℕ} {cells : List ℕ} {slot : Slot} 
 
   marker : FoundAt made_by traits_in (λ o left. ReadOpening m bounds deeper room (drop at s) o left) s at marked end made own
   marker =
-      found_at_lem made_by traits_in s (part_of known.answer) _ at marked end made own known.opens.makes.says (opening_reads m bounds deeper room (drop at s))
-      known.stands.in_sheet.inside
-      (ap part_of known.told)
+      found_at_lem made_by traits_in s (part_of (Ok o)) _ at marked _ known.opens.makes.says (opening_reads m bounds deeper room (drop at s))
+      known.stands.in_sheet.inside refl
 
   abbrev k : Marker
   k = marker.it.marker
@@ -159,7 +173,7 @@ module _ {table index s : List ℕ} {at : ℕ} {cells : List ℕ} {slot : Slot} 
   ending = marker.it.ends
 
   says : (form ≡ form_of m marker.it) × (to ≡ at + 1 + length k.name) × (suc inside.left ≡ deeper)
-  says = known.opens.says form to end made own inside known.told marker.it (drop end s) marker.finds
+  says = known.opens.says o refl marker.it (drop end s) marker.finds
 
   -- where its name and the marker end, and that its entries have room
   pub marker_ahead : (at < to) × (to ≤ length s) × (at < end) × (end ≤ length s) × (slot.next + 1 + made ≤ slot.room)
@@ -201,10 +215,10 @@ module _ {table index s : List ℕ} {at : ℕ} {cells : List ℕ} {slot : Slot} 
     lends : next ≡ slot_after (slot_under slot) made
     lends = goes_on ∙ ap (λ (x : Slot). slot_after x made) goes_under
 
-    pub lent_stands : length mid ≡ length cells → Ready table index s end mid next
+    pub lent_stands : length mid ≡ length cells → Ready s end mid next
     lent_stands held = rw lends (stands_on known.stands marker.inside (fits_on known.stands.fits held refl marker_ahead.4))
 
-    module _ (tabs : ℕ) {b : Part} {left : List ℕ} (body : ReadsInside table s end form tabs (at + 1) to inside.left mid next b left) where
+    module _ (tabs : ℕ) {b : Result Part Refused} {left : List ℕ} (body : ReadsInside table s end form tabs (at + 1) to inside.left mid next b left) where
       abbrev reading : Found Concept
       reading = concept_of m bounds deeper room tabs (drop at s)
 
@@ -227,15 +241,23 @@ module _ {table index s : List ℕ} {at : ℕ} {cells : List ℕ} {slot : Slot} 
       reading_is : reading ≡ inner
       reading_is = concept_marked m deeper room tabs (drop at s) ∙ ap (λ (x : Found Marked). and_then x (after m deeper room tabs)) marker.finds
 
-      inside_refused : (why : Refusal) (place : ℕ) → b ≡ Part.Refused why place → (r : Part) → r ≡ Part.Refused why place → (last : List ℕ)
-          → ReadsConcept table s at tabs deeper cells slot r last
-      inside_refused why place g r e last =
-          makes_passed _ _ _ _ _ _ _ r last inside_size inside_count (λ x. x) (λ n left. refl) inner why place (ap seen (e ∙ sym g) ∙ follows.says) e reading_is
+      pub inside_refused : {e : Refused} → b ≡ Err e → {r : Result Part Refused} → r ≡ Err e → {last : List ℕ} → ReadsConcept table s at tabs deeper cells slot r last
+      inside_refused {e} g {r} q {last} =
+          makes_passed _ _ _ _ _ _ _ r last inside_size inside_count (λ x. x) (λ n left. refl) inner e (ap seen (sym g) ∙ follows.says) q reading_is
 
-      module _ (far more count : ℕ) (g : b ≡ Part.Read far more count) where
+      module _ {p : Part} (g : b ≡ Ok p) where
+        abbrev far : ℕ
+        far = p.end
+
+        abbrev more : ℕ
+        more = p.made
+
+        abbrev count : ℕ
+        count = p.own
+
         it : FoundAt inside_size inside_count (λ c left. Formed k ending (form_of m marker.it) c) s end inner far more count
         it =
-            found_at_lem inside_size inside_count s b _ end inner far more count follows.says
+            found_at_lem inside_size inside_count s b _ end inner p follows.says
             (inside_reads m (deeper - 1) (room_in room marker.it) tabs k (drop end s) ending (in_mode Children m k.name)) marker.inside g
 
         abbrev c : Concept
@@ -289,27 +311,20 @@ module _ {table index s : List ℕ} {at : ℕ} {cells : List ℕ} {slot : Slot} 
           it.inside,
         )
 
-        inside_ended : (r : Part) (last : List ℕ) → r ≡ Part.Read far (1 + made + more) 1
-            → last ≡ lay left slot.next
-            (record { kind = 1; form = form; parent = slot.parent; count = own + count; name_start = at + 1; name_end = to; start = at; end = far } ∷ [])
-            → ReadsConcept table s at tabs deeper cells slot r last
-        inside_ended r last e l =
-            makes_read _ _ _ _ _ _ _ r last c far (1 + made + more) 1 e it.inside finds (sym size) refl
+        pub may_end : length left ≡ length cells → Ends left slot p at to made own
+        may_end held =
+            record {
+              fits = fits_on known.stands.fits held refl known.stands.fits.inside;
+              room = ended_fits.0;
+              traits = ended_fits.1;
+              count = ended_fits.2;
+              short = omega (arith, ended_fits.3, known.stands.in_sheet.within);
+              named = (marker_ahead.0, omega (arith, marker_ahead.1, known.stands.in_sheet.within));
+            }
+
+        pub concept_ended : {q : Part} {last : List ℕ} → q ≡ ended_by p made → last ≡ cells_ended left slot p form at to own
+            → ReadsConcept table s at tabs deeper cells slot (Ok q) last
+        concept_ended {q} {last} e l =
+            makes_read _ _ _ _ _ _ _ (Ok q) last c _ (ap Ok e) it.inside finds (sym size) refl
             (l ∙ ap₂ (λ (x : List ℕ) (e : Entry). lay x slot.next (e ∷ [])) left_is entry ∙ lay_before cells slot.next (concept_entry slot.parent at tabs c)
             (inside_entries slot.next at tabs c))
-
-      pub may_end : length left ≡ length cells → Ends left slot b at to made own
-      may_end held =
-          record {
-            fits = fits_on known.stands.fits held refl known.stands.fits.inside;
-            room = λ far more count g. let f = ended_fits far more count g in (f.0, f.1, f.2, omega (arith, f.3, known.stands.in_sheet.within));
-            named = (marker_ahead.0, omega (arith, marker_ahead.1, known.stands.in_sheet.within));
-          }
-
-      pub concept_ended : {r : Part} {last : List ℕ} → r ≡ ended_by b made → last ≡ cells_ended left slot b form at to own
-          → ReadsConcept table s at tabs deeper cells slot r last
-      concept_ended {r} {last} e l = go b refl e l
-        where
-          go : (p : Part) → b ≡ p → r ≡ ended_by p made → last ≡ cells_ended left slot p form at to own → ReadsConcept table s at tabs deeper cells slot r last
-          go (Part.Read far more count) g e l = inside_ended far more count g r last e l
-          go (Part.Refused why place) g e l = inside_refused why place g r e last

@@ -6,6 +6,7 @@ use mathlib.Core.List.{List, [], ◌∷◌}
 use native.Mathlib.Omega.{arith}
 use lib.ListN.{length, get_or, drop}
 use lib.Dec.{eqb}
+use Rattle.std.specs.Prelude.{Ok}
 use Rattle.paper.specs.Found.{found, taking}
 use Rattle.paper.specs.Bytes.{byte, lf, space, is_blank, is_line_end, starts_in, starts_with, length_in}
 use Rattle.paper.specs.Modes.{Modes}
@@ -17,9 +18,8 @@ use Rattle.text.proofs.Places.{here}
 use Rattle.text.proofs.Stretch.{Stretch, behind_at}
 use Rattle.entries.specs.declared.Slot.{Slot}
 use Rattle.entries.proofs.Laying.{lay_none}
-use Rattle.lines.specs.Parts.{seen, passed, MakesNotes}
+use Rattle.lines.specs.Parts.{reached, passed, MakesNotes}
 use Rattle.lines.specs.declared.part.Part.{Part}
-use Rattle.lines.specs.declared.part.Part.TheVariants.{Read}
 use Rattle.lines.proofs.Ends.{starts_one, stands_one, rest_lf}
 use Rattle.lines.proofs.Blanks.{tabs_blanks, line_by, tabs_found}
 use Rattle.lines.proofs.Crossing.{makes_read}
@@ -53,7 +53,7 @@ module _ {s : List ℕ} {at mark : ℕ} (line : Behind lf s at mark) where
   unfolding is_blank is_line_end
   lf_blank = blank_by line refl
 
-  pub lf_rest : (r : Part) → r ≡ Read (mark + 1) 0 0 → seen r ≡ passed s (line_rest (drop at s))
+  pub lf_rest : reached (Ok (mark + 1)) ≡ passed s (line_rest (drop at s))
   unfolding is_blank
   lf_rest = rest_lf s at mark (blanks line refl) line.starts
 
@@ -75,10 +75,10 @@ module _ {s : List ℕ} {at mark : ℕ} (line : Behind (byte "<") s at mark) whe
 
 -- another byte than "[": no annotations
 pub notes_none : {s : List ℕ} {at mark : ℕ} → Stretch is_tab s at mark → starts_with (byte "[" ∷ []) (drop mark s) ≡ false
-    → (cells : List ℕ) (slot : Slot) → at ≤ length s → (r : Part) → r ≡ Read at 0 0 → MakesNotes s at cells slot r cells
+    → (cells : List ℕ) (slot : Slot) → at ≤ length s → (p : Part) → p ≡ record { end = at; made = 0; own = 0 } → MakesNotes s at cells slot (Ok p) cells
 unfolding annotation_turn annotation_entries
-notes_none {s} {at} {mark} run none cells slot h r q =
+notes_none {s} {at} {mark} run none cells slot h p q =
     let over : annotations (slot.room - slot.next) (drop at s) ≡ found [] (drop at s) =
     turn_over (taking (λ a. 1)) annotation_turn annotation_shorter (slot.room - slot.next) (drop at s) (drop at s)
     (rw (behind_at is_tab s at mark run, annotation_turn, none)) in
-    makes_read _ _ _ _ _ _ _ r cells [] at 0 0 q h over refl refl (sym (lay_none cells slot.next))
+    makes_read _ _ _ _ _ _ _ (Ok p) cells [] _ (ap Ok q) h over refl refl (sym (lay_none cells slot.next))

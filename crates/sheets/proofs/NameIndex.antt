@@ -6,6 +6,8 @@ use mathlib.Core.Logic.{◌⊎◌, ⊎_elim}
 use mathlib.Core.List.{List, []}
 use native.Mathlib.Omega.{arith}
 use lib.ListN.{length, drop, get_or, replicate, length-replicate}
+use Rattle.std.specs.Prelude.{Result, Ok, Err}
+use Rattle.paper.specs.declared.Refused.{Refused}
 use Rattle.paper.specs.Found.{Found}
 use Rattle.paper.specs.Tree.{Marker}
 use Rattle.paper.specs.Limits.{entry_limit}
@@ -14,15 +16,13 @@ use Rattle.paper.proofs.Finds.{Reads}
 use Rattle.paper.proofs.Lines.{rest_reads}
 use Rattle.paper.proofs.Markers.{closing_reads}
 use Rattle.paper.proofs.Content.{content_reads}
-use Rattle.paper.proofs.Told.{number_positive}
 use Rattle.names.specs.Runs.{key_limit}
 use Rattle.entries.specs.declared.Slot.{Slot}
-use Rattle.lines.specs.Parts.{part, Seen, seen, seen_of, passed, MakesContent}
+use Rattle.lines.specs.Parts.{part, seen, seen_of, reached, passed, MakesContent}
 use Rattle.lines.specs.declared.part.Part.{Part}
-use Rattle.lines.specs.declared.part.Part.TheVariants.{Read, Refused}
 use Rattle.lines.proofs.Crossing.{found_at_lem}
 use Rattle.sheets.specs.Traits.{NamesBefore, NamesOnward}
-use Rattle.sheets.specs.Concepts.{ended_by, EndsIn, line_ended}
+use Rattle.sheets.specs.Concepts.{ended_by, line_ended}
 
 -- what an index before a place is before any place behind it, and where it has one start more
 pub names_on : {s : List ℕ} {place next : ℕ} {x : List ℕ} → NamesBefore s place x → place ≤ next → NamesBefore s next x
@@ -53,28 +53,32 @@ names_fit n own few less = ⊎_elim (λ h. omega arith) (λ h. omega arith) n.ro
 -- ---- the index behind what is read
 
 -- up to an end that is not before its place; and whatever is answered of the same end
-pub names_end : {s : List ℕ} {at : ℕ} {x : List ℕ} → NamesBefore s (at + 1) x → {r : Part} {end made own : ℕ} → r ≡ Read end made own → at ≤ end
-    → NamesOnward s r x
-names_end n {r} {end} q h far more mine g = let e : end ≡ far = cc in names_on n (omega arith)
+pub names_end : {s : List ℕ} {at : ℕ} {x : List ℕ} → NamesBefore s (at + 1) x → {r : Result Part Refused} {p : Part} → r ≡ Ok p → at ≤ p.end → NamesOnward s r x
+names_end n {r} {p} q h far g = let e : p ≡ far = cc in names_on n (omega (arith, ap (λ (x : Part). x.end) e))
 
-pub names_same : {s : List ℕ} {r : Part} {x : List ℕ} → NamesOnward s r x → {end made own : ℕ} → r ≡ Read end made own
-    → {other : Part} {more mine : ℕ} → other ≡ Read end more mine → NamesOnward s other x
-names_same n q e = names_end (n _ _ _ q) e (omega arith)
+pub names_same : {s : List ℕ} {p : Part} {x : List ℕ} → NamesOnward s (Ok p) x → {r : Result Part Refused} {far : Part} → r ≡ Ok far → far.end ≡ p.end
+    → NamesOnward s r x
+names_same n e f = names_end (n _ refl) e (omega arith)
 
 -- what a reading from its place on finds: the rest of a line, a closing marker, Content
-names_read : {A : Type 0} (size own : A → ℕ) (P : A → List ℕ → Type 0) (s : List ℕ) (at : ℕ) (r : Part) (y : Found A) → seen r ≡ seen_of size own s y
+names_read : {A : Type 0} (size own : A → ℕ) (P : A → List ℕ → Type 0) (s : List ℕ) (at : ℕ) (r : Result Part Refused) (y : Found A)
+    → seen r ≡ seen_of size own s y
     → Reads (drop at s) P y → at ≤ length s → {x : List ℕ} → NamesBefore s (at + 1) x → NamesOnward s r x
-names_read size own P s at r y e reads h n end made mine g = names_end n g (found_at_lem size own s r P at y end made mine e reads h g).ahead end made mine g
+names_read size own P s at r y e reads h n p g = names_end n g (found_at_lem size own s r P at y p e reads h g).ahead p g
 
-pub names_rest : {s : List ℕ} {at : ℕ} {r : Part} → seen r ≡ passed s (line_rest (drop at s)) → at ≤ length s → {x : List ℕ} → NamesBefore s (at + 1) x
-    → NamesOnward s r x
-names_rest {s} {at} {r} e = names_read (λ b. 0) (λ b. 0) _ s at r (line_rest (drop at s)) e (rest_reads (drop at s))
+-- the place behind a part that makes no entry
+abbrev pub up_to : ℕ → Result Part Refused
+up_to end = Ok (record { end = end; made = 0; own = 0 })
 
-pub names_closing : (w : List ℕ) {s : List ℕ} {at : ℕ} {r : Part} → seen r ≡ passed s (closing w (drop at s)) → at ≤ length s → {x : List ℕ}
-    → NamesBefore s (at + 1) x → NamesOnward s r x
-names_closing w {s} {at} {r} e = names_read (λ b. 0) (λ b. 0) _ s at r (closing w (drop at s)) e (closing_reads w (drop at s))
+pub names_rest : {s : List ℕ} {at end : ℕ} → reached (Ok end) ≡ passed s (line_rest (drop at s)) → at ≤ length s → {x : List ℕ} → NamesBefore s (at + 1) x
+    → NamesOnward s (up_to end) x
+names_rest {s} {at} {end} e = names_read (λ b. 0) (λ b. 0) _ s at (up_to end) (line_rest (drop at s)) e (rest_reads (drop at s))
 
-pub names_content : (tabs from to : ℕ) {s : List ℕ} {at : ℕ} (cells : List ℕ) (slot : Slot) {r : Part} (after : List ℕ)
+pub names_closing : (w : List ℕ) {s : List ℕ} {at end : ℕ} → reached (Ok end) ≡ passed s (closing w (drop at s)) → at ≤ length s → {x : List ℕ}
+    → NamesBefore s (at + 1) x → NamesOnward s (up_to end) x
+names_closing w {s} {at} {end} e = names_read (λ b. 0) (λ b. 0) _ s at (up_to end) (closing w (drop at s)) e (closing_reads w (drop at s))
+
+pub names_content : (tabs from to : ℕ) {s : List ℕ} {at : ℕ} (cells : List ℕ) (slot : Slot) {r : Result Part Refused} (after : List ℕ)
     → MakesContent s at tabs from to cells slot r after → at ≤ length s → {x : List ℕ} → NamesBefore s (at + 1) x → NamesOnward s r x
 names_content tabs from to {s} {at} cells slot {r} after m =
     let k : Marker = record { name = part s from to; traits = []; white = [] } in
@@ -82,11 +86,10 @@ names_content tabs from to {s} {at} cells slot {r} after m =
     names_read (λ c. 1) (λ c. 1) _ s at r (content_of tabs room k (drop at s)) (m k refl).says (content_reads tabs room k (drop at s))
 
 -- what was read, with the rest of its line; and a Concept that ends with its body
-pub names_line : {s : List ℕ} {part : Part} → EndsIn s part → {x : List ℕ} → NamesOnward s part x → {r : Part} → seen r ≡ line_ended s part → NamesOnward s r x
-names_line {s} {part = Read end made own} inside n e =
-    names_read (λ rest. made) (λ rest. own) _ s end _ (line_rest (drop end s)) e (rest_reads (drop end s)) (inside end made own refl) (n end made own refl)
-names_line {s} {part = Refused why place} inside n e = λ end made own g. absurd (number_positive why (ap (λ (y : Seen). y.number) (sym e ∙ ap seen g)))
+pub names_line : {s : List ℕ} {part : Part} → part.end ≤ length s → {x : List ℕ} → NamesOnward s (Ok part) x → {r : Result Part Refused}
+    → seen r ≡ line_ended s part → NamesOnward s r x
+names_line {s} {part} inside n e =
+    names_read (λ rest. part.made) (λ rest. part.own) _ s part.end _ (line_rest (drop part.end s)) e (rest_reads (drop part.end s)) inside (n part refl)
 
-pub names_ended : {s : List ℕ} {body : Part} {x : List ℕ} → NamesOnward s body x → (more : ℕ) {r : Part} → r ≡ ended_by body more → NamesOnward s r x
-names_ended {s} {body = Read end made own} n more e = names_end (n end made own refl) e (omega arith)
-names_ended {s} {body = Refused why place} n more e = λ end made own g. let z : ◌≡◌ {A = ℕ} 0 1 = cc in absurd (omega arith)
+pub names_ended : {s : List ℕ} {body : Part} {x : List ℕ} → NamesOnward s (Ok body) x → (more : ℕ) {p : Part} → p ≡ ended_by body more → NamesOnward s (Ok p) x
+names_ended n more e = names_same n refl (ap (λ (x : Part). x.end) e)

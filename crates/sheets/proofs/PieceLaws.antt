@@ -7,7 +7,8 @@ use mathlib.Core.List.{List, [], ◌∷◌, ◌++◌, append-nil}
 use native.Mathlib.Nat.{zero-add, add-zero}
 use native.Mathlib.Omega.{arith}
 use lib.ListN.{length, drop, length-drop}
-use Rattle.paper.specs.declared.Refusal.{Refusal}
+use Rattle.std.specs.Prelude.{Result, Ok, Err}
+use Rattle.paper.specs.declared.Refused.{Refused}
 use Rattle.paper.specs.Found.{Found, found, fault, and_then}
 use Rattle.paper.specs.Bytes.{bytes, behind, starts_with}
 use Rattle.paper.specs.Modes.{Modes}
@@ -24,30 +25,29 @@ use Rattle.entries.specs.Laid.{lay, slot_after}
 use Rattle.entries.specs.declared.Slot.{Slot}
 use Rattle.entries.proofs.Laying.{lay_none}
 use Rattle.text.proofs.Stretch.{Stretch, behind_at}
-use Rattle.lines.specs.Parts.{seen, seen_of, passed, Makes}
+use Rattle.lines.specs.Parts.{seen, seen_of, reached, passed, Makes}
 use Rattle.lines.specs.declared.part.Part.{Part}
-use Rattle.lines.specs.declared.part.Part.TheVariants.{Read, Refused}
-use Rattle.lines.proofs.Crossing.{further, says_read, FoundAt, found_at_lem, passed_on, seen_same, makes_passed, makes_read, makes_same}
+use Rattle.lines.proofs.Crossing.{further, says_read, FoundAt, found_at_lem, reached_at, passed_on, seen_same, makes_passed, makes_read, makes_same}
 use Rattle.lines.proofs.Ends.{rest_at}
 use Rattle.lines.proofs.Turns.{makes_behind}
 use Rattle.sheets.specs.Concepts.{Ready, annotated_size, annotated_count, annotated_entries, ReadsAnnotated, ReadsChildren, piece_size, piece_count, piece_entries}
-use Rattle.sheets.specs.Concepts.{ReadsPiece, EndsIn, line_ended, up_to_mark}
+use Rattle.sheets.specs.Concepts.{ReadsPiece, line_ended, up_to_mark}
 use Rattle.sheets.proofs.Lengths.{body_long, body_few}
 use Rattle.sheets.proofs.Bodies.{before_size, before_count, before_entries, onward, body_over, body_on}
 
 -- ---- what was read, and the rest of its line
 
-module _ (s : List ℕ) {part : Part} {end made own : ℕ} (q : part ≡ Read end made own) (rest : Part) (e : seen rest ≡ passed s (line_rest (drop end s))) where
-  pub rest_refused : {why : Refusal} {place : ℕ} → rest ≡ Refused why place → seen rest ≡ line_ended s part
-  rest_refused {why} {place} f =
-      passed_on (λ b. 0) (λ b. 0) s rest (λ b. made) (λ b. own) (λ x. x) (λ n left. refl) (line_rest (drop end s)) why place e f
-      ∙ ap (line_ended s) (sym q)
+module _ (s : List ℕ) (part : Part) where
+  pub rest_refused : (e : Refused) → seen (Err e) ≡ passed s (line_rest (drop part.end s)) → {r : Result Part Refused} → r ≡ Err e → seen r ≡ line_ended s part
+  rest_refused e k {r} q =
+      passed_on (λ b. 0) (λ b. 0) s r (λ b. part.made) (λ b. part.own) (λ x. x) (λ n left. refl) (line_rest (drop part.end s)) e k q
 
-  pub rest_read : end ≤ length s → {next none no : ℕ} → rest ≡ Read next none no → seen (Read next made own) ≡ line_ended s part
-  rest_read h {next} {none} {no} f =
-      let r = rest_at s end rest next none no h e f in
-      says_read (λ b. made) (λ b. own) s (line_rest (drop end s)) (Read next made own) r.it next made own refl r.inside r.finds refl refl
-      ∙ ap (line_ended s) (sym q)
+  pub rest_read : part.end ≤ length s → {next : ℕ} → reached (Ok next) ≡ passed s (line_rest (drop part.end s))
+      → seen (Ok (record { end = next; made = part.made; own = part.own })) ≡ line_ended s part
+  rest_read h {next} e =
+      let r = rest_at s part.end (Ok next) next h e refl in
+      let p : Part = record { end = next; made = part.made; own = part.own } in
+      says_read (λ b. part.made) (λ b. part.own) s (line_rest (drop part.end s)) (Ok p) r.it p refl r.inside r.finds refl refl
 
 -- ---- a piece at a place
 
@@ -79,7 +79,7 @@ module _ {table s : List ℕ} {at deeper : ℕ} {cells : List ℕ} {slot : Slot}
       (append-nil (inside_entries (slot.next + length a.notes) start a.tabs a.concept))
       ∙ sym (append-nil entries)
 
-  piece_ended : (last : Part) → seen last ≡ seen_of (λ rest. made) (λ rest. own) s (line_rest (drop end s)) → ReadsPiece table s at deeper cells slot last after
+  piece_ended : (last : Result Part Refused) → seen last ≡ seen_of (λ rest. made) (λ rest. own) s (line_rest (drop end s)) → ReadsPiece table s at deeper cells slot last after
   unfolding concept_size body_count
   piece_ended last e =
       makes_behind ended piece_size piece_count (piece_entries slot.parent slot.next at) (λ rest. []) entries s cells after slot.next
@@ -97,11 +97,11 @@ annotated_line x = and_then x (λ a left. and_then (line_rest left) (λ rest end
 abbrev pub behind_tabs : Found Annotated → Found ℕ → Found BodyPiece
 behind_tabs x tabs = and_then tabs (λ n mark. annotated_line x)
 
-module _ {table index s : List ℕ} {at : ℕ} {cells : List ℕ} {slot : Slot} (h : Ready table index s at cells slot) (deeper : ℕ) where
+module _ (table : List ℕ) {s : List ℕ} {at : ℕ} {cells : List ℕ} {slot : Slot} (h : Ready s at cells slot) (deeper : ℕ) where
   abbrev room : ℕ
   room = slot.room - slot.next
 
-  abbrev Piece : Part → List ℕ → Type 0
+  abbrev Piece : Result Part Refused → List ℕ → Type 0
   Piece r after = ReadsPiece table s at deeper cells slot r after
 
   abbrev sought : Found BodyPiece
@@ -111,7 +111,7 @@ module _ {table index s : List ℕ} {at : ℕ} {cells : List ℕ} {slot : Slot} 
   noted = annotated_of (modes_of table) bounds deeper room (drop at s)
 
   module _ {o : Bool} (asked : o ≡ is_blank_line (drop at s)) where
-    pub blank_made : o ≡ true → (r : Part) → seen r ≡ passed s (line_rest (drop at s)) → Piece r cells
+    pub blank_made : o ≡ true → (r : Result Part Refused) → seen r ≡ passed s (line_rest (drop at s)) → Piece r cells
     unfolding concept_size body_count inside_entries
     blank_made t r e =
         makes_behind blank_piece piece_size piece_count (piece_entries slot.parent slot.next at) (λ b. []) [] s cells cells slot.next
@@ -119,27 +119,25 @@ module _ {table index s : List ℕ} {at : ℕ} {cells : List ℕ} {slot : Slot} 
         (when_true (is_blank_line (drop at s)) _ _ (sym asked ∙ t)) (λ b. refl) (sym (lay_none cells slot.next))
         (record { says = e; laid = λ b left f. sym (lay_none cells (slot.next + 0)) })
 
-    module _ (f : o ≡ false) (tabs : Part) (told : seen tabs ≡ passed s (tabs_only (drop at s))) where
+    module _ (f : o ≡ false) where
       by_tabs : sought ≡ behind_tabs noted (tabs_only (drop at s))
       by_tabs = when_false (is_blank_line (drop at s)) _ _ (sym asked ∙ f)
 
-      pub tabs_refused : {why : Refusal} {place : ℕ} → tabs ≡ Refused why place → Piece tabs cells
-      tabs_refused {why} {place} q =
-          makes_passed _ _ _ _ _ _ _ tabs cells (λ n. 0) (λ n. 0) (behind_tabs noted) (λ k left. refl)
-          (tabs_only (drop at s)) why place told q by_tabs
+      pub tabs_refused : (e : Refused) → seen (Err e) ≡ passed s (tabs_only (drop at s)) → {r : Result Part Refused} → r ≡ Err e → Piece r cells
+      tabs_refused e told {r} q =
+          makes_passed _ _ _ _ _ _ _ r cells (λ n. 0) (λ n. 0) (behind_tabs noted) (λ k left. refl) (tabs_only (drop at s)) e told q by_tabs
 
       -- tabs only: annotations, a Concept, and the rest of its line
-      pub tabs_passed : {line none no : ℕ} → tabs ≡ Read line none no → sought ≡ annotated_line noted
-      tabs_passed {line} {none} {no} passes =
+      pub tabs_passed : {line : ℕ} → reached (Ok line) ≡ passed s (tabs_only (drop at s)) → sought ≡ annotated_line noted
+      tabs_passed {line} told =
           let t =
-          found_at_lem (λ n. 0) (λ n. 0) s tabs (λ n mark. mark ≡ behind is_tab (drop at s)) at (tabs_only (drop at s)) line none no told (only_reads (drop at s))
-          h.in_sheet.inside passes in
+          reached_at (λ n mark. mark ≡ behind is_tab (drop at s)) s at (tabs_only (drop at s)) (Ok line) line told (only_reads (drop at s)) h.in_sheet.inside refl in
           by_tabs ∙ ap (behind_tabs noted) t.finds
 
-  module _ (by : sought ≡ annotated_line noted) {r : Part} {after : List ℕ} (one : ReadsAnnotated table s at deeper cells slot r after) where
-    concept_at : {end made own : ℕ} → r ≡ Read end made own → ConceptAt table s at deeper cells slot after end made own
-    concept_at {end} {made} {own} q =
-        let f = found_at_lem annotated_size annotated_count s r _ at noted end made own one.says
+  module _ (by : sought ≡ annotated_line noted) {r : Result Part Refused} {after : List ℕ} (one : ReadsAnnotated table s at deeper cells slot r after) where
+    concept_at : {p : Part} → r ≡ Ok p → ConceptAt table s at deeper cells slot after p.end p.made p.own
+    concept_at {p} q =
+        let f = found_at_lem annotated_size annotated_count s r _ at noted p one.says
         (annotated_reads (modes_of table) bounds deeper room (drop at s)) h.in_sheet.inside q in
         record {
           it = f.it;
@@ -147,26 +145,20 @@ module _ {table index s : List ℕ} {at : ℕ} {cells : List ℕ} {slot : Slot} 
           many = f.many;
           owned = f.owned;
           inside = f.inside;
-          laid = one.laid f.it (drop end s) f.finds;
+          laid = one.laid f.it (drop p.end s) f.finds;
         }
 
-    pub ends_in : EndsIn s r
-    ends_in end made own q = (concept_at q).inside
+    pub concept_refused : {e : Refused} → r ≡ Err e → {last : Result Part Refused} → last ≡ Err e → Piece last after
+    concept_refused {e} p {last} q =
+        makes_passed _ _ _ _ _ _ _ last after annotated_size annotated_count annotated_line (λ n left. refl) noted e (ap seen (sym p) ∙ one.says) q by
 
-    pub line_made : (last : Part) → seen last ≡ line_ended s r → Piece last after
-    line_made last e = go r refl e
-      where
-        go : (y : Part) → r ≡ y → seen last ≡ line_ended s y → Piece last after
-        go (Read end made own) q k = piece_ended (concept_at q) last k
-        go (Refused why place) q k =
-            let m : Piece r after =
-            makes_passed _ _ _ _ _ _ _ r after annotated_size annotated_count annotated_line (λ n left. refl) noted why place one.says q by in
-            record { says = k ∙ sym (ap seen q) ∙ m.says; laid = m.laid }
+    pub line_made : {p : Part} → r ≡ Ok p → (last : Result Part Refused) → seen last ≡ line_ended s p → Piece last after
+    line_made q last e = piece_ended (concept_at q) last e
 
 -- ---- the pieces of a body, one after another
 
 -- the body from i on, where so many entries are made already
-abbrev Rest : Modes → ℕ → List ℕ → Slot → List ℕ → ℕ → ℕ → ℕ → Part → List ℕ → Type 0
+abbrev Rest : Modes → ℕ → List ℕ → Slot → List ℕ → ℕ → ℕ → ℕ → Result Part Refused → List ℕ → Type 0
 Rest m deeper s slot cells i made own r after =
     Makes (λ b. made + body_size b) (λ b. own + body_count b) (body_entries slot.parent (slot.next + made) i) s cells (slot.next + made)
     (up_to_mark (body_of m bounds deeper (slot.room - (slot.next + made)) (drop i s))) r after
@@ -183,7 +175,7 @@ pub record Pieces (table s : List ℕ) (at deeper : ℕ) (lent : List ℕ) (slot
   pub few : slot.next + made ≤ slot.room
   pub fewer : own ≤ made
   pub held : length cells ≡ length lent
-  pub goes_on : (r : Part) (after : List ℕ) → Rest (modes_of table) deeper s slot cells i made own r after → ReadsChildren table s at deeper lent slot r after
+  pub goes_on : (r : Result Part Refused) (after : List ℕ) → Rest (modes_of table) deeper s slot cells i made own r after → ReadsChildren table s at deeper lent slot r after
 
 pub pieces_begin : (table s : List ℕ) (at deeper : ℕ) (cells : List ℕ) (slot : Slot) → at ≤ length s → slot.next ≤ slot.room
     → Pieces table s at deeper cells slot cells at 0 0
@@ -214,11 +206,11 @@ module _ {table s : List ℕ} {at deeper : ℕ} {lent : List ℕ} {slot : Slot} 
   closing_line : is_closing (drop i s) ≡ o
   closing_line = ap (starts_with (bytes "</")) (behind_at is_tab s i mark run) ∙ sym asked
 
-  pub pieces_over : o ≡ true → ReadsChildren table s at deeper lent slot (Read mark made own) cells
+  pub pieces_over : o ≡ true → ReadsChildren table s at deeper lent slot (Ok (record { end = mark; made = made; own = own })) cells
   unfolding concept_size body_count inside_entries
   pieces_over t =
-      so_far.goes_on (Read mark made own) cells
-      (makes_read _ _ _ _ _ _ (up_to_mark reading) (Read mark made own) cells done mark made own refl run.2
+      so_far.goes_on (Ok (record { end = mark; made = made; own = own })) cells
+      (makes_read _ _ _ _ _ _ (up_to_mark reading) (Ok (record { end = mark; made = made; own = own })) cells done _ refl run.2
       (ap up_to_mark (body_over m deeper left (drop i s) (closing_line ∙ t)) ∙ ap (found done) (behind_at is_tab s i mark run))
       (sym (add-zero made)) (sym (add-zero own)) (sym (lay_none cells (slot.next + made))))
 
@@ -227,24 +219,34 @@ module _ {table s : List ℕ} {at deeper : ℕ} {lent : List ℕ} {slot : Slot} 
     by_piece = body_on m deeper left (drop i s) (closing_line ∙ f)
 
     -- one more
-    module _ {next : Slot} (lends : next ≡ slot_after slot made) {r : Part} {after : List ℕ} (one : ReadsPiece table s i deeper cells next r after) where
+    module _ {next : Slot} (lends : next ≡ slot_after slot made) {r : Result Part Refused} {after : List ℕ}
+        (one : ReadsPiece table s i deeper cells next r after) where
       abbrev start : ℕ
       start = slot.next + made
 
       found_one : Makes piece_size piece_count (piece_entries slot.parent start i) s cells start (piece_of m bounds deeper left (drop i s)) r after
       found_one = rw lends at one
 
-      pub pieces_refused : {why : Refusal} {place : ℕ} → r ≡ Refused why place → ReadsChildren table s at deeper lent slot r after
-      pieces_refused {why} {place} q =
-          so_far.goes_on r after
-          (makes_passed _ _ _ _ _ _ (up_to_mark reading) r after piece_size piece_count (λ x. up_to_mark (and_then x (onward m deeper left))) (λ k rest. refl)
-          (piece_of m bounds deeper left (drop i s)) why place found_one.says q (ap up_to_mark by_piece))
+      pub pieces_refused : {e : Refused} → r ≡ Err e → {last : Result Part Refused} → last ≡ Err e → ReadsChildren table s at deeper lent slot last after
+      pieces_refused {e} p {last} q =
+          so_far.goes_on last after
+          (makes_passed _ _ _ _ _ _ (up_to_mark reading) last after piece_size piece_count (λ x. up_to_mark (and_then x (onward m deeper left))) (λ k rest. refl)
+          (piece_of m bounds deeper left (drop i s)) e (ap seen (sym p) ∙ found_one.says) q (ap up_to_mark by_piece))
 
-      module _ {end more mine : ℕ} (q : r ≡ Read end more mine) where
+      module _ {p : Part} (q : r ≡ Ok p) where
+        abbrev end : ℕ
+        end = p.end
+
+        abbrev more : ℕ
+        more = p.made
+
+        abbrev mine : ℕ
+        mine = p.own
+
         piece : FoundAt piece_size piece_count (λ p rest. ReadPiece m bounds deeper left (drop i s) p rest) s i
-            (piece_of m bounds deeper left (drop i s)) end more mine
+            (piece_of m bounds deeper left (drop i s)) p.end p.made p.own
         piece =
-            found_at_lem piece_size piece_count s r _ i (piece_of m bounds deeper left (drop i s)) end more mine found_one.says
+            found_at_lem piece_size piece_count s r _ i (piece_of m bounds deeper left (drop i s)) p found_one.says
             (piece_reads m bounds deeper left (drop i s)) so_far.inside q
 
         pub piece_ahead : (i < end) × (end ≤ length s) × (start + more ≤ slot.room) × (mine ≤ more)

@@ -3,14 +3,17 @@
 use Prim.Native.Nat.{ℕ, ◌+◌, ◌-◌, ◌*◌, ◌≤◌, ◌<◌}
 use mathlib.Core.Path.{◌≡◌, refl, sym, ap, ap₂, ◌∙◌}
 use mathlib.Core.List.{List, []}
+use mathlib.Core.Logic.{◌⊎◌, inl, inr}
 use native.Mathlib.Omega.{arith}
 use lib.ListN.{length, drop, replicate, length-drop}
 use lib.Seq.{sets}
 use lib.Dec.{ltb}
 use borrow.Author.Tests.{lt-ltb, le-ltb}
-use Rattle.paper.specs.declared.Answer.{Answer}
-use Rattle.paper.specs.declared.Refusal.{Refusal}
-use Rattle.paper.specs.Answer.{Told, accepted, refused, number_of, told}
+use Rattle.std.specs.Prelude.{Result, Ok, Err}
+use Rattle.paper.specs.declared.Accepted.{Accepted}
+use Rattle.paper.specs.declared.Refused.{Refused}
+use Rattle.paper.specs.Answer.{Answer, accepted, refused, number_of, told}
+use Rattle.paper.specs.declared.Told.{Told}
 use Rattle.paper.specs.Found.{Found, found, fault, and_then, place_in}
 use Rattle.paper.specs.Bytes.{is_blank, front, behind, sheet_bytes}
 use Rattle.paper.specs.Modes.{Modes, mode_table, read_table}
@@ -19,7 +22,7 @@ use Rattle.paper.specs.Tree.{Blank, Annotated, Sheet}
 use Rattle.paper.specs.Grammar.{blanks_onto}
 use Rattle.paper.specs.Entries.{no_parent, entry_cells, sheet_size, entries, filled, all_cells}
 use Rattle.paper.specs.Reading.{blank_lines, is_tab, tabs_only, annotated_of, last_blanks, sheet_tree, room_of, sheet_of, Reading, reading, bounds}
-use Rattle.paper.proofs.Told.{number_positive}
+use Rattle.paper.proofs.Numbers.{number_positive}
 use Rattle.paper.proofs.Tests.{split}
 use Rattle.paper.proofs.Finds.{Finds, Reads}
 use Rattle.paper.proofs.Lines.{ReadBlanks, blanks_reads, only_reads}
@@ -28,38 +31,37 @@ use Rattle.paper.proofs.Sheets.{ReadSheet, sheet_reads}
 use Rattle.paper.proofs.Before.{Only, bytes_only}
 use Rattle.paper.proofs.Sizes.{entries_size}
 use Rattle.text.proofs.Places.{place_back}
-use Rattle.text.specs.Steps.{checked_of, checked}
-use Rattle.text.specs.declared.utf8.Checked.{Checked}
+use Rattle.text.specs.Steps.{broken, checked_of, checked}
 use Rattle.modes.specs.Table.{Valid, modes_of}
-use Rattle.modes.specs.Index.{Indexed}
 use Rattle.modes.proofs.Answered.{number_told}
 use Rattle.entries.specs.Laid.{lay}
 use Rattle.entries.proofs.Laying.{lay_none, lay_filled}
-use Rattle.lines.specs.Parts.{seen, passed, Makes}
+use Rattle.lines.specs.Parts.{seen, entryless, reached, passed, Makes}
 use Rattle.lines.specs.declared.part.Part.{Part}
-use Rattle.lines.specs.declared.part.Part.TheVariants.{Read, Refused}
-use Rattle.lines.proofs.Crossing.{seen_map, FoundAt, found_at_lem, fault_at, refused_then, makes_passed, makes_read}
+use Rattle.lines.proofs.Crossing.{seen_map, FoundAt, found_at_lem, reached_at, fault_at, refused_then, makes_passed, makes_read}
 use Rattle.lines.proofs.Lengths.{blanks_long}
 use Rattle.sheets.specs.Concepts.{Ready, annotated_size, annotated_count, annotated_entries}
 use Rattle.sheets.specs.Sheets.{answer_of, AnswersSheet, root_count, behind_root}
 
 -- ---- blank lines, by their place
 
-module _ (s : List ℕ) (at : ℕ) (r : Part) (e : seen r ≡ passed s (blank_lines (drop at s))) where
-  pub blanks_refused : (why : Refusal) (place : ℕ) → r ≡ Refused why place → seen r ≡ passed s (behind_root (drop at s))
-  blanks_refused why place q =
-      refused_then (λ b. 0) (λ b. 0) s r (λ b. 0) (λ b. 0) (λ after left. last_blanks (front is_blank left) (behind is_blank left)) (blank_lines (drop at s)) why place e q
+module _ (s : List ℕ) (at : ℕ) where
+  pub blanks_refused : (e : Refused) → seen (Err e) ≡ passed s (blank_lines (drop at s)) → (r : Result ℕ Refused) → r ≡ Err e
+      → reached r ≡ passed s (behind_root (drop at s))
+  blanks_refused e k r q =
+      refused_then (λ b. 0) (λ b. 0) s (entryless r) (λ b. 0) (λ b. 0) (λ after left. last_blanks (front is_blank left) (behind is_blank left))
+      (blank_lines (drop at s)) e k (ap entryless q)
 
-  module _ (h : at ≤ length s) (end made mine : ℕ) (q : r ≡ Read end made mine) where
-    blanks_found : FoundAt (λ b. 0) (λ b. 0) (λ bs left. ReadBlanks (drop at s) bs left) s at (blank_lines (drop at s)) end made mine
-    blanks_found = found_at_lem (λ b. 0) (λ b. 0) s r _ at (blank_lines (drop at s)) end made mine e (blanks_reads (drop at s)) h q
+  module _ (h : at ≤ length s) (end : ℕ) (e : reached (Ok end) ≡ passed s (blank_lines (drop at s))) where
+    blanks_found : FoundAt (λ b. 0) (λ b. 0) (λ bs left. ReadBlanks (drop at s) bs left) s at (blank_lines (drop at s)) end 0 0
+    blanks_found = reached_at _ s at (blank_lines (drop at s)) (Ok end) end e (blanks_reads (drop at s)) h refl
 
     pub blanks_inside : end ≤ length s
     blanks_inside = blanks_found.inside
 
-    pub blanks_last : (t : Part) → seen t ≡ passed s (last_blanks (front is_blank (drop end s)) (behind is_blank (drop end s)))
-        → seen t ≡ passed s (behind_root (drop at s))
-    blanks_last t g = rw blanks_found.finds g
+    pub blanks_last : (r : Result ℕ Refused) → reached r ≡ passed s (last_blanks (front is_blank (drop end s)) (behind is_blank (drop end s)))
+        → reached r ≡ passed s (behind_root (drop at s))
+    blanks_last r g = rw blanks_found.finds g
 
 -- ---- the root of a sheet, and what is read behind it
 
@@ -110,7 +112,7 @@ module _ (m : Modes) (s cells : List ℕ) where
   abbrev tree : Found Sheet
   tree = sheet_tree m bounds concept_limit (room_of (length cells)) s
 
-  abbrev Grows : Part → List ℕ → Type 0
+  abbrev Grows : Result Part Refused → List ℕ → Type 0
   Grows r after = Makes sheet_size root_count entries s cells 0 tree r after
 
   -- what is read behind the blank lines before the root, and behind its tabs
@@ -131,35 +133,32 @@ module _ (m : Modes) (s cells : List ℕ) where
     pub inside : first ≤ length s
     pub same : tree ≡ rooted before (drop first s)
 
-  module _ (blanks : Part) (e : seen blanks ≡ passed s (blank_lines (drop 0 s))) where
-    pub before_refused : (after : List ℕ) (why : Refusal) (place : ℕ) → blanks ≡ Refused why place → Grows blanks after
-    before_refused after why place q =
-        makes_passed sheet_size root_count entries s cells 0 tree blanks after (λ b. 0) (λ b. 0) (λ x. and_then x led) (λ k left. refl)
-        (blank_lines s) why place e q by_blanks
+  pub before_refused : (e : Refused) → seen (Err e) ≡ passed s (blank_lines (drop 0 s)) → {r : Result Part Refused} → r ≡ Err e → (after : List ℕ) → Grows r after
+  before_refused e k {r} q after =
+      makes_passed sheet_size root_count entries s cells 0 tree r after (λ b. 0) (λ b. 0) (λ x. and_then x led) (λ k left. refl) (blank_lines s) e k q by_blanks
 
-    module _ (first made mine : ℕ) (q : blanks ≡ Read first made mine) (tabs : Part) (f : seen tabs ≡ passed s (tabs_only (drop first s))) where
-      it : FoundAt (λ b. 0) (λ b. 0) (λ bs left. ReadBlanks s bs left) s 0 (blank_lines s) first made mine
-      it = blanks_found s 0 blanks e (omega arith) first made mine q
+  module _ (first : ℕ) (e : reached (Ok first) ≡ passed s (blank_lines (drop 0 s))) where
+    it : FoundAt (λ b. 0) (λ b. 0) (λ bs left. ReadBlanks s bs left) s 0 (blank_lines s) first 0 0
+    it = blanks_found s 0 (omega arith) first e
 
-      by_tabs : tree ≡ led it.it (drop first s)
-      by_tabs = by_blanks ∙ ap (λ (x : Found (List Blank)). and_then x led) it.finds
+    by_tabs : tree ≡ led it.it (drop first s)
+    by_tabs = by_blanks ∙ ap (λ (x : Found (List Blank)). and_then x led) it.finds
 
-      pub tabs_refused : (after : List ℕ) (why : Refusal) (place : ℕ) → tabs ≡ Refused why place → Grows tabs after
-      tabs_refused after why place r =
-          makes_passed sheet_size root_count entries s cells 0 tree tabs after (λ n. 0) (λ n. 0) (λ x. and_then x (λ n mark. rooted it.it (drop first s)))
-          (λ k left. refl) (tabs_only (drop first s)) why place f r by_tabs
+    pub tabs_refused : (w : Refused) → seen (Err w) ≡ passed s (tabs_only (drop first s)) → {r : Result Part Refused} → r ≡ Err w → (after : List ℕ) → Grows r after
+    tabs_refused w f {r} q after =
+        makes_passed sheet_size root_count entries s cells 0 tree r after (λ n. 0) (λ n. 0) (λ x. and_then x (λ n mark. rooted it.it (drop first s)))
+        (λ k left. refl) (tabs_only (drop first s)) w f q by_tabs
 
-      pub tabs_led : (mark some own : ℕ) → tabs ≡ Read mark some own → Led first
-      tabs_led mark some own r =
-          let t =
-          found_at_lem (λ n. 0) (λ n. 0) s tabs (λ n left. left ≡ behind is_tab (drop first s)) first (tabs_only (drop first s)) mark some own f (only_reads (drop first s))
-          it.inside r in
-          record {
-            before = it.it;
-            starts = omega (arith, ap length it.holds.covers, blanks_long it.it (drop first s), length-drop first s, it.inside);
-            inside = it.inside;
-            same = by_tabs ∙ ap (λ (x : Found ℕ). and_then x (λ n mark. rooted it.it (drop first s))) t.finds;
-          }
+    pub tabs_led : (mark : ℕ) → reached (Ok mark) ≡ passed s (tabs_only (drop first s)) → Led first
+    tabs_led mark f =
+        let t =
+        reached_at (λ n left. left ≡ behind is_tab (drop first s)) s first (tabs_only (drop first s)) (Ok mark) mark f (only_reads (drop first s)) it.inside refl in
+        record {
+          before = it.it;
+          starts = omega (arith, ap length it.holds.covers, blanks_long it.it (drop first s), length-drop first s, it.inside);
+          inside = it.inside;
+          same = by_tabs ∙ ap (λ (x : Found ℕ). and_then x (λ n mark. rooted it.it (drop first s))) t.finds;
+        }
 
   -- the root was read to an end, and its entries are laid
   pub record RootAt (end made own : ℕ) (after : List ℕ) : Type 0 where
@@ -171,7 +170,7 @@ module _ (m : Modes) (s cells : List ℕ) where
     pub count : own ≡ annotated_count root
     pub laid : after ≡ lay cells 0 (annotated_entries no_parent 0 (length (blanks_onto before [])) root)
 
-  module _ (first : ℕ) (l : Led first) (deeper room : ℕ) (deep : deeper ≡ concept_limit) (lent : room ≡ room_of (length cells)) (r : Part) (after : List ℕ)
+  module _ (first : ℕ) (l : Led first) (deeper room : ℕ) (deep : deeper ≡ concept_limit) (lent : room ≡ room_of (length cells)) (r : Result Part Refused) (after : List ℕ)
       (g : Makes annotated_size annotated_count (annotated_entries no_parent 0 first) s cells 0
       (annotated_of m bounds deeper (room - 0) (drop first s)) r after) where
     abbrev reads : Found Annotated
@@ -180,14 +179,14 @@ module _ (m : Modes) (s cells : List ℕ) where
     roots : Makes annotated_size annotated_count (annotated_entries no_parent 0 first) s cells 0 reads r after
     roots = let n : room - 0 ≡ room_of (length cells) = omega arith in rw (deep, n) at g
 
-    pub root_refused : (why : Refusal) (place : ℕ) → r ≡ Refused why place → Grows r after
-    root_refused why place q =
-        makes_passed sheet_size root_count entries s cells 0 tree r after annotated_size annotated_count (λ x. and_then x (ended l.before)) (λ k left. refl) reads why place
-        roots.says q l.same
+    pub root_refused : (e : Refused) → r ≡ Err e → {last : Result Part Refused} → last ≡ Err e → Grows last after
+    root_refused e p {last} q =
+        makes_passed sheet_size root_count entries s cells 0 tree last after annotated_size annotated_count (λ x. and_then x (ended l.before)) (λ k left. refl) reads e
+        (ap seen (sym p) ∙ roots.says) q l.same
 
-    pub root_read : (end made own : ℕ) → r ≡ Read end made own → RootAt end made own after
-    root_read end made own q =
-        let t = found_at_lem annotated_size annotated_count s r _ first reads end made own roots.says
+    pub root_read : (p : Part) → r ≡ Ok p → RootAt p.end p.made p.own after
+    root_read p q =
+        let t = found_at_lem annotated_size annotated_count s r _ first reads p roots.says
         (annotated_reads m bounds concept_limit (room_of (length cells)) (drop first s)) l.inside q in
         record {
           before = l.before;
@@ -196,31 +195,31 @@ module _ (m : Modes) (s cells : List ℕ) where
           same = l.same ∙ ap (λ (x : Found Annotated). and_then x (ended l.before)) t.finds;
           size = sym t.many;
           count = sym t.owned;
-          laid = roots.laid t.it (drop end s) t.finds ∙ ap (λ (k : ℕ). lay cells 0 (annotated_entries no_parent 0 k t.it)) l.starts;
+          laid = roots.laid t.it (drop p.end s) t.finds ∙ ap (λ (k : ℕ). lay cells 0 (annotated_entries no_parent 0 k t.it)) l.starts;
         }
 
-  module _ (end made own : ℕ) (after : List ℕ) (root : RootAt end made own after) (r : Part) (e : seen r ≡ passed s (behind_root (drop end s))) where
-    rests : seen r ≡ passed s tree
-    rests = e ∙ rest_alike root.before root.root s (drop end s) ∙ ap (passed s) (sym root.same)
+  module _ (end made own : ℕ) (after : List ℕ) (root : RootAt end made own after) where
+    rests : (r : Result ℕ Refused) → reached r ≡ passed s (behind_root (drop end s)) → reached r ≡ passed s tree
+    rests r e = e ∙ rest_alike root.before root.root s (drop end s) ∙ ap (passed s) (sym root.same)
 
-    pub rest_refused : (why : Refusal) (place : ℕ) → r ≡ Refused why place → Grows r after
-    rest_refused why place q = makes_passed sheet_size root_count entries s cells 0 tree r after (λ t. 0) (λ t. 0) (λ x. x) (λ k left. refl) tree why place rests q refl
+    pub rest_refused : (w : Refused) → seen (Err w) ≡ passed s (behind_root (drop end s)) → {r : Result Part Refused} → r ≡ Err w → Grows r after
+    rest_refused w k {r} q =
+        makes_passed sheet_size root_count entries s cells 0 tree r after (λ t. 0) (λ t. 0) (λ x. x) (λ k left. refl) tree w (rests (Err w) k) q refl
 
-    pub tree_read : (last some mine : ℕ) → r ≡ Read last some mine → Grows (Read last made own) after
-    tree_read last some mine q =
-        let t = found_at_lem (λ t. 0) (λ t. 0) s r (λ t left. ReadSheet m bounds concept_limit (room_of (length cells)) s t left) 0 tree last some mine rests
-        (sheet_reads m bounds concept_limit (room_of (length cells)) s) (omega arith) q in
+    pub tree_read : (last : ℕ) → reached (Ok last) ≡ passed s (behind_root (drop end s)) → Grows (Ok (record { end = last; made = made; own = own })) after
+    tree_read last k =
+        let t = reached_at (λ t left. ReadSheet m bounds concept_limit (room_of (length cells)) s t left) s 0 tree (Ok last) last (rests (Ok last) k)
+        (sheet_reads m bounds concept_limit (room_of (length cells)) s) (omega arith) refl in
         let of = ended_rooted root.before root.root (drop end s) t.it (drop last s) (sym root.same ∙ t.finds) in
-        makes_read sheet_size root_count entries s cells 0 tree (Read last made own) after t.it last made own refl t.inside t.finds (root.size ∙ sym of.size)
-        (root.count ∙ sym of.count)
+        makes_read sheet_size root_count entries s cells 0 tree (Ok (record { end = last; made = made; own = own })) after t.it _ refl t.inside t.finds
+        (root.size ∙ sym of.size) (root.count ∙ sym of.count)
         (root.laid ∙ ap (lay cells 0) (sym of.are))
 
 -- the root is read with the room that the cells have
-pub root_stands : (table index s cells : List ℕ) (first room : ℕ) → Indexed table index → length s ≤ sheet_limit → first ≤ length s → room ≡ room_of (length cells)
-    → Ready table index s first cells (record { next = 0; room = room; parent = no_parent })
-root_stands table index s cells first room x l h e =
+pub root_stands : (s cells : List ℕ) (first room : ℕ) → length s ≤ sheet_limit → first ≤ length s → room ≡ room_of (length cells)
+    → Ready s first cells (record { next = 0; room = room; parent = no_parent })
+root_stands s cells first room l h e =
     record {
-      indexed = x;
       in_sheet = record { within = l; inside = h };
       fits = record { held = omega arith; few = omega arith; inside = omega arith };
     }
@@ -261,36 +260,38 @@ module _ (m : Modes) (s cells : List ℕ) where
     unfolding sheet_of
     by_bytes = rw (le-ltb sheet_limit (length s) h, sheet_of)
 
-    pub sheet_broken : (after : List ℕ) (place : ℕ) → Checked.Broken place ≡ checked s → AnswersSheet s cells sheet (refused 3 place) after
-    sheet_broken after place = go (sheet_bytes s) refl (bytes_only s)
+    pub sheet_broken : (after : List ℕ) (e : Refused) → ◌≡◌ {A = Result Unit Refused} (Err e) (checked s)
+        → AnswersSheet s cells sheet (refused (number_of e.refusal) e.place) after
+    sheet_broken after e = go (sheet_bytes s) refl (bytes_only s)
       where
-        go : (x : Found (List ℕ)) → sheet_bytes s ≡ x → Only 3 s x → Checked.Broken place ≡ checked_of s x → AnswersSheet s cells sheet (refused 3 place) after
-        go (found vs left) q o e = let z : ◌≡◌ {A = ℕ} 0 1 = cc in absurd (omega arith)
-        go (fault n left) q o e =
-            let p : place ≡ place_in s left = cc in
-            faulty (refused 3 place) after n left (by_bytes ∙ ap tree_of q) (rw (o.0, p))
+        go : (x : Found (List ℕ)) → sheet_bytes s ≡ x → Only 3 s x → ◌≡◌ {A = Result Unit Refused} (Err e) (checked_of s x)
+            → AnswersSheet s cells sheet (refused (number_of e.refusal) e.place) after
+        go (found vs left) q o k = let z : ◌≡◌ {A = ℕ} 0 1 = cc in absurd (omega arith)
+        go (fault n left) q o k =
+            let p : e ≡ broken (place_in s left) = cc in
+            rw p (faulty (refused 3 (place_in s left)) after n left (by_bytes ∙ ap tree_of q) (rw o.0))
 
-    module _ (e : Checked.Sound ≡ checked s) where
+    module _ (e : ◌≡◌ {A = Result Unit Refused} (Ok tt) (checked s)) where
       by_tree : sheet ≡ tree m s cells
       by_tree = by_bytes ∙ go (sheet_bytes s) e
         where
-          go : (x : Found (List ℕ)) → Checked.Sound ≡ checked_of s x → tree_of x ≡ tree m s cells
+          go : (x : Found (List ℕ)) → ◌≡◌ {A = Result Unit Refused} (Ok tt) (checked_of s x) → tree_of x ≡ tree m s cells
           go (found vs left) e = refl
           go (fault n left) e = let z : ◌≡◌ {A = ℕ} 0 1 = cc in absurd (omega arith)
 
-      module _ (r : Part) (after : List ℕ) (g : Makes sheet_size root_count entries s cells 0 (tree m s cells) r after) where
-        pub sheet_refused : (why : Refusal) (place : ℕ) → r ≡ Refused why place → AnswersSheet s cells sheet (refused (number_of why) place) after
-        sheet_refused why place q =
-            let f = fault_at sheet_size root_count s r (tree m s cells) why place g.says q in
-            faulty (refused (number_of why) place) after (number_of why) f.left (by_tree ∙ f.faults) (ap (refused (number_of why)) (sym f.there))
+      module _ (r : Result Part Refused) (after : List ℕ) (g : Makes sheet_size root_count entries s cells 0 (tree m s cells) r after) where
+        pub sheet_refused : (e : Refused) → r ≡ Err e → AnswersSheet s cells sheet (refused (number_of e.refusal) e.place) after
+        sheet_refused e q =
+            let f = fault_at sheet_size root_count s r (tree m s cells) e g.says q in
+            faulty (refused (number_of e.refusal) e.place) after (number_of e.refusal) f.left (by_tree ∙ f.faults) (ap (refused (number_of e.refusal)) (sym f.there))
 
         -- nothing is left behind a sheet: it ends at its length
-        pub sheet_read : (end made own : ℕ) → r ≡ Read end made own → AnswersSheet s cells sheet (accepted end made) after
-        sheet_read end made own q =
+        pub sheet_read : (p : Part) → r ≡ Ok p → AnswersSheet s cells sheet (accepted p.end p.made) after
+        sheet_read p q =
             let t = found_at_lem sheet_size root_count s r (λ t left. ReadSheet m bounds concept_limit (room_of (length cells)) s t left) 0
-            (tree m s cells) end made own g.says (sheet_reads m bounds concept_limit (room_of (length cells)) s) (omega arith) q in
-            let l : end ≡ length s = omega (arith, ap length t.holds.over, length-drop end s, t.inside) in
-            let n : made ≡ length (entries t.it) = sym t.many ∙ sym (entries_size t.it) in
+            (tree m s cells) p g.says (sheet_reads m bounds concept_limit (room_of (length cells)) s) (omega arith) q in
+            let l : p.end ≡ length s = omega (arith, ap length t.holds.over, length-drop p.end s, t.inside) in
+            let n : p.made ≡ length (entries t.it) = sym t.many ∙ sym (entries_size t.it) in
             record { says = ap₂ accepted l n ∙ ap (answer_of s) (sym t.finds ∙ sym by_tree); laid = λ a left k. g.laid a left (sym by_tree ∙ k) }
 
 -- ---- the whole reading
@@ -305,14 +306,14 @@ all_zero cells =
     rw z (rw (lay_none cells 0, z) at (lay_filled cells [] (omega arith)))
 
 module _ (table s cells : List ℕ) where
-  pub table_refused : (a : Answer) (why : Refusal) (p : ℕ) → told a ≡ read_table table → a ≡ Answer.Refused why p → (after : List ℕ)
+  pub table_refused : (a : Answer) (w : Refused) → told a ≡ read_table table → a ≡ Err w → (after : List ℕ)
       → after ≡ sets cells 0 (replicate (length cells - 0) 0)
       → answers (told a) after ≡ reading table s (length cells)
   unfolding reading read_table
-  table_refused a why p e q after z = go (mode_table table) refl
+  table_refused a w e q after z = go (mode_table table) refl
     where
       go : (x : Found Modes) → mode_table table ≡ x → answers (told a) after ≡ reading table s (length cells)
-      go (found m left) f = absurd (number_positive why (number_told (rw (q, read_table, f) at e)))
+      go (found m left) f = absurd (number_positive w.refusal (number_told (rw (q, read_table, f) at e)))
       go (fault n left) f = rw (f, reading) (ap₂ answers (rw (read_table, f) at e) (z ∙ all_zero cells))
 
   module _ (r : Answer) (mid : List ℕ) (count : ℕ) (g : AnswersSheet s cells (sheet (modes_of table) s cells) (told r) mid) (same : length mid ≡ length cells)
@@ -346,3 +347,28 @@ module _ (table s cells : List ℕ) where
               f,
             ) (ap₂ answers e (z ∙ ap (λ (k : ℕ). sets mid (k * entry_cells) (replicate (length mid - k * entry_cells) 0)) none ∙ all_zero mid ∙ ap
             (λ (k : ℕ). replicate k 0) same))
+
+  -- the table is refused, and no cell is written; or it is in order, and the sheet is read under it
+  abbrev pub Answered : Answer → List ℕ → Type 0
+  Answered r mid =
+      ((w : Refused) × (r ≡ Err w) × (told r ≡ read_table table) × (mid ≡ cells))
+      ⊎ (Valid table × AnswersSheet s cells (sheet (modes_of table) s cells) (told r) mid × (length mid ≡ length cells))
+
+  -- what `read_into` does not accept it refuses
+  pub not_accepted : (a r : Answer) (mid : List ℕ) → ((n : Accepted) → a ≡ Ok n → ⊥) → told a ≡ read_table table → r ≡ a → mid ≡ cells → Answered r mid
+  not_accepted (Ok n) r mid k e q m = absurd (k n refl)
+  not_accepted (Err w) r mid k e q m = inl (w, q, ap told q ∙ e, m)
+
+  none_made : {r : Answer} {w : Refused} {count : ℕ} → count ≡ (told r).count → r ≡ Err w → count ≡ 0
+  none_made n q = n ∙ ap (λ (r : Answer). (told r).count) q
+
+  pub answered_fits : {r : Answer} {mid : List ℕ} → Answered r mid → {count : ℕ} → count ≡ (told r).count → count * entry_cells ≤ length mid
+  answered_fits (inl h) n = omega (arith, none_made n h.1)
+  answered_fits {r} {mid} (inr h) {count} n = count_fits r mid count h.1 h.2 n
+
+  pub answered_done : {r : Answer} {mid : List ℕ} → Answered r mid → {count : ℕ} → count ≡ (told r).count → {after : List ℕ}
+      → after ≡ sets mid (count * entry_cells) (replicate (length mid - count * entry_cells) 0) → answers (told r) after ≡ reading table s (length cells)
+  answered_done {r} (inl h) n {after} z =
+      table_refused r h.0 h.2 h.1 after
+      (z ∙ ap₂ (λ (k : ℕ) (l : List ℕ). sets l (k * entry_cells) (replicate (length l - k * entry_cells) 0)) (none_made n h.1) h.3)
+  answered_done {r} {mid} (inr h) {count} n {after} z = sheet_done r mid count h.1 h.2 n after h.0 z

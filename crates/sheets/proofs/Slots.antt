@@ -7,6 +7,5 @@ use Rattle.entries.specs.declared.Slot.{Slot}
 use Rattle.sheets.specs.Concepts.{Ready}
 
 -- another place of the sheet, and a slot that fits
-pub stands_on : {table index s lent cells : List ℕ} {at end : ℕ} {slot next : Slot} → Ready table index s at lent slot → end ≤ length s → Fits cells next
-    → Ready table index s end cells next
-stands_on h inside fits = record { indexed = h.indexed; in_sheet = record { within = h.in_sheet.within; inside = inside }; fits = fits }
+pub stands_on : {s lent cells : List ℕ} {at end : ℕ} {slot next : Slot} → Ready s at lent slot → end ≤ length s → Fits cells next → Ready s end cells next
+stands_on h inside fits = record { in_sheet = record { within = h.in_sheet.within; inside = inside }; fits = fits }

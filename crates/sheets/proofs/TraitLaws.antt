@@ -9,7 +9,10 @@ use lib.ListN.{length, drop, length-drop, length-append}
 use lib.Seq.{drop-drop}
 use lib.Dec.{leb}
 use borrow.Author.Tests.{leb-true, leb-false, lt-leb}
-use Rattle.paper.specs.declared.Refusal.{Refusal}
+use Rattle.std.specs.Prelude.{Result, Ok, Err}
+use Rattle.paper.specs.Answer.{refused_at}
+use Rattle.paper.specs.Forms.{number_of_form}
+use Rattle.paper.specs.declared.Refused.{Refused}
 use Rattle.paper.specs.declared.Refusal.TheVariants.{NoEntryLeft, TraitTwice}
 use Rattle.paper.specs.Found.{Found, found, fault, and_then, place_in}
 use Rattle.paper.specs.Limits.{sheet_limit, entry_limit, bracket_limit}
@@ -36,13 +39,12 @@ use Rattle.entries.proofs.Laying.{lay_before}
 use Rattle.entries.proofs.Slots.{fits_under}
 use Rattle.leaves.specs.declared.judged.Judged.{Judged}
 use Rattle.values.specs.declared.entering.Entered.{Entered}
-use Rattle.values.specs.declared.entering.Entered.TheVariants.{Items, Full}
-use Rattle.leaves.specs.Shown.{Shown, shown, shown_of, Judges}
-use Rattle.values.specs.Entering.{Ready, left_of, first_over, Ahead, Enters}
+use Rattle.leaves.specs.Shown.{Shown, shown_of, Judges}
+use Rattle.values.specs.Entering.{Items, Ready, left_of, first_over, no_entry_left, Ahead, Enters}
 use Rattle.leaves.proofs.Showing.{stands}
+use Rattle.values.proofs.EnterLaws.{held}
 use Rattle.lines.specs.Parts.{Seen, seen, passed, In, part}
 use Rattle.lines.specs.declared.part.Part.{Part}
-use Rattle.lines.specs.declared.part.Part.TheVariants.{Read, Refused}
 use Rattle.lines.proofs.Closing.{part_length}
 use Rattle.lines.proofs.Crossing.{makes_refused, makes_passed, makes_read}
 use Rattle.lines.proofs.ReadAt.{DueAt, NameAt, part_is}
@@ -115,21 +117,21 @@ pub record ValueAt (s : List ℕ) (at : ℕ) : Type 0 where
   pub wide : end ≡ at + value_width it
   pub inside : end ≤ length s
 
-module _ {s : List ℕ} {at : ℕ} {value : Judged} (h : Judges value_form s at (value_of bracket_limit [] (drop at s)) value) where
-  pub value_at : (form end : ℕ) → value ≡ Judged.Found form end → ValueAt s at
-  value_at form end q =
-      let f = stands h (ReadValue bracket_limit [] (drop at s)) (value_reads (suc (length (drop at s))) bracket_limit [] (drop at s)) form end q in
+module _ {s : List ℕ} {at : ℕ} where
+  pub value_at : {v : Judged} → Judges value_form s at (value_of bracket_limit [] (drop at s)) (Ok v) → ValueAt s at
+  value_at {v} h =
+      let f = stands h (ReadValue bracket_limit [] (drop at s)) (value_reads (suc (length (drop at s))) bracket_limit [] (drop at s)) v refl in
       record {
         it = f.it;
-        end = end;
+        end = v.end;
         whole = f.finds;
-        wide = omega (arith, ap length f.holds.covers, value_length f.it (drop end s), length-drop at s, length-drop end s, f.inside, f.ahead);
+        wide = omega (arith, ap length f.holds.covers, value_length f.it (drop v.end s), length-drop at s, length-drop v.end s, f.inside, f.ahead);
         inside = f.inside;
       }
 
   -- a value's refusal as that of a part
-  value_passed : {why : Refusal} {place : ℕ} → value ≡ Judged.Refused why place → seen (Refused why place) ≡ passed s (value_of bracket_limit [] (drop at s))
-  value_passed {why} {place} q = ap (λ (y : Judged). formless (shown y)) (sym q) ∙ ap formless h.same ∙ go (value_of bracket_limit [] (drop at s))
+  value_passed : {e : Refused} → Judges value_form s at (value_of bracket_limit [] (drop at s)) (Err e) → seen (Err e) ≡ passed s (value_of bracket_limit [] (drop at s))
+  value_passed h = ap formless h.same ∙ go (value_of bracket_limit [] (drop at s))
     where
       go : (x : Found Value) → formless (shown_of value_form s x) ≡ passed s x
       go (found v left) = refl
@@ -167,9 +169,9 @@ module _ {s : List ℕ} {at : ℕ} (place : In s at) {cells : List ℕ} {slot : 
         fits = fits_under fits asked f refl;
       })
 
-  pub far_end : {items : Entered} → Ahead s at bracket_limit (left_of under) items → {form end made own : ℕ} → items ≡ Items form end made own → Far end made own
-  far_end h {form} {end} {made} {own} q =
-      let f = h.far form end made own q in
+  pub far_end : {e : Entered} → Ahead s at bracket_limit (left_of under) (Ok e) → Far e.end e.made e.own
+  far_end {e} h =
+      let f = h.far e refl in
       let n : left_of under ≡ left_of (slot_under slot) = ap left_of u in
       record { near = omega (arith, place.within, f.1); few = omega (arith, fits.few, f.2); owned = f.3 }
 
@@ -177,17 +179,17 @@ module _ {s : List ℕ} {at : ℕ} (place : In s at) {cells : List ℕ} {slot : 
 
 module _ {s : List ℕ} {from to : ℕ} (place : In s (to + 1)) (between : from ≤ to) {cells : List ℕ} {slot : Slot} (fits : Fits cells slot)
     (white w : List ℕ) where
-  abbrev Made : Part → List ℕ → Type 0
+  abbrev Made : Result Part Refused → List ℕ → Type 0
   Made r after = MakesTrait s from cells slot (value_in (left_of slot) (drop from s) white w (drop (to + 1) s)) r after
 
   -- what the trait makes of its value
   abbrev of_value : Found Value → Found Trait
   of_value x = and_then x (λ v left. enters (left_of slot) (drop from s) (drop (to + 1) s) (record { white = white; name = w; value = v }) left)
 
-  pub trait_refused : {value : Judged} → Judges value_form s (to + 1) (value_of bracket_limit [] (drop (to + 1) s)) value → {why : Refusal} {at : ℕ}
-      → value ≡ Judged.Refused why at → {r : Part} → r ≡ Refused why at → Made r cells
-  trait_refused h {why} {at} q {r} e = makes_passed _ _ _ _ _ _ _ r cells (λ v. 0) (λ v. 0) of_value (λ k left. refl)
-      (value_of bracket_limit [] (drop (to + 1) s)) why at (ap seen e ∙ value_passed h q) e refl
+  pub trait_refused : {e : Refused} → Judges value_form s (to + 1) (value_of bracket_limit [] (drop (to + 1) s)) (Err e) → {r : Result Part Refused} → r ≡ Err e
+      → Made r cells
+  trait_refused {e} h {r} q = makes_passed _ _ _ _ _ _ _ r cells (λ v. 0) (λ v. 0) of_value (λ k left. refl)
+      (value_of bracket_limit [] (drop (to + 1) s)) e (value_passed h) q refl
 
   module _ (value : ValueAt s (to + 1)) {o : Bool} (asked : o ≡ leb slot.room slot.next) where
     abbrev it : Trait
@@ -196,11 +198,11 @@ module _ {s : List ℕ} {from to : ℕ} (place : In s (to + 1)) (between : from 
     by_value : value_in (left_of slot) (drop from s) white w (drop (to + 1) s) ≡ enters (left_of slot) (drop from s) (drop (to + 1) s) it (drop value.end s)
     by_value = ap of_value value.whole
 
-    pub trait_full : o ≡ true → {r : Part} → r ≡ Refused NoEntryLeft from → Made r cells
+    pub trait_full : o ≡ true → {r : Result Part Refused} → r ≡ Err (refused_at NoEntryLeft from) → Made r cells
     trait_full t {r} q = makes_refused _ _ _ _ _ _ _ r cells NoEntryLeft from q (omega (arith, place.inside))
         (by_value ∙ no_room _ _ _ it _ (omega (arith, leb-true slot.room slot.next (sym asked ∙ t))))
 
-    module _ (f : o ≡ false) {under : Slot} (u : under ≡ slot_under slot) {items : Entered} {mid : List ℕ}
+    module _ (f : o ≡ false) {under : Slot} (u : under ≡ slot_under slot) {items : Result Entered Refused} {mid : List ℕ}
         (h : Enters s (to + 1) cells under (value_of bracket_limit [] (drop (to + 1) s)) items mid) where
       one_left : left_of slot ≡ suc (left_of (slot_under slot))
       one_left = omega (arith, leb-false slot.room slot.next (sym asked ∙ f))
@@ -209,46 +211,45 @@ module _ {s : List ℕ} {from to : ℕ} (place : In s (to + 1)) (between : from 
       entered = rw u at h
 
       -- an item has no entry left
-      pub items_full : {at : ℕ} → items ≡ Full at → {r : Part} → r ≡ Refused NoEntryLeft at → {after : List ℕ} → Made r after
-      items_full {at} q {r} e {after} =
+      pub items_full : {w : Refused} → items ≡ Err w → {r : Result Part Refused} → r ≡ Err w → {after : List ℕ} → Made r after
+      items_full {w} q {r} e {after} =
           up_to (item_size value.it) (left_of (slot_under slot))
-          (λ k. let g = (entered.fits value.it _ value.whole k).0 in
+          (λ k. let g = (entered.fits value.it _ value.whole k).0.is in
           let z : ◌≡◌ {A = ℕ} 0 1 = cc in
           absurd (omega arith))
-          (λ k. let g : Full at ≡ Full (first_over (left_of (slot_under slot)) (item_entries slot.next (slot.next + 1) (to + 1) value.it)) = sym q
-          ∙ entered.full value.it _ value.whole k in
-          let p : at ≡ first_over (left_of (slot_under slot)) (item_entries slot.next (slot.next + 1) (to + 1) value.it) = cc in
+          (λ k. let at = first_over (left_of (slot_under slot)) (item_entries slot.next (slot.next + 1) (to + 1) value.it) in
+          let g = entered.full value.it _ value.whole k in
+          let p : w ≡ no_entry_left at = cc in
           let m = moved_first (to + 1) (length s) (left_of (slot_under slot))
           (item_moved value.it (to + 1) (length s) slot.next (slot.next + 1) (to + 1) 0 0 0 (omega arith)
           (omega (arith, value.wide, value.inside))) (omega (arith, item_size_lem value.it slot.next (slot.next + 1) (to + 1))) in
-          makes_refused _ _ _ _ _ _ _ r after NoEntryLeft at e (omega (arith, m.1))
+          makes_refused _ _ _ _ _ _ _ r after NoEntryLeft at (e ∙ ap Err p) (omega (arith, m.1))
           (by_value ∙ few_room _ _ _ it _ (left_of (slot_under slot)) one_left k
-          ∙ ap (fault 11) (drop-drop _ (to + 1) s ∙ ap (λ (n : ℕ). drop n s) (sym (p ∙ m.0)))))
+          ∙ ap (fault 11) (drop-drop _ (to + 1) s ∙ ap (λ (n : ℕ). drop n s) (sym m.0))))
 
       -- the trait's own entry is put before those of its items
       abbrev own_entry_lem : ℕ → ℕ → ℕ → Entry
       own_entry_lem form count end =
           record { kind = 2; form = form; parent = slot.parent; count = count; name_start = from; name_end = to; start = to + 1; end = end }
 
-      pub trait_made : length w ≡ to - from → {form end inside count : ℕ} → items ≡ Items form end inside count
-          → {after : List ℕ} → after ≡ lay mid slot.next (own_entry_lem form count end ∷ []) → {r : Part} → r ≡ Read end (1 + inside) 1 → Made r after
-      trait_made n {form} {end} {inside} {count} q {after} p {r} z =
+      pub trait_made : length w ≡ to - from → {e : Entered} → items ≡ Ok e → {after : List ℕ}
+          → after ≡ lay mid slot.next (own_entry_lem (number_of_form e.form) e.own e.end ∷ [])
+          → {r : Result Part Refused} → r ≡ Ok (record { end = e.end; made = 1 + e.made; own = 1 }) → Made r after
+      trait_made n {e} q {after} p {r} z =
           up_to (item_size value.it) (left_of (slot_under slot))
           (λ fit. let g = entered.fits value.it _ value.whole fit in
-          let a : Items form end inside count ≡ Items (value_form value.it) (place_in s (drop value.end s)) (item_size value.it) (items_of value.it) =
-          sym q ∙ g.0 in
-          let formed : form ≡ value_form value.it = cc in
-          let ends : end ≡ place_in s (drop value.end s) = cc in
-          let size : inside ≡ item_size value.it = cc in
-          let own : count ≡ items_of value.it = cc in
-          let there : end ≡ value.end = ends ∙ place_back s value.end value.inside in
+          let a = held g.0 e q in
+          let formed : number_of_form e.form ≡ value_form value.it = ap (λ (i : Items). i.form) a in
+          let size : e.made ≡ item_size value.it = ap (λ (i : Items). i.made) a in
+          let own : e.own ≡ items_of value.it = ap (λ (i : Items). i.own) a in
+          let there : e.end ≡ value.end = ap (λ (i : Items). i.end) a ∙ place_back s value.end value.inside in
           let past : to ≡ from + length w = omega arith in
-          makes_read _ _ _ _ _ _ _ r after it end (1 + inside) 1 z (omega (arith, value.inside))
+          makes_read _ _ _ _ _ _ _ r after it _ z (omega (arith, value.inside))
           (by_value ∙ enters_complete _ _ _ it _ (omega (arith, one_left)) ∙ ap (λ (m : ℕ). found it (drop m s)) (sym there))
           (omega arith) refl
           (p
-          ∙ ap (λ (x : List ℕ). lay x slot.next (own_entry_lem form count end ∷ [])) g.1
-          ∙ lay_before cells slot.next (own_entry_lem form count end) (item_entries slot.next (slot.next + 1) (to + 1) value.it)
+          ∙ ap (λ (x : List ℕ). lay x slot.next (own_entry_lem (number_of_form e.form) e.own e.end ∷ [])) g.1
+          ∙ lay_before cells slot.next (own_entry_lem (number_of_form e.form) e.own e.end) (item_entries slot.next (slot.next + 1) (to + 1) value.it)
           ∙ rw (formed, own, there, value.wide, past)))
           (λ over. let g = entered.full value.it _ value.whole over in
           let z : ◌≡◌ {A = ℕ} 0 1 = cc in
@@ -302,13 +303,12 @@ module _ {s : List ℕ} {at : ℕ} (place : In s at) {cells : List ℕ} {slot : 
     unfolding trait
     by_name = refl
 
-    abbrev Traited : Part → List ℕ → Type 0
+    abbrev Traited : Result Part Refused → List ℕ → Type 0
     Traited r after = MakesTrait s at cells slot (trait bounds before white (drop at s)) r after
 
     -- the ways out of `read_trait`
-    pub no_name : (r : Part) → seen r ≡ passed s (name is_trait_name (drop at s)) → {why : Refusal} {place : ℕ} → r ≡ Refused why place → Traited r cells
-    no_name r e {why} {place} q = makes_passed _ _ _ _ _ _ _ r cells (λ w. 0) (λ w. 0) of_name (λ k left. refl)
-        (name is_trait_name (drop at s)) why place e q by_name
+    pub no_name : (e : Refused) → seen (Err e) ≡ passed s (name is_trait_name (drop at s)) → {r : Result Part Refused} → r ≡ Err e → Traited r cells
+    no_name e k {r} q = makes_passed _ _ _ _ _ _ _ r cells (λ w. 0) (λ w. 0) of_name (λ k left. refl) (name is_trait_name (drop at s)) e k q by_name
 
     module _ {to : ℕ} (named : NameAt is_trait_name s at to) where
       earlier : {o : Bool} → among names (part s at to) ≡ o → among names named.it ≡ o
@@ -317,19 +317,19 @@ module _ {s : List ℕ} {at : ℕ} (place : In s at) {cells : List ℕ} {slot : 
       by_fresh : trait bounds before white (drop at s) ≡ of_fresh (fresh names (drop at s) named.it (drop to s))
       by_fresh = by_name ∙ ap of_name named.finds
 
-      pub name_twice : among names (part s at to) ≡ true → (r : Part) → r ≡ Refused TraitTwice at → Traited r cells
-      name_twice t r q = makes_refused _ _ _ _ _ _ _ r cells TraitTwice at q place.inside
+      pub name_twice : among names (part s at to) ≡ true → {r : Result Part Refused} → r ≡ Err (refused_at TraitTwice at) → Traited r cells
+      name_twice t {r} q = makes_refused _ _ _ _ _ _ _ r cells TraitTwice at q place.inside
           (by_fresh ∙ ap of_fresh (fresh_not names (drop at s) named.it (drop to s) (earlier t)))
 
       module _ (f : among names (part s at to) ≡ false) where
         by_equals : trait bounds before white (drop at s) ≡ of_equals named.it (due (byte "=") (drop to s))
         by_equals = by_fresh ∙ ap of_fresh (fresh_complete names (drop at s) named.it (drop to s) (earlier f))
 
-        pub no_equals : (r : Part) → seen r ≡ passed s (due (byte "=") (drop to s)) → {why : Refusal} {place : ℕ} → r ≡ Refused why place → Traited r cells
-        no_equals r e {why} {place} q = makes_passed _ _ _ _ _ _ _ r cells (λ b. 0) (λ b. 0) (of_equals named.it) (λ k left. refl)
-            (due (byte "=") (drop to s)) why place e q by_equals
+        pub no_equals : (e : Refused) → seen (Err e) ≡ passed s (due (byte "=") (drop to s)) → {r : Result Part Refused} → r ≡ Err e → Traited r cells
+        no_equals e k {r} q = makes_passed _ _ _ _ _ _ _ r cells (λ b. 0) (λ b. 0) (of_equals named.it) (λ k left. refl)
+            (due (byte "=") (drop to s)) e k q by_equals
 
-        pub trait_entered : {end : ℕ} → DueAt (byte "=") s to end → {r : Part} {after : List ℕ} → MakesValued s at to cells slot r after → Traited r after
+        pub trait_entered : {end : ℕ} → DueAt (byte "=") s to end → {r : Result Part Refused} {after : List ℕ} → MakesValued s at to cells slot r after → Traited r after
         trait_entered equals k =
             let by_value : trait bounds before white (drop at s) ≡ value_in (left_of slot) (drop at s) white named.it (drop (to + 1) s) =
             by_equals ∙ ap (of_equals named.it) equals.finds ∙ ap (λ (n : ℕ). value_in (left_of slot) (drop at s) white named.it (drop n s))

@@ -9,7 +9,9 @@ use native.Mathlib.Omega.{arith}
 use lib.ListN.{length, drop, get_or, length-drop, length-append}
 use lib.Dec.{leb}
 use borrow.Author.Tests.{le-leb, lt-leb}
-use Rattle.paper.specs.declared.Refusal.{Refusal}
+use Rattle.std.specs.Prelude.{Result, Ok, Err}
+use Rattle.paper.specs.Answer.{refused_at}
+use Rattle.paper.specs.declared.Refused.{Refused}
 use Rattle.paper.specs.declared.Refusal.TheVariants.{Cut, Due}
 use Rattle.paper.specs.Found.{Found, fault, over, stop, turn_of}
 use Rattle.paper.specs.Bytes.{byte, bytes, is_white, is_upper, is_lower, is_digit, is_letter, is_name_byte, starts_in, elem, front}
@@ -30,7 +32,6 @@ use Rattle.entries.specs.Laid.{lay, slot_after, Fits}
 use Rattle.entries.specs.declared.Slot.{Slot}
 use Rattle.lines.specs.Parts.{seen, seen_of, Makes}
 use Rattle.lines.specs.declared.part.Part.{Part}
-use Rattle.lines.specs.declared.part.Part.TheVariants.{Read, Refused}
 use Rattle.lines.proofs.Crossing.{says_cut, says_refused, FoundAt, found_at_lem, makes_same}
 use Rattle.lines.proofs.Turns.{makes_over, makes_stop, makes_more}
 use Rattle.lines.proofs.Closing.{part_length}
@@ -59,7 +60,7 @@ pub record SoFar (s : List ℕ) (at : ℕ) (lent : List ℕ) (slot : Slot) (x₀
   pub names : List (List ℕ)
   pub many : length names ≡ own
   pub listed : Lists s at x names
-  pub onward : (r : Part) (after : List ℕ)
+  pub onward : (r : Result Part Refused) (after : List ℕ)
       → Makes (made_with made) (own_with own) (trait_entries slot.parent (slot.next + made) i) s cells (slot.next + made)
       (traits_behind bounds (behind_names names (slot_after slot made)) (drop i s)) r after
       → MakesTraits s at lent slot r after
@@ -125,13 +126,13 @@ module _ {s : List ℕ} {at : ℕ} {lent : List ℕ} {slot : Slot} {x₀ cells x
   white = front is_white (drop i s)
 
   -- a fault that the turn meets is that of the whole run
-  stopped : (x : Found Trait) → trait_turn bounds before (drop i s) ≡ turn_of x → (r : Part) (why : Refusal) (place : ℕ) (after : List ℕ) → r ≡ Refused why place
-      → (many mine : Trait → ℕ) → seen r ≡ seen_of many mine s x → MakesTraits s at lent slot r after
-  stopped x t r why place after q many mine e =
+  stopped : (x : Found Trait) → trait_turn bounds before (drop i s) ≡ turn_of x → (r : Result Part Refused) (e : Refused) (after : List ℕ) → r ≡ Err e
+      → (many mine : Trait → ℕ) → seen (Err e) ≡ seen_of many mine s x → MakesTraits s at lent slot r after
+  stopped x t r e after q many mine k =
       so_far.onward r after
       (makes_stop with_trait (trait_turn bounds) (trait_shorter bounds) before (drop i s) many mine turn_of (λ k rest. refl) (made_with made) (own_with own)
       (trait_entries slot.parent (slot.next + made) i) s cells (slot.next + made) x r after
-      why place e q t)
+      e k q t)
 
   -- what the next trait is read with: the index has a free cell
   pub cell_left : Fits lent slot → {mark : ℕ} → i < mark → mark ≤ length s → taken_in at x < length x
@@ -143,15 +144,17 @@ module _ {s : List ℕ} {at : ℕ} {lent : List ℕ} {slot : Slot} {x₀ cells x
   lies_there h = names_on so_far.lies (omega arith)
 
   -- an index where the run is over, or refused
-  pub over_names : {r : Part} → r ≡ Read i made own → NamesOnward s r x
-  over_names q end more mine g = let e : i ≡ end = cc in names_on so_far.lies (omega arith)
+  pub over_names : {r : Result Part Refused} → r ≡ Ok (record { end = i; made = made; own = own }) → NamesOnward s r x
+  over_names q p g =
+      let e : record { end = i; made = made; own = own } ≡ p = cc in
+      names_on so_far.lies (omega (arith, ap (λ (x : Part). x.end) e))
 
   module _ {mark : ℕ} (run : Stretch is_white s i mark) where
-    pub traits_cut : mark ≡ length s → {r : Part} → r ≡ Refused Cut (length s) → MakesTraits s at lent slot r cells
+    pub traits_cut : mark ≡ length s → {r : Result Part Refused} → r ≡ Err (refused_at Cut (length s)) → MakesTraits s at lent slot r cells
     unfolding trait_turn trait_due
     traits_cut h {r} q =
-        stopped (fault 9 []) (rw (behind_none is_white s i mark run (omega arith))) r Cut (length s) cells q (λ t. 0) (λ t. 0)
-        (says_cut {A = Trait} (λ t. 0) (λ t. 0) s (fault 9 []) r q refl)
+        stopped (fault 9 []) (rw (behind_none is_white s i mark run (omega arith))) r (refused_at Cut (length s)) cells q (λ t. 0) (λ t. 0)
+        (says_cut {A = Trait} (λ t. 0) (λ t. 0) s (fault 9 []) (Err (refused_at Cut (length s))) refl refl)
 
     module _ (h : mark < length s) where
       by_mark_lem : trait_turn bounds before (drop i s) ≡ trait_due bounds before (drop i s) white (get_or s mark 0 ∷ drop (mark + 1) s)
@@ -161,22 +164,22 @@ module _ {s : List ℕ} {at : ℕ} {lent : List ℕ} {slot : Slot} {x₀ cells x
       white_long : length white ≡ mark - i
       white_long = ap length (front_at is_white s i mark run) ∙ part_length s i mark run.1 run.2
 
-      pub traits_over : elem (get_or s mark 0) (bytes ">/") ≡ true → {r : Part} → r ≡ Read i made own → MakesTraits s at lent slot r cells
+      pub traits_over : elem (get_or s mark 0) (bytes ">/") ≡ true → {r : Result Part Refused} → r ≡ Ok (record { end = i; made = made; own = own }) → MakesTraits s at lent slot r cells
       unfolding trait_entries traits_size
       traits_over e {r} q =
           so_far.onward r cells
           (makes_over with_trait (trait_turn bounds) (trait_shorter bounds) before (drop i s) (made_with made) (own_with own)
-          (trait_entries slot.parent (slot.next + made) i) s cells (slot.next + made) r i made own
+          (trait_entries slot.parent (slot.next + made) i) s cells (slot.next + made) r (record { end = i; made = made; own = own })
           (by_mark_lem ∙ ends_marker_lem bounds before (drop i s) white (get_or s mark 0) (drop (mark + 1) s) e) q so_far.inside (sym (add-zero made))
           (sym (add-zero own)) refl)
 
       module _ (e : elem (get_or s mark 0) (bytes ">/") ≡ false) where
-        pub traits_due : mark ≡ i → {r : Part} → r ≡ Refused Due mark → MakesTraits s at lent slot r cells
+        pub traits_due : mark ≡ i → {r : Result Part Refused} → r ≡ Err (refused_at Due mark) → MakesTraits s at lent slot r cells
         traits_due n {r} q =
             let none : leb 1 (length white) ≡ false = lt-leb 1 (length white) (omega (arith, white_long)) in
             let turn = by_mark_lem ∙ no_white bounds before (drop i s) white (get_or s mark 0) (drop (mark + 1) s) e none ∙ ap (stop 7) (sym (here s mark h)) in
-            stopped (fault 7 (drop mark s)) turn r Due mark cells q (λ t. 0) (λ t. 0)
-            (says_refused {A = Trait} (λ t. 0) (λ t. 0) s (fault 7 (drop mark s)) r Due mark q run.2 refl)
+            stopped (fault 7 (drop mark s)) turn r (refused_at Due mark) cells q (λ t. 0) (λ t. 0)
+            (says_refused {A = Trait} (λ t. 0) (λ t. 0) s (fault 7 (drop mark s)) (Err (refused_at Due mark)) Due mark refl run.2 refl)
 
         a_trait : i < mark → trait_turn bounds before (drop i s) ≡ turn_of (trait bounds before white (drop mark s))
         a_trait w =
@@ -185,7 +188,7 @@ module _ {s : List ℕ} {at : ℕ} {lent : List ℕ} {slot : Slot} {x₀ cells x
             ∙ ap (λ (l : List ℕ). turn_of (trait bounds before white l)) (sym (here s mark h))
 
     -- one more
-    module _ (due : Begins s i mark) {next : Slot} (lends : next ≡ slot_after slot made) {r : Part} {after y : List ℕ}
+    module _ (due : Begins s i mark) {next : Slot} (lends : next ≡ slot_after slot made) {r : Result Part Refused} {after y : List ℕ}
         (one : MakesNamed s at mark cells next x r after y) where
       abbrev number : ℕ
       number = slot.next + made
@@ -199,12 +202,18 @@ module _ {s : List ℕ} {at : ℕ} {lent : List ℕ} {slot : Slot} {x₀ cells x
       entered : Makes trait_size (λ t. 1) (one_trait slot.parent number mark) s cells number reading r after
       entered = rw lends at (one.made so_far.names so_far.listed white)
 
-      pub traits_refused : {why : Refusal} {place : ℕ} → r ≡ Refused why place → MakesTraits s at lent slot r after
-      traits_refused {why} {place} q = stopped reading turn r why place after q trait_size (λ t. 1) entered.says
+      pub traits_refused : {e : Refused} → r ≡ Err e → {last : Result Part Refused} → last ≡ Err e → MakesTraits s at lent slot last after
+      traits_refused {e} p {last} q = stopped reading turn last e after q trait_size (λ t. 1) (ap seen (sym p) ∙ entered.says)
 
-      module _ {end more mine : ℕ} (q : r ≡ Read end more mine) where
-        it : FoundAt trait_size (λ t. 1) (λ t rest. ReadTrait bounds before white (drop mark s) t rest) s mark reading end more mine
-        it = found_at_lem trait_size (λ t. 1) s r _ mark reading end more mine entered.says (trait_reads bounds before white (drop mark s)) run.2 q
+      module _ {p : Part} (q : r ≡ Ok p) where
+        abbrev end : ℕ
+        end = p.end
+
+        abbrev more : ℕ
+        more = p.made
+
+        it : FoundAt trait_size (λ t. 1) (λ t rest. ReadTrait bounds before white (drop mark s) t rest) s mark reading p.end p.made p.own
+        it = found_at_lem trait_size (λ t. 1) s r _ mark reading p entered.says (trait_reads bounds before white (drop mark s)) run.2 q
 
         pub trait_ahead : (i < end) × (end ≤ length s) × (number + more ≤ slot.room)
         trait_ahead = (omega (arith, it.ahead, due.some), it.inside, omega (arith, it.many, it.holds.fits, so_far.few))
@@ -272,7 +281,7 @@ module _ {s : List ℕ} {at : ℕ} {lent : List ℕ} {slot : Slot} {x₀ cells x
               lies = names_to so_far.lies g (λ c. omega (arith, one.before c, further));
               names = so_far.names ++ (one_more.name ∷ []);
               many = omega (arith, length-append so_far.names (one_more.name ∷ []), so_far.many);
-              listed = rw named at (one.listed so_far.names so_far.listed end more mine q);
+              listed = rw named at (one.listed so_far.names so_far.listed p q);
               onward = λ other cells' k.
                   so_far.onward other cells'
                   (makes_more with_trait (trait_turn bounds) (trait_shorter bounds) before (drop i s) (made_with made) (own_with own)
@@ -285,5 +294,5 @@ module _ {s : List ℕ} {at : ℕ} {lent : List ℕ} {slot : Slot} {x₀ cells x
             }
 
 -- nothing is known of the index where a part is refused
-pub refused_names : {s : List ℕ} {r : Part} {why : Refusal} {place : ℕ} → r ≡ Refused why place → {x : List ℕ} → NamesOnward s r x
-refused_names q end made own g = let z : ◌≡◌ {A = ℕ} 0 1 = cc in absurd (omega arith)
+pub refused_names : {s : List ℕ} {r : Result Part Refused} {e : Refused} → r ≡ Err e → {x : List ℕ} → NamesOnward s r x
+refused_names q p g = let z : ◌≡◌ {A = ℕ} 0 1 = cc in absurd (omega arith)

@@ -1,10 +1,9 @@
 -- What the public functions of this crate promise: their contracts cite it, and so do the theorems that there is one answer only.
 -- Document 01, "Entries", "Order" and "One answer only".
 use Rattle.std.specs.Prelude.{ℕ, ◌≡◌, List}
-use Rattle.paper.specs.Answer.{told}
+use Rattle.paper.specs.Answer.{Answer, told}
 use Rattle.paper.specs.Reading.{reading}
 use Rattle.paper.specs.View.{viewed, view_answer}
-use Rattle.paper.specs.declared.Answer.{Answer}
 
 -- `read` answers r for a table, a sheet and so many lent cells, which are these at exit
 abbrev pub ReadsSheet : List ℕ → List ℕ → ℕ → Answer → List ℕ → Type 0

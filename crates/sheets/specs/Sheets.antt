@@ -1,19 +1,21 @@
--- A whole sheet under a valid table: what is answered and written where nothing is zeroed. And where the part of an entry stands.
+-- A whole sheet under a valid table: what is answered and written where nothing is zeroed. And the part of an entry.
 -- Document 01, "Refusal numbers", "Order" and "Entries".
-use Rattle.std.specs.Prelude.{ℕ, ◌+◌, ◌≡◌, List, length}
-use Rattle.paper.specs.Answer.{Told, accepted, refused}
-use Rattle.paper.specs.Found.{Found, found, fault, and_then, place_in, pick}
+use Rattle.std.specs.Prelude.{ℕ, ◌+◌, ◌≡◌, true, false, Option, None, Some, Result, List, length}
+use Rattle.std.specs.Borrow.{Bor}
+use Rattle.paper.specs.Answer.{accepted, refused}
+use Rattle.paper.specs.declared.Refused.{Refused}
+use Rattle.paper.specs.declared.Told.{Told}
+use Rattle.paper.specs.Found.{Found, found, fault, and_then, place_in}
 use Rattle.paper.specs.Bytes.{is_blank, front, behind}
 use Rattle.paper.specs.Tree.{Sheet}
 use Rattle.paper.specs.Limits.{concept_limit}
 use Rattle.paper.specs.Entries.{sheet_size, entries}
 use Rattle.paper.specs.Reading.{blank_lines, last_blanks, sheet_tree, sheet_of, room_of, bounds}
-use Rattle.paper.specs.View.{span_start, span_end, viewable}
+use Rattle.paper.specs.View.{viewable, viewed}
 use Rattle.modes.specs.Table.{modes_of}
 use Rattle.entries.specs.Laid.{lay}
 use Rattle.lines.specs.Parts.{Makes}
 use Rattle.lines.specs.declared.part.Part.{Part}
-use Rattle.sheets.specs.declared.Span.{Span}
 
 -- the answer of a sheet that is read as x
 abbrev pub answer_of : List ℕ → Found Sheet → Told
@@ -34,7 +36,7 @@ abbrev pub root_count : Sheet → ℕ
 root_count t = length t.annotations + 1
 
 -- its tree, behind the checks of length and bytes
-abbrev pub ReadsTree : List ℕ → List ℕ → List ℕ → Part → List ℕ → Type 0
+abbrev pub ReadsTree : List ℕ → List ℕ → List ℕ → Result Part Refused → List ℕ → Type 0
 ReadsTree table s cells r after =
     Makes sheet_size root_count entries s cells 0 (sheet_tree (modes_of table) bounds concept_limit (room_of (length cells)) s) r after
 
@@ -42,6 +44,7 @@ ReadsTree table s cells r after =
 abbrev pub behind_root : List ℕ → Found (List ℕ)
 behind_root s = and_then (blank_lines s) (λ after left. last_blanks (front is_blank left) (behind is_blank left))
 
--- the span of an entry that can be viewed
-abbrev pub span_of : List ℕ → List ℕ → ℕ → Span
-span_of s cells n = pick (viewable s cells n) (Span.Part (span_start cells n) (span_end cells n)) Span.Nowhere
+-- r lends the part of an entry, if it can be viewed
+abbrev pub LendsPart : List ℕ → List ℕ → ℕ → Option (Bor (List ℕ)) → Type 0
+LendsPart s cells n None = viewable s cells n ≡ false
+LendsPart s cells n (Some part) = (viewable s cells n ≡ true) × (part.now ≡ viewed s cells n)

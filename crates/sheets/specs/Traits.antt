@@ -1,6 +1,7 @@
 -- Traits that are read under the paper's limits behind earlier ones, and the entries of one by the place of its name.
 -- Document 01, "The grammar", Markers, "Sizes" and "Entries", and document 02, Six.
-use Rattle.std.specs.Prelude.{ℕ, ◌+◌, ◌-◌, ◌*◌, ◌≤◌, ◌<◌, ◌≡◌, ◌⊎◌, List, [], ◌∷◌, ◌++◌, length, drop, get_or}
+use Rattle.std.specs.Prelude.{ℕ, ◌+◌, ◌-◌, ◌*◌, ◌≤◌, ◌<◌, ◌≡◌, ◌⊎◌, Result, Ok, List, [], ◌∷◌, ◌++◌, length, drop, get_or}
+use Rattle.paper.specs.declared.Refused.{Refused}
 use Rattle.paper.specs.Found.{Found, and_then}
 use Rattle.paper.specs.Limits.{bracket_limit, entry_limit}
 use Rattle.paper.specs.Values.{value_form}
@@ -12,7 +13,6 @@ use Rattle.entries.specs.declared.Slot.{Slot}
 use Rattle.values.specs.Entering.{left_of}
 use Rattle.lines.specs.Parts.{Makes}
 use Rattle.lines.specs.declared.part.Part.{Part}
-use Rattle.lines.specs.declared.part.Part.TheVariants.{Read}
 use Rattle.names.specs.Runs.{key_limit}
 use Rattle.earlier.specs.Earlier.{name_at, Lists}
 
@@ -53,31 +53,31 @@ abbrev pub one_trait : ℕ → ℕ → ℕ → Trait → List Entry
 one_trait parent next at t = own_entry parent at t ∷ item_entries next (next + 1) (at + length t.name + 1) t.value
 
 -- a trait whose name stands at a place was read as x, and is entered
-abbrev pub MakesTrait : List ℕ → ℕ → List ℕ → Slot → Found Trait → Part → List ℕ → Type 0
+abbrev pub MakesTrait : List ℕ → ℕ → List ℕ → Slot → Found Trait → Result Part Refused → List ℕ → Type 0
 MakesTrait s at cells slot x r after = Makes trait_size (λ t. 1) (one_trait slot.parent slot.next at) s cells slot.next x r after
 
 -- the same from its value on, behind the "=" that stands at `to`, whatever white space and name it has
-abbrev pub MakesValued : List ℕ → ℕ → ℕ → List ℕ → Slot → Part → List ℕ → Type 0
+abbrev pub MakesValued : List ℕ → ℕ → ℕ → List ℕ → Slot → Result Part Refused → List ℕ → Type 0
 MakesValued s from to cells slot r after =
     (white w : List ℕ) → length w ≡ to - from → MakesTrait s from cells slot (value_in (left_of slot) (drop from s) white w (drop (to + 1) s)) r after
 
 -- the same from its name on, behind traits of these names, whatever white space it has
-abbrev pub MakesBehind : List ℕ → ℕ → List ℕ → Slot → List (List ℕ) → Part → List ℕ → Type 0
+abbrev pub MakesBehind : List ℕ → ℕ → List ℕ → Slot → List (List ℕ) → Result Part Refused → List ℕ → Type 0
 MakesBehind s at cells slot names r after = (white : List ℕ) → MakesTrait s at cells slot (trait bounds (behind_names names slot) white (drop at s)) r after
 
 -- the same behind traits of any names that the index x lists; where it is read the index y lists its name too
-pub record MakesNamed (s : List ℕ) (first at : ℕ) (cells : List ℕ) (slot : Slot) (x : List ℕ) (r : Part) (after y : List ℕ) : Type 0 where
+pub record MakesNamed (s : List ℕ) (first at : ℕ) (cells : List ℕ) (slot : Slot) (x : List ℕ) (r : Result Part Refused) (after y : List ℕ) : Type 0 where
   pub made : (names : List (List ℕ)) → Lists s first x names → MakesBehind s at cells slot names r after
-  pub listed : (names : List (List ℕ)) → Lists s first x names → (end made own : ℕ) → r ≡ Read end made own → Lists s first y (names ++ (name_at s at ∷ []))
+  pub listed : (names : List (List ℕ)) → Lists s first x names → (p : Part) → r ≡ Ok p → Lists s first y (names ++ (name_at s at ∷ []))
   pub before : (c : ℕ) → get_or y c 0 ≤ at
 
 -- ---- traits in a row
 
 -- the traits of a marker, the first of which is due at a place, are read and entered
-abbrev pub MakesTraits : List ℕ → ℕ → List ℕ → Slot → Part → List ℕ → Type 0
+abbrev pub MakesTraits : List ℕ → ℕ → List ℕ → Slot → Result Part Refused → List ℕ → Type 0
 MakesTraits s at cells slot r after =
     Makes traits_size length (trait_entries slot.parent slot.next at) s cells slot.next (traits_of (left_of slot) (drop at s)) r after
 
 -- an index before a place becomes one before the end of what is read
-abbrev pub NamesOnward : List ℕ → Part → List ℕ → Type 0
-NamesOnward s r x = (end made own : ℕ) → r ≡ Read end made own → NamesBefore s (end + 1) x
+abbrev pub NamesOnward : List ℕ → Result Part Refused → List ℕ → Type 0
+NamesOnward s r x = (p : Part) → r ≡ Ok p → NamesBefore s (p.end + 1) x

@@ -1,21 +1,24 @@
 // Concepts and children: the Concept reader and the reader of a children body call each other, and siblings go round in a loop.
 // Document 01, "The grammar", Lines, Markers and Content, and "Entries".
 ghost use Rattle.std.specs.Prelude.{◌≡◌, ◌+◌, ◌≤◌, length};
+ghost use Rattle.paper.specs.Forms.{number_of_body};
 ghost use Rattle.entries.specs.Laid.{Fits};
 ghost use Rattle.lines.specs.Parts.{seen, In, Tabbed, MakesNotes};
 ghost use Rattle.sheets.specs.Traits.{NamesBefore, NamesOnward};
-ghost use Rattle.sheets.specs.Concepts.{Ready, Ends, ended_by, cells_ended, EndsIn, line_ended};
+ghost use Rattle.sheets.specs.Concepts.{Ready, Ends, ended_by, cells_ended, line_ended};
 ghost use Rattle.sheets.specs.Concepts.{ReadsConcept, ReadsInside, ReadsBlock, ReadsChildren, ReadsPiece, ReadsAnnotated};
 
-use crate::opening::{Opening, read_opening};
+use crate::opening::{Opened, read_opening};
 use entries::{Entry, Slot, put};
 use lines::annotations;
 use lines::blank::{is_blank_line, tabs_only};
 use lines::content::read_content;
 use lines::marks::{CLOSING, read_closing};
-use lines::part::{Part, line_rest, past, refused};
-use modes::index::Index;
-use paper::{forms, kinds};
+use lines::part::{Part, entryless, line_rest};
+use modes::Modes;
+use paper::Refused;
+use paper::forms::Body;
+use paper::kinds::Kind;
 use text::nesting::Nesting;
 use text::parts::starts_with;
 use text::runs;
@@ -23,90 +26,60 @@ use text::runs;
 // Reads the Concept whose "<" is due at `at`, on a line of so many tabs, and enters it with what it holds.
 #[cycle(concept)]
 fn read_concept(
-    table: &[u8],
+    modes: Modes,
     s: &[u8],
     at: usize,
     tabs: usize,
     nesting: Nesting,
     cells: &mut [u32],
     slot: Slot,
-    index: &Index,
     names: &mut [u16],
-) -> Part
-    requires { Ready table.now index.now s.now at cells.old slot × NamesBefore s.now (at + 1) names.old }
-    ensures { ReadsConcept table.now s.now at tabs nesting.left cells.old slot result cells.new
+) -> Result<Part, Refused>
+    requires { Ready s.now at cells.old slot × NamesBefore s.now (at + 1) names.old }
+    ensures { ReadsConcept modes.entry.table.now s.now at tabs nesting.left cells.old slot result cells.new
         × NamesOnward s.now result names.new }
 {
-    match read_opening(table, s, at, nesting, cells, slot, index, names) {
-        Opening::Refused { refusal, place } => refused(refusal, place),
-        Opening::Opened {
-            form,
-            to,
-            end,
-            made,
-            own,
-            inside,
-        } => {
-            let next = slot.under().after(made);
-            let body = read_inside(
-                table,
-                s,
-                end,
-                form,
-                tabs,
-                at + 1,
-                to,
-                inside,
-                cells,
-                next,
-                index,
-                names,
-            );
-            end_concept(body, form, at, to, made, own, cells, slot)
-        }
-    }
+    let opened = read_opening(modes, s, at, nesting, cells, slot, names)?;
+    let next = slot.under().after(opened.made);
+    let body = read_inside(
+        modes,
+        s,
+        opened.end,
+        opened.form,
+        tabs,
+        at + 1,
+        opened.to,
+        opened.inside,
+        cells,
+        next,
+        names,
+    )?;
+    Ok(end_concept(body, opened, at, cells, slot))
 }
 
-// Enters a Concept that ends with its body: its "<" stands at `at`, its name ends at `to`, and its traits made so many entries.
-fn end_concept(
-    body: Part,
-    form: u32,
-    at: usize,
-    to: usize,
-    made: usize,
-    own: usize,
-    cells: &mut [u32],
-    slot: Slot,
-) -> Part
-    requires { Ends cells.old slot body at to made own }
-    ensures { (result ≡ ended_by body made) × (cells.new ≡ cells_ended cells.old slot body form at to own) }
+// Enters a Concept that was opened so at a "<" that stands at `at`, and ends with its body.
+fn end_concept(body: Part, opened: Opened, at: usize, cells: &mut [u32], slot: Slot) -> Part
+    requires { Ends cells.old slot body at opened.to opened.made opened.own }
+    ensures { (result ≡ ended_by body opened.made)
+        × (cells.new ≡ cells_ended cells.old slot body (number_of_body opened.form) at opened.to opened.own) }
 {
-    let Part::Read {
-        end,
-        made: inside,
-        own: count,
-    } = body
-    else {
-        return body;
-    };
-    let n = slot.next;
     put(
         cells,
-        n,
+        slot.next,
         Entry {
-            kind: kinds::CONCEPT,
-            form,
+            kind: Kind::Concept.number(),
+            form: opened.form.number(),
             parent: slot.parent,
-            count: (own + count) as u32,
+            count: (opened.own + body.own) as u32,
             name_start: (at + 1) as u32,
-            name_end: to as u32,
+            name_end: opened.to as u32,
             start: at as u32,
-            end: end as u32,
+            end: body.end as u32,
         },
     );
-    Part::Read {
-        end,
-        made: 1 + made + inside,
+    Part {
+        end: body.end,
+        made: 1 + opened.made + body.made,
         own: 1,
     }
 }
@@ -114,35 +87,34 @@ fn end_concept(
 // Reads what follows an opening marker of this form that ends at `at`: nothing, children or Content.
 #[cycle(concept)]
 fn read_inside(
-    table: &[u8],
+    modes: Modes,
     s: &[u8],
     at: usize,
-    form: u32,
+    form: Body,
     tabs: usize,
     from: usize,
     to: usize,
     nesting: Nesting,
     cells: &mut [u32],
     slot: Slot,
-    index: &Index,
     names: &mut [u16],
-) -> Part
-    requires { Ready table.now index.now s.now at cells.old slot × (from ≤ to) × (to ≤ length s.now) × NamesBefore s.now (at + 1) names.old }
-    ensures { ReadsInside table.now s.now at form tabs from to nesting.left cells.old slot result
+) -> Result<Part, Refused>
+    requires { Ready s.now at cells.old slot × (from ≤ to) × (to ≤ length s.now) × NamesBefore s.now (at + 1) names.old }
+    ensures { ReadsInside modes.entry.table.now s.now at (number_of_body form) tabs from to nesting.left cells.old slot result
         cells.new
         × NamesOnward s.now result names.new }
 {
     match form {
-        forms::SELF_CLOSED => past(at),
-        forms::CHILDREN => read_block(table, s, at, from, to, nesting, cells, slot, index, names),
-        _ => read_content(s, at, tabs, from, to, cells, slot),
+        Body::SelfClosed => Ok(entryless(at)),
+        Body::Children => read_block(modes, s, at, from, to, nesting, cells, slot, names),
+        Body::Content => read_content(s, at, tabs, from, to, cells, slot),
     }
 }
 
 // Reads the children of a block from behind its marker's ">" on, with its closing marker. Its name stands from `from` to `to`.
 #[cycle(concept)]
 fn read_block(
-    table: &[u8],
+    modes: Modes,
     s: &[u8],
     at: usize,
     from: usize,
@@ -150,47 +122,31 @@ fn read_block(
     nesting: Nesting,
     cells: &mut [u32],
     slot: Slot,
-    index: &Index,
     names: &mut [u16],
-) -> Part
-    requires { Ready table.now index.now s.now at cells.old slot × (from ≤ to) × (to ≤ length s.now) × NamesBefore s.now (at + 1) names.old }
-    ensures { ReadsBlock table.now s.now at from to nesting.left cells.old slot result cells.new
+) -> Result<Part, Refused>
+    requires { Ready s.now at cells.old slot × (from ≤ to) × (to ≤ length s.now) × NamesBefore s.now (at + 1) names.old }
+    ensures { ReadsBlock modes.entry.table.now s.now at from to nesting.left cells.old slot result cells.new
         × NamesOnward s.now result names.new }
 {
-    let rest = line_rest(s, at);
-    let Part::Read { end: start, .. } = rest else {
-        return rest;
-    };
-    let body = read_children(table, s, start, nesting, cells, slot, index, names);
-    let Part::Read {
-        end: mark,
-        made,
-        own,
-    } = body
-    else {
-        return body;
-    };
-    let closing = read_closing(s, mark, from, to);
-    let Part::Read { end, .. } = closing else {
-        return closing;
-    };
-    Part::Read { end, made, own }
+    let start = line_rest(s, at)?;
+    let body = read_children(modes, s, start, nesting, cells, slot, names)?;
+    let end = read_closing(s, body.end, from, to)?;
+    Ok(Part { end, ..body })
 }
 
 // Reads the lines of a children body that stand at `at`, up to the closing marker behind the tabs of its line.
 #[cycle(concept)]
 fn read_children(
-    table: &[u8],
+    modes: Modes,
     s: &[u8],
     at: usize,
     nesting: Nesting,
     cells: &mut [u32],
     slot: Slot,
-    index: &Index,
     names: &mut [u16],
-) -> Part
-    requires { Ready table.now index.now s.now at cells.old slot × NamesBefore s.now (at + 1) names.old }
-    ensures { ReadsChildren table.now s.now at nesting.left cells.old slot result cells.new
+) -> Result<Part, Refused>
+    requires { Ready s.now at cells.old slot × NamesBefore s.now (at + 1) names.old }
+    ensures { ReadsChildren modes.entry.table.now s.now at nesting.left cells.old slot result cells.new
         × NamesOnward s.now result names.new }
 {
     let mut i = at;
@@ -199,34 +155,16 @@ fn read_children(
     loop {
         let mark = runs::tab_end(s, i);
         if starts_with(s, mark, &CLOSING) {
-            return Part::Read {
+            return Ok(Part {
                 end: mark,
                 made,
                 own,
-            };
+            });
         }
-        let piece = read_piece(
-            table,
-            s,
-            i,
-            mark,
-            nesting,
-            cells,
-            slot.after(made),
-            index,
-            names,
-        );
-        let Part::Read {
-            end,
-            made: more,
-            own: mine,
-        } = piece
-        else {
-            return piece;
-        };
-        i = end;
-        made += more;
-        own += mine;
+        let piece = read_piece(modes, s, i, mark, nesting, cells, slot.after(made), names)?;
+        i = piece.end;
+        made += piece.made;
+        own += piece.own;
     }
 }
 
@@ -234,141 +172,115 @@ fn read_children(
 // what stands there is looked at first, since most lines have a Concept behind their tabs, or nothing.
 #[cycle(concept)]
 fn read_piece(
-    table: &[u8],
+    modes: Modes,
     s: &[u8],
     at: usize,
     mark: usize,
     nesting: Nesting,
     cells: &mut [u32],
     slot: Slot,
-    index: &Index,
     names: &mut [u16],
-) -> Part
-    requires { Ready table.now index.now s.now at cells.old slot × Tabbed s.now at mark × NamesBefore s.now (at + 1) names.old }
-    ensures { ReadsPiece table.now s.now at nesting.left cells.old slot result cells.new
+) -> Result<Part, Refused>
+    requires { Ready s.now at cells.old slot × Tabbed s.now at mark × NamesBefore s.now (at + 1) names.old }
+    ensures { ReadsPiece modes.entry.table.now s.now at nesting.left cells.old slot result cells.new
         × NamesOnward s.now result names.new }
 {
     if !starts_with(s, mark, b"<") {
         if starts_with(s, mark, b"\n") {
-            return past(mark + 1);
+            return Ok(entryless(mark + 1));
         }
         if is_blank_line(s, at) {
-            return line_rest(s, at);
+            return Ok(entryless(line_rest(s, at)?));
         }
-        let tabs = tabs_only(s, at);
-        let Part::Read { .. } = tabs else {
-            return tabs;
-        };
+        tabs_only(s, at)?;
     }
-    let concept = read_annotated(table, s, at, mark, nesting, cells, slot, index, names);
+    let concept = read_annotated(modes, s, at, mark, nesting, cells, slot, names)?;
     end_line(s, concept)
 }
 
 // What was read, with the blank rest of its line.
-fn end_line(s: &[u8], part: Part) -> Part
-    requires { EndsIn s.now part }
+fn end_line(s: &[u8], part: Part) -> Result<Part, Refused>
+    requires { part.end ≤ length s.now }
     ensures { seen result ≡ line_ended s.now part }
 {
-    let Part::Read { end, made, own } = part else {
-        return part;
-    };
-    let rest = line_rest(s, end);
-    let Part::Read { end: next, .. } = rest else {
-        return rest;
-    };
-    Part::Read {
-        end: next,
-        made,
-        own,
-    }
+    let end = line_rest(s, part.end)?;
+    Ok(Part { end, ..part })
 }
 
 // Reads the annotations that stand at `at` and their Concept, which is due behind the tabs of the next line. The tabs at `at` end at `mark`.
 #[cycle(concept)]
 fn read_annotated(
-    table: &[u8],
+    modes: Modes,
     s: &[u8],
     at: usize,
     mark: usize,
     nesting: Nesting,
     cells: &mut [u32],
     slot: Slot,
-    index: &Index,
     names: &mut [u16],
-) -> Part
-    requires { Ready table.now index.now s.now at cells.old slot × Tabbed s.now at mark × NamesBefore s.now (at + 1) names.old }
-    ensures { ReadsAnnotated table.now s.now at nesting.left cells.old slot result cells.new
+) -> Result<Part, Refused>
+    requires { Ready s.now at cells.old slot × Tabbed s.now at mark × NamesBefore s.now (at + 1) names.old }
+    ensures { ReadsAnnotated modes.entry.table.now s.now at nesting.left cells.old slot result cells.new
         × NamesOnward s.now result names.new }
 {
-    let notes = read_notes(s, at, mark, cells, slot);
-    let Part::Read {
-        end: line,
-        made,
-        ..
-    } = notes
-    else {
-        return notes;
-    };
-    let tag = if made == 0 {
+    let notes = read_notes(s, at, mark, cells, slot)?;
+    let tag = if notes.made == 0 {
         mark
     } else {
-        runs::tab_end(s, line)
+        runs::tab_end(s, notes.end)
     };
     let concept = read_concept(
-        table,
+        modes,
         s,
         tag,
-        tag - line,
+        tag - notes.end,
         nesting,
         cells,
-        slot.after(made),
-        index,
+        slot.after(notes.made),
         names,
-    );
-    let Part::Read {
-        end,
-        made: inside,
-        ..
-    } = concept
-    else {
-        return concept;
-    };
-    Part::Read {
-        end,
-        made: made + inside,
-        own: made + 1,
-    }
+    )?;
+    Ok(Part {
+        end: concept.end,
+        made: notes.made + concept.made,
+        own: notes.made + 1,
+    })
 }
 
 // Reads the annotations that stand at `at`, where the tabs there end at `mark`. Most Concepts have none.
-fn read_notes(s: &[u8], at: usize, mark: usize, cells: &mut [u32], slot: Slot) -> Part
+fn read_notes(
+    s: &[u8],
+    at: usize,
+    mark: usize,
+    cells: &mut [u32],
+    slot: Slot,
+) -> Result<Part, Refused>
     requires { In s.now at × Fits cells.old slot × Tabbed s.now at mark }
     ensures { MakesNotes s.now at cells.old slot result cells.new }
 {
     if starts_with(s, mark, b"[") {
         return annotations::read_all(s, at, cells, slot);
     }
-    past(at)
+    Ok(entryless(at))
 }
 
 // The same where a sheet's root is due, with an index of trait names for the whole sheet, which is a short one where the sheet is short.
+// Two arrays, and not one that is cut: only the short one's cells are set to zero then.
 pub fn read_root(
-    table: &[u8],
+    modes: Modes,
     s: &[u8],
     at: usize,
     nesting: Nesting,
     cells: &mut [u32],
     slot: Slot,
-    index: &Index,
-) -> Part
-    requires { Ready table.now index.now s.now at cells.old slot }
-    ensures { ReadsAnnotated table.now s.now at nesting.left cells.old slot result cells.new }
+) -> Result<Part, Refused>
+    requires { Ready s.now at cells.old slot }
+    ensures { ReadsAnnotated modes.entry.table.now s.now at nesting.left cells.old slot result cells.new }
 {
     let mark = runs::tab_end(s, at);
     if s.len() <= earlier::SHORT {
         let mut names = [0; earlier::SHORT_CELLS];
-        return read_annotated(table, s, at, mark, nesting, cells, slot, index, &mut names);
+        return read_annotated(modes, s, at, mark, nesting, cells, slot, &mut names);
     }
     let mut names = [0; earlier::CELLS];
-    read_annotated(table, s, at, mark, nesting, cells, slot, index, &mut names)
+    read_annotated(modes, s, at, mark, nesting, cells, slot, &mut names)
 }

@@ -9,20 +9,19 @@ mod traits;
 ghost use Rattle.std.specs.Prelude.{◌≡◌, ◌≤◌, length, drop};
 ghost use Rattle.paper.specs.Answer.{told};
 ghost use Rattle.paper.specs.Limits.{sheet_limit};
-ghost use Rattle.modes.specs.Index.{Indexed};
-ghost use Rattle.lines.specs.Parts.{seen, passed};
+ghost use Rattle.lines.specs.Parts.{reached, passed};
 ghost use Rattle.sheets.specs.Promises.{ReadsSheet, Views, ViewAnswers};
-ghost use Rattle.sheets.specs.Sheets.{ReadsUnder, ReadsTree, behind_root, span_of};
+ghost use Rattle.sheets.specs.Sheets.{ReadsUnder, ReadsTree, behind_root, LendsPart};
 
 use concepts::read_root;
 use entries::{CELLS, Slot, TOP, get, room, zero_from};
 use lines::blank::{blank_lines, last_blanks, tabs_only};
 use lines::part::Part;
-use modes::index::Index;
-use paper::{Answer, Refusal};
+use modes::Modes;
+use paper::{Accepted, Answer, Refusal, Refused, Told};
 use text::nesting::Nesting;
 use text::utf8;
-use text::utf8::{Checked, Cursor};
+use text::utf8::Cursor;
 
 // Reads a sheet. An acceptance has its length and how many entries it made; the cells behind them are zero.
 // A refusal leaves every cell zero.
@@ -30,138 +29,97 @@ pub fn read(table: &[u8], sheet: &[u8], cells: &mut [u32]) -> Answer
     ensures { ReadsSheet table.now sheet.now (length cells.old) result cells.new }
 {
     let mut index = [0; modes::index::CELLS];
-    let modes = modes::read_into(table, &mut index);
-    let Answer::Accepted { .. } = modes else {
-        zero_from(cells, 0);
-        return modes;
+    let answer = match modes::read_into(table, &mut index) {
+        Ok(_) => read_under(
+            Modes {
+                table,
+                index: &index,
+            },
+            sheet,
+            cells,
+        ),
+        refused => refused,
     };
-    let answer = read_under(table, sheet, cells, &index);
-    zero_from(cells, answer.count() * CELLS);
+    zero_from(cells, Told::from(answer).count * CELLS);
     answer
 }
 
-// Reads a sheet under a table that `modes::read_into` accepts, with its index. It zeroes no cell: those behind the entries are as they
-// were, and what a refusal leaves is not told.
-pub fn read_under(table: &[u8], sheet: &[u8], cells: &mut [u32], index: &Index) -> Answer
-    requires { Indexed table.now index.now }
-    ensures { ReadsUnder table.now sheet.now cells.old (told result) cells.new }
+// Reads a sheet under a table that is in order. It zeroes no cell: those behind the entries are as they were, and what a refusal leaves is
+// not told.
+pub fn read_under(modes: Modes, sheet: &[u8], cells: &mut [u32]) -> Answer
+    ensures { ReadsUnder modes.entry.table.now sheet.now cells.old (told result) cells.new }
 {
     if Cursor::is_too_long(sheet) {
-        return Answer::Refused {
-            refusal: Refusal::SheetTooLong,
-            place: Cursor::LIMIT,
-        };
+        return Err(Refusal::SheetTooLong.at(Cursor::LIMIT));
     }
-    match utf8::check(sheet) {
-        Checked::Broken(place) => Answer::Refused {
-            refusal: Refusal::Bytes,
-            place,
-        },
-        Checked::Sound => match read_tree(table, sheet, cells, index) {
-            Part::Refused { refusal, place } => Answer::Refused { refusal, place },
-            Part::Read { end, made, .. } => Answer::Accepted {
-                place: end,
-                count: made,
-            },
-        },
-    }
+    utf8::check(sheet)?;
+    let tree = read_tree(modes, sheet, cells)?;
+    Ok(Accepted {
+        place: tree.end,
+        count: tree.made,
+    })
 }
 
 // Reads the root with its annotations and the blank lines around them, and enters it from the first cell on.
-fn read_tree(table: &[u8], s: &[u8], cells: &mut [u32], index: &Index) -> Part
-    requires { Indexed table.now index.now × (length s.now ≤ sheet_limit) }
-    ensures { ReadsTree table.now s.now cells.old result cells.new }
+fn read_tree(modes: Modes, s: &[u8], cells: &mut [u32]) -> Result<Part, Refused>
+    requires { length s.now ≤ sheet_limit }
+    ensures { ReadsTree modes.entry.table.now s.now cells.old result cells.new }
 {
-    let blanks = blank_lines(s, 0);
-    let Part::Read { end: first, .. } = blanks else {
-        return blanks;
-    };
-    let tabs = tabs_only(s, first);
-    let Part::Read { .. } = tabs else {
-        return tabs;
-    };
+    let first = blank_lines(s, 0)?;
+    tabs_only(s, first)?;
     let slot = Slot {
         next: 0,
         room: room(cells.len()),
         parent: TOP,
     };
     let root = read_root(
-        table,
+        modes,
         s,
         first,
         Nesting::new(Nesting::CONCEPTS),
         cells,
         slot,
-        index,
-    );
-    let Part::Read { end, made, own } = root else {
-        return root;
-    };
-    let rest = read_rest(s, end);
-    let Part::Read { end: last, .. } = rest else {
-        return rest;
-    };
-    Part::Read {
-        end: last,
-        made,
-        own,
-    }
+    )?;
+    let end = read_rest(s, root.end)?;
+    Ok(Part { end, ..root })
 }
 
 // Past the blank lines that stand at `at`, as behind the root, up to the end of input.
-pub fn read_rest(s: &[u8], at: usize) -> Part
+pub fn read_rest(s: &[u8], at: usize) -> Result<usize, Refused>
     requires { at ≤ length s.now }
-    ensures { seen result ≡ passed s.now (behind_root (drop at s.now)) }
+    ensures { reached result ≡ passed s.now (behind_root (drop at s.now)) }
 {
-    let blanks = blank_lines(s, at);
-    let Part::Read { end, .. } = blanks else {
-        return blanks;
-    };
+    let end = blank_lines(s, at)?;
     last_blanks(s, end)
-}
-
-// Where the part of an entry stands in the sheet, or that the entry cannot be viewed.
-#[derive(Clone, Copy)]
-enum Span {
-    Part { start: usize, end: usize },
-    Nowhere,
 }
 
 // The part of the sheet that an entry's span names; empty where the entry cannot be viewed.
 pub fn view<'a>(sheet: &'a [u8], cells: &[u32], entry: usize) -> &'a [u8]
     ensures { Views sheet.now cells.now entry result.now }
 {
-    match span_of(sheet, cells, entry) {
-        Span::Part { start, end } => &sheet[start..end],
-        Span::Nowhere => &sheet[..0],
-    }
+    part_of(sheet, cells, entry).unwrap_or(&sheet[..0])
 }
 
 // Whether an entry can be viewed: 0, 0 and the length of its part, or 17.
 pub fn view_answer(sheet: &[u8], cells: &[u32], entry: usize) -> Answer
     ensures { ViewAnswers sheet.now cells.now entry result }
 {
-    match span_of(sheet, cells, entry) {
-        Span::Part { start, end } => Answer::Accepted {
+    match part_of(sheet, cells, entry) {
+        Some(part) => Ok(Accepted {
             place: 0,
-            count: end - start,
-        },
-        Span::Nowhere => Answer::Refused {
-            refusal: Refusal::View,
-            place: 0,
-        },
+            count: part.len(),
+        }),
+        None => Err(Refusal::View.at(0)),
     }
 }
 
 // An entry can be viewed where it lies wholly in the cells, has a kind, and its span lies in the sheet and is not reversed.
-fn span_of(sheet: &[u8], cells: &[u32], entry: usize) -> Span
-    ensures { result ≡ span_of sheet.now cells.now entry }
+fn part_of<'a>(sheet: &'a [u8], cells: &[u32], entry: usize) -> Option<&'a [u8]>
+    ensures { LendsPart sheet.now cells.now entry result }
 {
     let laid = get(cells, entry);
-    let start = laid.start as usize;
-    let end = laid.end as usize;
-    if laid.kind == 0 || end < start || sheet.len() < end {
-        return Span::Nowhere;
+    if laid.kind == 0 {
+        return None;
     }
-    Span::Part { start, end }
+    sheet.get(laid.start as usize..laid.end as usize)
 }

@@ -5,10 +5,14 @@ use mathlib.Core.Path.{◌≡◌, sym, ap, ◌∙◌}
 use mathlib.Core.List.{List}
 use native.Mathlib.Omega.{arith}
 use lib.ListN.{length, drop}
+use Rattle.std.specs.Prelude.{Result, Err}
+use Rattle.std.specs.Result.{IsErrAnd}
+use Rattle.std.proofs.lemmas.Result.{err_from_is_err_and}
+use Rattle.paper.specs.declared.Refused.{Refused}
 use Rattle.paper.specs.declared.Refusal.{Refusal}
 use Rattle.paper.specs.Answer.{number_of}
 use Rattle.paper.specs.Found.{Found, found, fault, place_in}
-use Rattle.paper.proofs.Told.{number_positive}
+use Rattle.paper.proofs.Numbers.{number_positive}
 use Rattle.paper.proofs.Finds.{Reads}
 use Rattle.text.proofs.Places.{left_at}
 
@@ -42,3 +46,7 @@ pub record FaultAt {A : Type 0} (s : List ℕ) (x : Found A) (why : Refusal) (pl
 pub fault_to : {A : Type 0} (s : List ℕ) (x : Found A) (why : Refusal) (place : ℕ) → Tells s x (number_of why) place → FaultAt s x why place
 fault_to s (found a left) why place t = absurd (number_positive why t.0)
 fault_to s (fault n left) why place t = record { left = left; faults = ap (λ (k : ℕ). fault k left) (sym t.0); there = sym t.1 }
+
+-- what a `?` answers where it ends a function
+pub passes : {T : Type 0} {r : Result T Refused} {e : Refused} → IsErrAnd r (λ f. f ≡ e) → r ≡ Err e
+passes {T} {r} h = let p = err_from_is_err_and r h in p.1 ∙ ap Err p.2

@@ -7,15 +7,16 @@ use mathlib.Core.List.{List, [], ◌∷◌}
 use native.Mathlib.Omega.{arith}
 use lib.ListN.{length, get_or, drop, length-drop}
 use borrow.Author.Tests.{ne_eqb, le-leb, lt-leb}
+use Rattle.std.specs.Prelude.{Ok, Err}
 use Rattle.paper.specs.Found.{Found, found, fault, and_then}
 use Rattle.paper.specs.Bytes.{tab, lf, cr, starts_with, scalar, may_stand, scalars, byte_order_mark, sheet_bytes}
 use Rattle.paper.proofs.Tests.{up_to}
 use Rattle.paper.proofs.Scalars.{row_one, scalars_nil, scalars_broken, scalars_stop, scalars_on, scalars_fuel}
+use Rattle.text.specs.declared.utf8.Cursor.{Cursor}
 use Rattle.text.specs.declared.utf8.Step.{Step}
-use Rattle.text.specs.declared.utf8.Checked.{Checked}
-use Rattle.text.specs.declared.utf8.Walked.{Walked}
-use Rattle.text.specs.Steps.{step_at, checked_of, checked, checked_at, Plain, Walks}
+use Rattle.text.specs.Steps.{step_at, broken, checked_of, checked, checked_at, Plain}
 use Rattle.text.proofs.Places.{here}
+use Rattle.text.proofs.Stretch.{all_over}
 use Rattle.text.proofs.Steps.{Stepped, step_end, step_one, ended, failed, stepped}
 
 -- ---- what may stand
@@ -50,9 +51,9 @@ more_values s v (found vs q) = refl
 more_values s v (fault n q) = refl
 
 -- a byte order mark in front, and none
-pub check_mark : (s : List ℕ) → starts_with byte_order_mark s ≡ true → Checked.Broken 0 ≡ checked s
+pub check_mark : (s : List ℕ) → starts_with byte_order_mark s ≡ true → Err (broken 0) ≡ checked s
 unfolding sheet_bytes
-check_mark s e = rw (e, sheet_bytes) (ap Checked.Broken (omega arith))
+check_mark s e = rw (e, sheet_bytes) (ap (λ (k : ℕ). Err (broken k)) (omega arith))
 
 pub check_start : (s : List ℕ) (at : ℕ) → at ≡ 0 → starts_with byte_order_mark s ≡ false → checked_at s at ≡ checked s
 unfolding sheet_bytes
@@ -60,15 +61,15 @@ check_start s at n e = rw (n, e, sheet_bytes)
 
 -- the check, by what the step answers
 module _ (s : List ℕ) (at : ℕ) where
-  pub check_end : Step.End ≡ step_at s at → Checked.Sound ≡ checked_at s at
+  pub check_end : Step.End ≡ step_at s at → Ok tt ≡ checked_at s at
   check_end e = rw (ended s at e, scalars_nil 0)
 
-  pub check_broken : Step.Broken ≡ step_at s at → Checked.Broken at ≡ checked_at s at
+  pub check_broken : Step.Broken ≡ step_at s at → Err (broken at) ≡ checked_at s at
   check_broken e =
       let f = failed s at e in
       let l = drop (at + 1) s in
       let r : scalar (get_or s at 0 ∷ l) ≡ fault f.number f.left = rw (here s at f.inside) at f.reads in
-      rw (here s at f.inside, scalars_broken (length l) (get_or s at 0) l f.number f.left r) (ap Checked.Broken (omega (arith, length-drop (at + 1) s)))
+      rw (here s at f.inside, scalars_broken (length l) (get_or s at 0) l f.number f.left r) (ap (λ (k : ℕ). Err (broken k)) (omega (arith, length-drop (at + 1) s)))
 
   module _ (v next : ℕ) (f : Stepped s at v next) where
     inside_here : at < length s
@@ -77,10 +78,10 @@ module _ (s : List ℕ) (at : ℕ) where
     reads_here : scalar (get_or s at 0 ∷ drop (at + 1) s) ≡ found v (drop next s)
     reads_here = rw (here s at inside_here) at f.reads
 
-    pub check_stop : may_stand v (drop next s) ≡ false → Checked.Broken at ≡ checked_at s at
+    pub check_stop : may_stand v (drop next s) ≡ false → Err (broken at) ≡ checked_at s at
     check_stop m =
         rw (here s at inside_here, scalars_stop (length (drop (at + 1) s)) (get_or s at 0) (drop (at + 1) s) v (drop next s) reads_here m)
-        (ap Checked.Broken (omega (arith, length-drop (at + 1) s)))
+        (ap (λ (k : ℕ). Err (broken k)) (omega (arith, length-drop (at + 1) s)))
 
     pub check_on : may_stand v (drop next s) ≡ true → checked_at s next ≡ checked_at s at
     check_on m =
@@ -107,30 +108,18 @@ plain_on s at h p =
     check_on s at (get_or s at 0) (at + 1) (stepped s at (get_or s at 0) (record { at = at + 1 }) (step_one s at h (row_one (get_or s at 0) p.0) refl))
     (p.1 (drop (at + 1) s))
 
--- behind some bytes, of which so many are plain
-pub block_on : (s : List ℕ) (at i count p : ℕ) → at + i < length s → count ≤ i → (count ≡ i → checked_at s (at + i) ≡ checked_at s at) → p ≤ 1
-    → (p ≡ 1 → Plain (get_or s (at + i) 0)) → count + p ≡ i + 1 → checked_at s (at + (i + 1)) ≡ checked_at s at
-block_on s at i count p h l inv few plain e =
-    let next : at + (i + 1) ≡ at + i + 1 = omega arith in
-    rw next (plain_on s (at + i) h (plain (omega arith)) ∙ inv (omega arith))
+pub plain_all : (s : List ℕ) {at end : ℕ} → at ≤ end → ((i : ℕ) → at ≤ i → i < end → Plain (get_or s i 0)) → end ≤ length s
+    → checked_at s end ≡ checked_at s at
+plain_all s {at} {end} ahead each h =
+    all_over (λ i. checked_at s i ≡ checked_at s at) (record { ahead = ahead; each = each }) (λ i l m p so_far. plain_on s i (omega arith) p ∙ so_far) refl
 
 -- at the end it has found nothing
-pub check_out : (s : List ℕ) (at : ℕ) → length s ≤ at → Checked.Sound ≡ checked_at s at
+pub check_out : (s : List ℕ) (at : ℕ) → length s ≤ at → Ok tt ≡ checked_at s at
 check_out s at h = check_end s at (step_end s at h)
 
--- what a walk says from a place on, it says from an earlier one, where nothing is at fault between them
-pub walks_from : (s : List ℕ) (at i : ℕ) (r : Walked) → at ≤ i → checked_at s i ≡ checked_at s at → Walks s i r → Walks s at r
-walks_from s at i (Walked.To next) l e w = (omega (arith, w.0), w.1, w.2 ∙ e)
-walks_from s at i (Walked.Broken place) l e w = w ∙ e
-
--- inside a list something is left
-pub not_ended : (s : List ℕ) (at : ℕ) → at < length s → Step.End ≡ step_at s at → ⊥
-not_ended s at h e = omega (arith, length-drop at s, ap length (ended s at e))
-
--- what a walk says, by its answer
-pub walked_to : (s : List ℕ) (at : ℕ) (r : Walked) (next : ℕ) → r ≡ Walked.To next → Walks s at r
-    → (at < next) × (next ≤ length s) × (checked_at s next ≡ checked_at s at)
-walked_to s at r next e w = rw e at w
-
-pub walked_broken : (s : List ℕ) (at : ℕ) (r : Walked) (place : ℕ) → r ≡ Walked.Broken place → Walks s at r → Checked.Broken place ≡ checked_at s at
-walked_broken s at r place e w = rw e at w
+-- inside a list a step that finds no value fails
+pub check_none : (s : List ℕ) (at : ℕ) (x : Step) → at < length s → x ≡ step_at s at → ((v : ℕ) (next : Cursor) → x ≡ Step.Scalar v next → ⊥)
+    → Err (broken at) ≡ checked_at s at
+check_none s at (Step.Scalar v next) h e none = absurd (none v next refl)
+check_none s at Step.Broken h e none = check_broken s at e
+check_none s at Step.End h e none = absurd (omega (arith, length-drop at s, ap length (ended s at e)))

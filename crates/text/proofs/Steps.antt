@@ -1,38 +1,49 @@
 -- One step of UTF-8 at a place: a law for each way out of its functions, and what each answer says. Assumes nothing.
 -- Document 01, "The grammar", Bytes; RFC 3629 §4.
-use Prim.Native.Nat.{ℕ, zero, suc, ◌+◌, ◌-◌, ◌*◌, ◌<◌, ◌≤◌}
+use Prim.Native.Nat.{ℕ, suc, ◌+◌, ◌-◌, ◌*◌, ◌<◌, ◌≤◌}
 use mathlib.Core.Path.{◌≡◌, refl, sym, ap, ◌∙◌}
 use mathlib.Core.List.{List, [], ◌∷◌}
+use mathlib.Core.Bool.{true, false}
 use native.Mathlib.Omega.{arith}
 use lib.ListN.{length, get_or, drop, length-drop, drop_of_length-le}
-use Rattle.paper.specs.Found.{Found, found, fault, and_then, place_in}
+use lib.Dec.{ltb}
+use borrow.Author.Tests.{ltb-true, ltb-false}
+use Rattle.std.specs.Prelude.{Option, None, Some}
+use Rattle.std.proofs.lemmas.Grind.{get_or_default_zero}
+use Rattle.paper.specs.Found.{Found, found, fault, place_in}
 use Rattle.paper.specs.Bytes.{one, two, three, four, none, row_of, follower, scalar, encode}
 use Rattle.paper.proofs.Finds.{Finds}
 use Rattle.paper.proofs.Scalars.{Three, Four, leads_as}
 use Rattle.paper.proofs.Scalars.{follower_in, follower_under, follower_over, Follows, follows, scalar_one, scalar_two, scalar_three, scalar_four, scalar_none}
 use Rattle.paper.proofs.Scalars.{scalar_sound, spelt_shorter}
-use Rattle.text.specs.declared.utf8.Bits.{Bits}
 use Rattle.text.specs.declared.utf8.Cursor.{Cursor}
 use Rattle.text.specs.declared.utf8.Step.{Step}
-use Rattle.text.specs.Steps.{bits_of, step_of, step_from, step_at}
+use Rattle.text.specs.Steps.{bits_of, step_of, step_from, step_at, gather, Awaits}
 use Rattle.text.proofs.Places.{here, place_back, front_inside, front_behind, left_back}
 
 -- ---- a byte that follows
 
 module _ (s : List ℕ) (at low high : ℕ) where
-  pub bits_out : length s ≤ at → Bits.Wrong ≡ bits_of (follower low high (drop at s))
+  pub bits_out : false ≡ ltb at (length s) → None ≡ bits_of (follower low high (drop at s))
   unfolding follower
-  bits_out h = rw (drop_of_length-le s h)
+  bits_out h = rw (drop_of_length-le s (ltb-false at (length s) (sym h)))
 
-  module _ (h : at < length s) where
-    pub bits_under : get_or s at 0 < low → Bits.Wrong ≡ bits_of (follower low high (drop at s))
-    bits_under k = rw (here s at h, follower_under low high (get_or s at 0) (drop (at + 1) s) k)
+  -- the byte that `get` finds there
+  module _ (b : ℕ) (lies : true ≡ ltb at (length s)) (got : b ≡ get_or s at b) where
+    inside_got : at < length s
+    inside_got = ltb-true at (length s) (sym lies)
 
-    pub bits_over : high < get_or s at 0 → Bits.Wrong ≡ bits_of (follower low high (drop at s))
-    bits_over k = rw (here s at h, follower_over low high (get_or s at 0) (drop (at + 1) s) k)
+    bits_got : bits_of (follower low high (drop at s)) ≡ bits_of (follower low high (b ∷ drop (at + 1) s))
+    bits_got = rw (here s at inside_got, got, get_or_default_zero s at b inside_got)
 
-    pub bits_in : low ≤ get_or s at 0 → get_or s at 0 ≤ high → Bits.Six (get_or s at 0 - 0x80) ≡ bits_of (follower low high (drop at s))
-    bits_in f t = rw (here s at h, follower_in low high (get_or s at 0) (drop (at + 1) s) f t)
+    pub bits_under : b < low → None ≡ bits_of (follower low high (drop at s))
+    bits_under k = rw (bits_got, follower_under low high b (drop (at + 1) s) k)
+
+    pub bits_over : high < b → None ≡ bits_of (follower low high (drop at s))
+    bits_over k = rw (bits_got, follower_over low high b (drop (at + 1) s) k)
+
+    pub bits_in : low ≤ b → b ≤ high → Some (b - 0x80) ≡ bits_of (follower low high (drop at s))
+    bits_in f t = rw (bits_got, follower_in low high b (drop (at + 1) s) f t)
 
   -- six bits were found, of a byte in the range, and what is left begins at the next place
   record Followed (next c : ℕ) : Type 0 where
@@ -41,29 +52,16 @@ module _ (s : List ℕ) (at low high : ℕ) where
     pub to : 0x80 + c ≤ high
     pub reads : follower low high (drop at s) ≡ found c (drop next s)
 
-  followed : 0x80 ≤ low → (next c : ℕ) → next ≡ at + 1 → Bits.Six c ≡ bits_of (follower low high (drop at s)) → Followed next c
+  followed : 0x80 ≤ low → (next c : ℕ) → next ≡ at + 1 → Some c ≡ bits_of (follower low high (drop at s)) → Followed next c
   followed h next c n e = go (follower low high (drop at s)) refl (follows low high h (drop at s)) e
     where
-      go : (x : Found ℕ) → follower low high (drop at s) ≡ x → Finds (Follows low high (drop at s)) x → Bits.Six c ≡ bits_of x → Followed next c
+      go : (x : Found ℕ) → follower low high (drop at s) ≡ x → Finds (Follows low high (drop at s)) x → Some c ≡ bits_of x → Followed next c
       go (found d left) q f e =
           let k : c ≡ d = cc in
           let i = front_inside s at (0x80 + d) left f.front in
           let l : left ≡ drop (at + 1) s = front_behind s at (0x80 + d) left f.front in
           record { inside = omega arith; from = omega arith; to = omega arith; reads = rw (k, n, ← l) q }
       go (fault m left) q f e = let z : ◌≡◌ {A = ℕ} 0 1 = cc in absurd (omega arith)
-
-  -- none were found
-  record Missed : Type 0 where
-    pub number : ℕ
-    pub left : List ℕ
-    pub reads : follower low high (drop at s) ≡ fault number left
-
-  missed : Bits.Wrong ≡ bits_of (follower low high (drop at s)) → Missed
-  missed e = go (follower low high (drop at s)) refl e
-    where
-      go : (x : Found ℕ) → follower low high (drop at s) ≡ x → Bits.Wrong ≡ bits_of x → Missed
-      go (found d left) q e = let z : ◌≡◌ {A = ℕ} 0 1 = cc in absurd (omega arith)
-      go (fault m left) q e = record { number = m; left = left; reads = q }
 
 -- ---- a step, by the row of its first byte
 
@@ -85,17 +83,6 @@ pub step_from_lem : (s : List ℕ) {at : ℕ} {cursor : Cursor} → cursor ≡ r
 step_from_lem s n e = e ∙ ap (λ (k : Cursor). step_at s k.at) n
 
 -- ---- a step over several bytes: six bits of each byte that follows are gathered behind those of the first
-
--- so many bytes more, behind a value so far
-abbrev gather : ℕ → ℕ → List ℕ → Found ℕ
-gather zero v left = found v left
-gather (suc more) v left = and_then (follower 0x80 0xBF left) (λ c rest. gather more (v * 64 + c) rest)
-
--- the step goes on with the byte at a place, due from low to high, and with so many more behind it
-pub record Awaits (s : List ℕ) (at place low high more v : ℕ) : Type 0 where
-  pub from : 0x80 ≤ low
-  pub to : high ≤ 0xBF
-  pub step : step_at s at ≡ step_of s (and_then (follower low high (drop place s)) (λ c left. gather more (v * 64 + c) left))
 
 module _ (s : List ℕ) (at : ℕ) (h : at < length s) where
   pub awaits_two : row_of (get_or s at 0) ≡ two → Awaits s at (at + 1) 0x80 0xBF 0 (get_or s at 0 - 0xC0)
@@ -119,27 +106,25 @@ module _ (s : List ℕ) (at : ℕ) (h : at < length s) where
         step = step_here s at h ∙ rw (scalar_four (get_or s at 0) (drop (at + 1) s) low high row);
       }
 
-module _ {s : List ℕ} {at place low high more v : ℕ} (so_far : Awaits s at place low high more v) {x : Bits}
-    (said : x ≡ bits_of (follower low high (drop place s))) where
-  pub broken : x ≡ Bits.Wrong → Step.Broken ≡ step_at s at
-  broken e = let none = missed s place low high (sym e ∙ said) in rw (so_far.step, none.reads)
+-- the step goes on at a place, with so many bytes due yet behind a value so far
+pub record Gathered (s : List ℕ) (at place more v : ℕ) : Type 0 where
+  pub inside : place ≤ length s
+  pub step : step_at s at ≡ step_of s (gather more v (drop place s))
 
+module _ {s : List ℕ} {at place low high more v : ℕ} (so_far : Awaits s at place low high more v) {x : Option ℕ}
+    (said : x ≡ bits_of (follower low high (drop place s))) {c : ℕ} (e : x ≡ Some c) where
   -- the byte that is due is there, and has the bits c
-  module _ {c : ℕ} (e : x ≡ Bits.Six c) where
-    there : Followed s place low high (place + 1) c
-    there = followed s place low high so_far.from (place + 1) c refl (sym e ∙ said)
+  there : Followed s place low high (place + 1) c
+  there = followed s place low high so_far.from (place + 1) c refl (sym e ∙ said)
 
-    pub six : c ≤ 63
-    six = let f = there in omega (arith, so_far.to)
+  pub six : c ≤ 63
+  six = let f = there in omega (arith, so_far.to)
 
-    onward : (next : ℕ) → next ≡ place + 1 → step_at s at ≡ step_of s (gather more (v * 64 + c) (drop next s))
-    onward next n = so_far.step ∙ rw (there.reads, ← n)
+  pub gathers : {next : ℕ} → next ≡ place + 1 → Gathered s at next more (v * 64 + c)
+  gathers n = record { inside = omega (arith, there.inside); step = so_far.step ∙ rw (there.reads, ← n) }
 
-    pub goes_on : {next : ℕ} → next ≡ place + 1 → (fewer : ℕ) → more ≡ suc fewer → Awaits s at next 0x80 0xBF fewer (v * 64 + c)
-    goes_on {next} n fewer m = record { from = omega arith; to = omega arith; step = onward next n ∙ rw m }
-
-    pub is_whole : {next : ℕ} → next ≡ place + 1 → more ≡ 0 → {cursor : Cursor} → cursor ≡ record { at = next } → Step.Scalar (v * 64 + c) cursor ≡ step_at s at
-    is_whole {next} n m q = let i : next ≤ length s = omega (arith, there.inside) in rw q (sym (onward next n ∙ rw (m, place_back s next i)))
+pub goes_on : {s : List ℕ} {at place more v : ℕ} → Gathered s at place more v → (fewer : ℕ) → more ≡ suc fewer → Awaits s at place 0x80 0xBF fewer v
+goes_on so_far fewer m = record { from = omega arith; to = omega arith; step = so_far.step ∙ rw m }
 
 -- ---- what each answer of a step says of the place
 

@@ -3,17 +3,17 @@
 use Prim.Native.Nat.{ℕ, zero, suc, ◌+◌, ◌-◌, ◌≤◌, ◌<◌}
 use mathlib.Core.Path.{◌≡◌, refl, sym, ap, ◌∙◌}
 use mathlib.Core.List.{List, [], ◌∷◌}
-use mathlib.Core.Bool.{Bool, true, false}
+use mathlib.Core.Bool.{Bool, true, false, ◌&&◌}
 use native.Mathlib.Omega.{arith}
 use native.Mathlib.Nat.{add-zero, zero-add}
 use lib.ListN.{length, get_or, take, drop, drop_of_length-le}
 use lib.Seq.{drop-drop}
 use lib.Dec.{eqb}
-use borrow.Author.Tests.{ne_eqb, eqb-true}
-use Rattle.paper.proofs.Tests.{split, true_false, either}
-use Rattle.paper.specs.Bytes.{lf, cr, tab, space, is_blank, is_line_end, length_in, front, behind}
-use Rattle.text.specs.declared.runs.Class.{Class}
-use Rattle.text.specs.Runs.{in_class, Skips}
+use borrow.Author.Tests.{eqb-true}
+use Rattle.paper.proofs.Tests.{split, true_false, either, up_to}
+use Rattle.paper.specs.Reading.{is_tab}
+use Rattle.paper.specs.Bytes.{tab, space, is_blank, is_line_end, length_in, front, behind}
+use Rattle.text.specs.Runs.{is_text, Skips, AllFrom}
 use Rattle.text.proofs.Places.{here}
 
 module _ (class : ℕ → Bool) (s : List ℕ) (i : ℕ) where
@@ -101,37 +101,59 @@ module _ (some class : ℕ → Bool) (are : (b : ℕ) → some b ≡ true → cl
       (run.1, run.2, omega (arith, run.0, length_on (drop at s), ap (length_in class) (behind_at some s at end run)))
 
 -- blanks are text, tabs among them
-pub blank_text : (b : ℕ) → is_blank b ≡ true → in_class Class.Text b ≡ true
+pub blank_text : (b : ℕ) → is_blank b ≡ true → is_text b ≡ true
 unfolding is_blank is_line_end
 blank_text b e = either (eqb b space) (eqb b tab) e (λ f. rw (eqb-true b space f)) (λ f. rw (eqb-true b tab f))
 
-pub tab_text : (b : ℕ) → in_class Class.Tab b ≡ true → in_class Class.Text b ≡ true
+pub tab_text : (b : ℕ) → is_tab b ≡ true → is_text b ≡ true
 unfolding is_line_end
 tab_text b e = rw (eqb-true b tab e)
 
--- so many bytes from a place on, looked at one by one: where no other was seen, all so far are of the class
-pub record Looked (class : ℕ → Bool) (s : List ℕ) (at many : ℕ) (all : Bool) (i : ℕ) : Type 0 where
-  pub few : i ≤ many
-  pub skips : all ≡ true → Skips class s at (at + i)
+-- two tests that both hold
+pub both : (a b : Bool) → (a && b) ≡ true → (a ≡ true) × (b ≡ true)
+both true b e = (refl, e)
+both false b e = true_false (sym e)
 
-pub looked_none : (class : ℕ → Bool) (s : List ℕ) (at many : ℕ) → at ≤ length s → Looked class s at many true 0
-looked_none class s at many h = record { few = omega arith; skips = λ e. skips_none class s at h }
+-- ---- places of a kind, from one to another
 
-module _ {class : ℕ → Bool} {s : List ℕ} {at many : ℕ} {all : Bool} {i : ℕ} (so_far : Looked class s at many all i) where
-  pub looked_other : i < many → (next : Bool) → next ≡ false → Looked class s at many next (i + 1)
-  looked_other h next f = record { few = omega arith; skips = λ e. true_false (sym e ∙ f) }
+module _ {kind : ℕ → Type 0} where
+  pub all_none : {at end : ℕ} → end ≡ at → AllFrom kind at end
+  all_none e = record { ahead = omega arith; each = λ i l h. absurd (omega arith) }
 
-  pub looked_one : i < many → at + many ≤ length s → class (get_or s (at + i) 0) ≡ true → (next : Bool) → next ≡ all → Looked class s at many next (i + 1)
-  looked_one h k b next f = record { few = omega arith; skips = λ e. skips_on class s at i (omega arith) b (so_far.skips (sym f ∙ e)) }
+  -- one place further
+  pub all_on : {at i next : ℕ} → next ≡ i + 1 → AllFrom kind at i → kind i → AllFrom kind at next
+  all_on {at} {i} e so_far here = record {
+    ahead = omega (arith, so_far.ahead);
+    each = λ k l h. up_to i k (λ m. let q : k ≡ i = omega arith in rw q here) (λ m. so_far.each k l m);
+  }
 
-  pub looked_all : many ≤ i → all ≡ true → Skips class s at (at + many)
-  looked_all h e = let end : i ≡ many = omega (arith, so_far.few) in rw end at (so_far.skips e)
+  -- one stretch after another
+  pub all_then : {at i next : ℕ} → AllFrom kind at i → AllFrom kind i next → AllFrom kind at next
+  all_then {at} {i} f g = record { ahead = omega (arith, f.ahead, g.ahead); each = λ k l h. up_to i k (λ m. g.each k m h) (λ m. f.each k l m) }
 
--- a byte above every line end is text
-pub text_above : (b : ℕ) → cr < b → in_class Class.Text b ≡ true
-unfolding is_line_end
-text_above b h = rw (ne_eqb b lf (omega arith), ne_eqb b cr (omega arith))
+-- what holds at a place, and behind each place of the kind where it holds there, holds behind all of them
+module _ (P : ℕ → Type 0) {kind : ℕ → Type 0} {at end : ℕ} (all : AllFrom kind at end)
+    (on : (i : ℕ) → at ≤ i → i < end → kind i → P i → P (i + 1)) where
+  over_many : (n i : ℕ) → i ≡ at + n → i ≤ end → P at → P i
+  over_many zero i e h p = let z : i ≡ at = omega arith in rw z p
+  over_many (suc n) i e h p =
+      let last : i ≡ at + n + 1 = omega arith in
+      let l : at ≤ at + n = omega arith in
+      let m : at + n < end = omega arith in
+      rw last (on (at + n) l m (all.each (at + n) l m) (over_many n (at + n) refl (omega arith) p))
 
--- the run of a class that is known
-pub class_end : (class known : Class) (s : List ℕ) (at end : ℕ) → class ≡ known → Stretch (in_class known) s at end → Stretch (in_class class) s at end
-class_end class known s at end e run = rw e run
+  pub all_over : P at → P end
+  all_over p = over_many (end - at) end (omega (arith, all.ahead)) (omega arith) p
+
+module _ (class : ℕ → Bool) (s : List ℕ) {at end : ℕ} where
+  -- places of a class are passed
+  pub skips_all : AllFrom (λ i. class (get_or s i 0) ≡ true) at end → end ≤ length s → Skips class s at end
+  skips_all all h =
+      all_over (λ i. Skips class s at i) all (λ i l m e so_far. run_on class s at i so_far (omega arith) e) (omega arith, omega (arith, all.ahead), refl)
+
+  -- and end at a place of no such class, or with the list
+  pub stretch_from : at ≤ end → ((i : ℕ) → at ≤ i → i < end → class (get_or s i 0) ≡ true) → end ≤ length s
+      → (end < length s → class (get_or s end 0) ≡ false) → Stretch class s at end
+  stretch_from ahead each h other =
+      let skips = skips_all (record { ahead = ahead; each = each }) h in
+      up_to (length s) end (λ l. run_over class s at end skips l) (λ l. run_stops class s at end skips l (other l))

@@ -9,45 +9,45 @@ ghost use Rattle.paper.specs.Values.{hex_digit};
 pub fn is_within(low: u8, high: u8, b: u8) -> bool
     ensures { result ≡ within low high b }
 {
-    low <= b && b <= high
+    (low..=high).contains(&b)
 }
 
 pub fn is_upper(b: u8) -> bool
     ensures { result ≡ is_upper b }
 {
-    is_within(b'A', b'Z', b)
+    b.is_ascii_uppercase()
 }
 
 pub fn is_lower(b: u8) -> bool
     ensures { result ≡ is_lower b }
 {
-    is_within(b'a', b'z', b)
+    b.is_ascii_lowercase()
 }
 
 pub fn is_digit(b: u8) -> bool
     ensures { result ≡ is_digit b }
 {
-    is_within(b'0', b'9', b)
+    b.is_ascii_digit()
 }
 
 pub fn is_letter(b: u8) -> bool
     ensures { result ≡ is_letter b }
 {
-    is_upper(b) || is_lower(b)
+    b.is_ascii_alphabetic()
 }
 
 // Whether names are made of the byte: a letter or a digit.
 pub fn is_name_byte(b: u8) -> bool
     ensures { result ≡ is_name_byte b }
 {
-    is_letter(b) || is_digit(b)
+    b.is_ascii_alphanumeric()
 }
 
 // Whether the byte is a hex digit, in either case.
 pub fn is_hex(b: u8) -> bool
     ensures { result ≡ is_hex b }
 {
-    is_digit(b) || is_within(b'A', b'F', b) || is_within(b'a', b'f', b)
+    b.is_ascii_hexdigit()
 }
 
 // The number that a hex digit spells, in either case.
@@ -55,10 +55,12 @@ pub fn hex_digit(b: u8) -> u8
     requires { is_hex b ≡ true }
     ensures { (result ≡ hex_digit b) × (result < 16) }
 {
-    match b {
-        b'0'..=b'9' => b - b'0',
-        b'A'..=b'F' => b - b'A' + 10,
-        _ => b - b'a' + 10,
+    if is_digit(b) {
+        b - b'0'
+    } else if is_upper(b) {
+        b - b'A' + 10
+    } else {
+        b - b'a' + 10
     }
 }
 
@@ -87,14 +89,7 @@ pub fn is_white(b: u8) -> bool
 pub fn is_one_of(b: u8, these: &[u8]) -> bool
     ensures { result ≡ elem b these.now }
 {
-    let mut i = 0;
-    while i < these.len() {
-        if b == these[i] {
-            return true;
-        }
-        i += 1;
-    }
-    false
+    these.contains(&b)
 }
 
 // Whether the scheme of an IRI is made of the byte.

@@ -9,13 +9,6 @@ pub struct Nesting {
     pub left: usize,
 }
 
-// One level deeper, or no further.
-#[derive(Clone, Copy)]
-pub enum Deeper {
-    Inside(Nesting),
-    TooDeep,
-}
-
 impl Nesting {
     pub const CONCEPTS: usize = 32;
 
@@ -28,14 +21,11 @@ impl Nesting {
         Nesting { left: limit }
     }
 
-    // One is opened.
-    pub fn step(self) -> Deeper
+    // One is opened, if one may be.
+    pub fn step(self) -> Option<Nesting>
         ensures { result ≡ one_deeper self.left }
     {
-        let left = self.left;
-        if left == 0 {
-            return Deeper::TooDeep;
-        }
-        Deeper::Inside(Nesting { left: left - 1 })
+        let left = self.left.checked_sub(1)?;
+        Some(Nesting { left })
     }
 }

@@ -4,41 +4,20 @@ ghost use Rattle.std.specs.Prelude.{◌≡◌, not, ◌+◌, ◌≤◌, length, 
 ghost use Rattle.paper.specs.Bytes.{elem, length_in, same, starts_with};
 
 use crate::classes::is_one_of;
+use crate::runs::skip;
 
-// Are a and b the same bytes? They are compared from their ends, where names mostly differ.
+// Are a and b the same bytes?
 pub fn same(a: &[u8], b: &[u8]) -> bool
     ensures { result ≡ same a.now b.now }
 {
-    if a.len() != b.len() {
-        return false;
-    }
-    let mut i = a.len();
-    while 0 < i {
-        i -= 1;
-        if a[i] != b[i] {
-            return false;
-        }
-    }
-    true
+    a.len() == b.len() && a.iter().rev().zip(b.iter().rev()).all(|(x, y)| x == y)
 }
 
 // Do the bytes of part stand in s from at on? Past the end only an empty part does.
 pub fn starts_with(s: &[u8], at: usize, part: &[u8]) -> bool
     ensures { result ≡ starts_with part.now (drop at s.now) }
 {
-    let mut place = at;
-    let mut i = 0;
-    while i < part.len() {
-        if s.len() <= place {
-            return false;
-        }
-        if s[place] != part[i] {
-            return false;
-        }
-        place += 1;
-        i += 1;
-    }
-    true
+    s[at.min(s.len())..].starts_with(part)
 }
 
 // Where one of these bytes first stands from `at` on, or the end of s where none does.
@@ -47,12 +26,5 @@ pub fn find(s: &[u8], at: usize, these: &[u8]) -> usize
     ensures { (result ≡ at + length_in (λ b. not (elem b these.now)) (drop at s.now))
         × (at ≤ result) × (result ≤ length s.now) }
 {
-    let mut i = at;
-    while i < s.len() {
-        if is_one_of(s[i], these) {
-            return i;
-        }
-        i += 1;
-    }
-    i
+    skip(at, s.len(), |i| !is_one_of(s[i], these))
 }

@@ -1,164 +1,166 @@
 // Runs of bytes of one class: where such a run ends.
 // Document 01, "The grammar", Names, Lines, Markers and Values.
-ghost use Rattle.std.specs.Prelude.{◌≡◌, true, ◌+◌, ◌≤◌, length, drop};
-ghost use Rattle.paper.specs.Bytes.{length_in};
-ghost use Rattle.text.specs.Runs.{in_class, Skips};
+ghost use Rattle.std.specs.Prelude.{◌≡◌, true, false, ℕ, Bool, ◌||◌, ◌+◌, ◌≤◌, ◌<◌, length, drop};
+ghost use Rattle.paper.specs.Bytes.{bytes, elem, length_in, is_name_byte, is_blank, is_white, is_digit, is_hex};
+ghost use Rattle.paper.specs.Reading.{is_tab};
+ghost use Rattle.text.specs.Runs.{is_scheme_byte, is_text, AllFrom};
 
 use crate::classes;
 
-// What a run is made of: letters and digits, spaces and tabs, tabs, white space, digits, hex digits, what an IRI's
-// scheme is made of, or what is no line end.
-#[derive(Clone, Copy)]
-pub enum Class {
-    Name,
-    Blank,
-    Tab,
-    White,
-    Digit,
-    Hex,
-    Scheme,
-    Text,
+// A class of bytes that runs are made of.
+pub trait Class {
+    ghost takes: { ℕ → Bool };
+
+    // Whether the byte is of the class.
+    fn is_in(b: u8) -> bool
+        ensures { result ≡ takes b };
 }
 
-// Whether the byte is of the class.
-fn is_in(class: Class, b: u8) -> bool
-    ensures { result ≡ in_class class b }
-{
-    match class {
-        Class::Name => classes::is_name_byte(b),
-        Class::Blank => classes::is_blank(b),
-        Class::Tab => b == b'\t',
-        Class::White => classes::is_white(b),
-        Class::Digit => classes::is_digit(b),
-        Class::Hex => classes::is_hex(b),
-        Class::Scheme => classes::is_scheme_byte(b),
-        Class::Text => !classes::is_line_end(b),
+// Letters and digits.
+pub struct Name;
+
+impl Class for Name {
+    ghost takes = { is_name_byte };
+
+    fn is_in(b: u8) -> bool {
+        classes::is_name_byte(b)
     }
 }
 
-// Where the run of bytes of the class that stands at `at` ends.
-pub fn end(s: &[u8], at: usize, class: Class) -> usize
+// Spaces and tabs.
+pub struct Blank;
+
+impl Class for Blank {
+    ghost takes = { is_blank };
+
+    fn is_in(b: u8) -> bool {
+        classes::is_blank(b)
+    }
+}
+
+// Spaces, tabs and line ends.
+pub struct White;
+
+impl Class for White {
+    ghost takes = { is_white };
+
+    fn is_in(b: u8) -> bool {
+        classes::is_white(b)
+    }
+}
+
+pub struct Digit;
+
+impl Class for Digit {
+    ghost takes = { is_digit };
+
+    fn is_in(b: u8) -> bool {
+        classes::is_digit(b)
+    }
+}
+
+// Hex digits, in either case.
+pub struct Hex;
+
+impl Class for Hex {
+    ghost takes = { is_hex };
+
+    fn is_in(b: u8) -> bool {
+        classes::is_hex(b)
+    }
+}
+
+// What the scheme of an IRI is made of.
+pub struct Scheme;
+
+impl Class for Scheme {
+    ghost takes = { is_scheme_byte };
+
+    fn is_in(b: u8) -> bool {
+        classes::is_scheme_byte(b)
+    }
+}
+
+// Where the run of bytes of a class that stands at `at` ends.
+pub fn end<C: Class>(s: &[u8], at: usize) -> usize
     requires { at ≤ length s.now }
-    ensures { (result ≡ at + length_in (in_class class) (drop at s.now)) × (at ≤ result) × (result ≤ length s.now) }
+    ensures { (result ≡ at + length_in C.takes (drop at s.now)) × (at ≤ result) × (result ≤ length s.now) }
 {
-    match class {
-        Class::Tab => tab_end(s, at),
-        Class::Text => text_end(s, at),
-        _ => end_from(s, at, class),
-    }
-}
-
-// The same, byte by byte.
-fn end_from(s: &[u8], at: usize, class: Class) -> usize
-    requires { at ≤ length s.now }
-    ensures { (result ≡ at + length_in (in_class class) (drop at s.now)) × (at ≤ result) × (result ≤ length s.now) }
-{
-    let mut i = at;
-    while i < s.len() {
-        if !is_in(class, s[i]) {
-            return i;
-        }
-        i += 1;
-    }
-    i
+    skip(at, s.len(), |i| C::is_in(s[i]))
 }
 
 // Where the tabs that stand at `at` end.
 pub fn tab_end(s: &[u8], at: usize) -> usize
     requires { at ≤ length s.now }
-    ensures { (result ≡ at + length_in (in_class Class.Tab) (drop at s.now)) × (at ≤ result) × (result ≤ length s.now) }
+    ensures { (result ≡ at + length_in is_tab (drop at s.now)) × (at ≤ result) × (result ≤ length s.now) }
 {
-    let mut i = skip_tabs(s, at);
-    while i < s.len() {
-        if s[i] != b'\t' {
-            return i;
-        }
-        i += 1;
-    }
-    i
-}
-
-// Where the white space that stands at `at` ends.
-pub fn white_end(s: &[u8], at: usize) -> usize
-    requires { at ≤ length s.now }
-    ensures { (result ≡ at + length_in (in_class Class.White) (drop at s.now)) × (at ≤ result) × (result ≤ length s.now) }
-{
-    end_from(s, at, Class::White)
+    skip_by::<8, _>(at, s.len(), |i| s[i] == b'\t')
 }
 
 // Where the text that stands at `at` ends: at a line end, or with the input.
 pub fn text_end(s: &[u8], at: usize) -> usize
     requires { at ≤ length s.now }
-    ensures { (result ≡ at + length_in (in_class Class.Text) (drop at s.now)) × (at ≤ result) × (result ≤ length s.now) }
+    ensures { (result ≡ at + length_in is_text (drop at s.now)) × (at ≤ result) × (result ≤ length s.now) }
 {
-    let mut i = skip_text(s, at);
-    while i < s.len() {
-        if classes::is_line_end(s[i]) {
-            return i;
-        }
-        i += 1;
-    }
-    i
+    skip_by::<8, _>(at, s.len(), |i| !classes::is_line_end(s[i]))
 }
 
-// Past tabs at `at`, eight at a time.
-fn skip_tabs(s: &[u8], at: usize) -> usize
-    requires { at ≤ length s.now }
-    ensures { Skips (in_class Class.Tab) s.now at result }
+// Past the places from `at` on that a test takes, by blocks of N and then one by one.
+pub fn skip_by<const N: usize, F: Fn(usize) -> bool>(at: usize, end: usize, takes: F) -> usize
+    requires block { 0 < N }
+    requires ahead { at ≤ end }
+    requires callable { (i : ℕ) → at ≤ i → i < end → F.pre takes i }
+    ensures taken { AllFrom (λ i. F.post takes i true) at result }
+    ensures inside { result ≤ end }
+    ensures other { result < end → F.post takes result false }
+{
+    let i = skip_blocks::<N, &F>(at, end, &takes);
+    skip(i, end, takes)
+}
+
+// Past the places from `at` on that a test takes, one by one.
+pub fn skip<F: Fn(usize) -> bool>(at: usize, end: usize, takes: F) -> usize
+    requires ahead { at ≤ end }
+    requires callable { (i : ℕ) → at ≤ i → i < end → F.pre takes i }
+    ensures taken { AllFrom (λ i. F.post takes i true) at result }
+    ensures inside { result ≤ end }
+    ensures other { result < end → F.post takes result false }
+{
+    for i in at..end {
+        if !takes(i) {
+            return i;
+        }
+    }
+    end
+}
+
+// Past blocks of N places from `at` on, of which a test takes all.
+pub fn skip_blocks<const N: usize, F: Fn(usize) -> bool>(at: usize, end: usize, takes: F) -> usize
+    requires block { 0 < N }
+    requires ahead { at ≤ end }
+    requires callable { (i : ℕ) → at ≤ i → i < end → F.pre takes i }
+    ensures taken { AllFrom (λ i. F.post takes i true) at result }
+    ensures inside { result ≤ end }
 {
     let mut i = at;
-    while 8 <= s.len() - i {
-        if !are_tabs(s, i) {
+    while N <= end - i {
+        if !takes_block::<N, F>(i, &takes) {
             return i;
         }
-        i += 8;
+        i += N;
     }
     i
 }
 
-// Whether the eight bytes at `at` are tabs. With no way out of the loop the compiler compares them all at once.
-fn are_tabs(s: &[u8], at: usize) -> bool
-    requires { at + 8 ≤ length s.now }
-    ensures { result ≡ true → Skips (in_class Class.Tab) s.now at (at + 8) }
+// Whether a test takes all the N places at `at`. With no way out of the loop the compiler looks at them all at once.
+fn takes_block<const N: usize, F: Fn(usize) -> bool>(at: usize, takes: &F) -> bool
+    requires fits { at + N < 18446744073709551616 }
+    requires callable { (i : ℕ) → at ≤ i → i < at + N → F.pre takes.now i }
+    ensures { result ≡ true → AllFrom (λ i. F.post takes.now i true) at (at + N) }
 {
     let mut all = true;
-    let mut i = 0;
-    while i < 8 {
-        if s[at + i] != b'\t' {
-            all = false;
-        }
-        i += 1;
-    }
-    all
-}
-
-// Past bytes at `at` that are no line ends, eight at a time.
-fn skip_text(s: &[u8], at: usize) -> usize
-    requires { at ≤ length s.now }
-    ensures { Skips (in_class Class.Text) s.now at result }
-{
-    let mut i = at;
-    while 8 <= s.len() - i {
-        if !are_text(s, i) {
-            return i;
-        }
-        i += 8;
-    }
-    i
-}
-
-// Whether the eight bytes at `at` are above every line end, and so are text.
-fn are_text(s: &[u8], at: usize) -> bool
-    requires { at + 8 ≤ length s.now }
-    ensures { result ≡ true → Skips (in_class Class.Text) s.now at (at + 8) }
-{
-    let mut all = true;
-    let mut i = 0;
-    while i < 8 {
-        if s[at + i] <= b'\r' {
-            all = false;
-        }
-        i += 1;
+    for i in 0..N {
+        all &= takes(at + i);
     }
     all
 }

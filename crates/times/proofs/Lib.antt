@@ -1,4 +1,5 @@
 -- Laws of times over plain lists.
+pub mod Both
 pub mod Splits
 pub mod Digits
 pub mod Calendar

@@ -1,71 +1,93 @@
--- A list that is parted where one of some bytes first stands: a law for each way out of a function that finds that place.
+-- A list that is parted where one of some bytes first stands: what the paper's definitions say of it by what is in front of that byte and behind it.
 -- Over plain lists, any set and any rules of its parts; 001 §18. Assumes nothing.
-use Prim.Native.Nat.{ℕ, ◌+◌, ◌≤◌, ◌<◌}
-use mathlib.Core.Path.{◌≡◌, refl, ap}
-use mathlib.Core.Bool.{Bool, true, false, ◌&&◌}
-use mathlib.Core.List.{List, [], ◌∷◌}
+use Prim.Native.Nat.{ℕ, ◌<◌}
+use mathlib.Core.Path.{◌≡◌, refl, sym, ap, ◌∙◌}
+use mathlib.Core.Bool.{Bool, true, false, ◌&&◌, ◌||◌, and-true, or-false}
+use mathlib.Core.List.{List, [], ◌∷◌, ◌++◌, append-nil}
 use native.Mathlib.Omega.{arith}
-use lib.ListN.{length, get_or, take, drop}
-use borrow.Author.Tests.{ne_eqb}
-use Rattle.paper.specs.Bytes.{elem, starts_in, up_to, onward, length_in}
+use lib.ListN.{length, length-append}
+use lib.Dec.{eqb}
+use borrow.Author.Tests.{eqb-true, ne_eqb}
+use Rattle.std.specs.List.{list_any}
+use Rattle.paper.specs.Bytes.{elem, length_in, starts_in, up_to, onward}
 use Rattle.paper.specs.Times.{among, parted, perhaps}
-use Rattle.paper.proofs.Lists.{marked}
+use Rattle.paper.proofs.Tests.{split, true_false, either}
+use Rattle.paper.proofs.Lists.{by_front, marked, front_behind}
 use Rattle.paper.proofs.TimeKinds.{has}
-use Rattle.text.proofs.Stretch.{Stretch, behind_none, behind_some}
 use Rattle.paper.proofs.TimeParts.{other}
+use Rattle.times.specs.Parts.{HasNone, IsParted}
 
-module _ (set w : List ℕ) (i : ℕ) (found : Stretch (other set) w 0 i) where
-  -- what stands in front, from the byte on, and behind it
-  pub in_front_lem : up_to (among set) w ≡ take i w
-  in_front_lem = let n : length_in (other set) w ≡ i = omega (arith, found.0) in ap (λ (k : ℕ). take k w) n
+module _ (set w : List ℕ) where
+  -- ---- none of the set stands in the list
 
-  pub none_on : length w ≤ i → onward (among set) w ≡ []
-  none_on h = behind_none (other set) w 0 i found h
+  module _ (none : HasNone set w) where
+    pub has_no : has set w ≡ false
+    unfolding starts_in
+    has_no = rw none
 
-  pub some_on : i < length w → onward (among set) w ≡ get_or w i 0 ∷ drop (i + 1) w
-  some_on h = behind_some (other set) w 0 i found h
+    pub all_in_front : up_to (among set) w ≡ w
+    all_in_front = sym (append-nil (up_to (among set) w)) ∙ rw none at (front_behind (other set) w)
 
-  -- the byte that stands there is one of the set
-  pub one_there : i < length w → elem (get_or w i 0) set ≡ true
-  one_there h = (marked (among set) w _ _ (some_on h)).0
+  -- ---- one does
 
-  pub has_one : i < length w → has set w ≡ true
+  pub by_one : {X : Type 0} → (HasNone set w → X) → (has set w ≡ true → X) → X
   unfolding starts_in
-  has_one h = rw (some_on h) (one_there h)
+  by_one none one = by_front (onward (among set) w) none (λ b l e. one (rw e ((marked (among set) w b l e).0)))
 
-  pub has_no : length w ≤ i → has set w ≡ false
+  pub parted_at : (front : List ℕ) (b : ℕ) (rest : List ℕ) → front ≡ up_to (among set) w → onward (among set) w ≡ b ∷ rest → IsParted set w front rest
   unfolding starts_in
-  has_no h = rw (none_on h)
+  parted_at front b rest f e = record { before = f; mark = rw e ((marked (among set) w b rest e).0); behind = rw e }
 
-module _ (set : List ℕ) (first second : List ℕ → Bool) (w : List ℕ) (i : ℕ) (found : Stretch (other set) w 0 i) where
+  module _ (front rest : List ℕ) (at : IsParted set w front rest) where
+    -- what stands there, and how much is left
+    from_mark : {X : Type 0} → ((b : ℕ) → onward (among set) w ≡ b ∷ rest → X) → X
+    unfolding starts_in
+    from_mark on = by_front (onward (among set) w) (λ e. true_false (sym (rw e at at.mark))) (λ b l e. on b (e ∙ ap (λ (x : List ℕ). b ∷ x) (sym (rw e at at.behind))))
+
+    pub is_shorter : length rest < length w
+    is_shorter = from_mark (λ b e. omega (arith, ap length (front_behind (other set) w), length-append (up_to (among set) w) (onward (among set) w), ap length e))
+
+-- the whole, where the set is one byte
+pub joined : (b : ℕ) (w front rest : List ℕ) → IsParted (b ∷ []) w front rest → w ≡ front ++ (b ∷ rest)
+unfolding elem
+joined b w front rest at =
+    from_mark (b ∷ []) w front rest at (λ c e.
+    let h = marked (among (b ∷ [])) w c rest e in
+    let is : c ≡ b = either (eqb c b) false h.0 (eqb-true c b) (λ z. true_false (sym z)) in
+    h.1 ∙ rw (at.before, is))
+
+-- one stands in the list, as the library says it
+has_next : (set : List ℕ) (c : ℕ) (w : List ℕ) → has set (c ∷ w) ≡ elem c set || has set w
+unfolding length_in starts_in
+has_next set c w = split (elem c set) (λ e. rw (length_in, e) e) (λ e. rw (length_in, e))
+
+pub has_listed : (b : ℕ) (w : List ℕ) → list_any (λ c. eqb c b) w ≡ has (b ∷ []) w
+unfolding elem length_in starts_in
+has_listed b [] = refl
+has_listed b (c ∷ w) = rw (has_next (b ∷ []) c w, ← has_listed b w, or-false (eqb c b))
+
+module _ (set : List ℕ) (first second : List ℕ → Bool) (w : List ℕ) where
   -- ---- First, a byte of the set, Second
 
-  pub parted_none : length w ≤ i → parted set first second w ≡ false
+  pub parted_none : HasNone set w → false ≡ parted set first second w
   unfolding parted starts_in
-  parted_none h = rw (none_on set w i found h) (split_false (first (up_to (among set) w)))
+  parted_none h = rw h (off (first (up_to (among set) w)))
     where
-      split_false : (a : Bool) → a && false && second [] ≡ false
-      split_false true = refl
-      split_false false = refl
+      off : (a : Bool) → false ≡ a && false && second []
+      off true = refl
+      off false = refl
 
-  pub parted_off : first (take i w) ≡ false → parted set first second w ≡ false
+  pub parted_on : (front rest : List ℕ) → IsParted set w front rest → first front && second rest ≡ parted set first second w
   unfolding parted
-  parted_off e = rw (in_front_lem set w i found, e)
-
-  pub parted_on : i < length w → first (take i w) ≡ true → parted set first second w ≡ second (drop (i + 1) w)
-  unfolding parted starts_in
-  parted_on h e = rw (in_front_lem set w i found, e, some_on set w i found h, one_there set w i found h)
+  parted_on front rest at = rw (at.before, at.behind, at.mark, and-true (first (up_to (among set) w)))
 
   -- ---- First, [ a byte of the set, Second ]
 
-  pub perhaps_off : first (take i w) ≡ false → perhaps set first second w ≡ false
+  pub perhaps_only : HasNone set w → first w ≡ perhaps set first second w
   unfolding perhaps
-  perhaps_off e = rw (in_front_lem set w i found, e)
+  perhaps_only h = rw (all_in_front set w h, h, and-true (first w))
 
-  pub perhaps_only : length w ≤ i → first (take i w) ≡ true → perhaps set first second w ≡ true
+  pub perhaps_on : (front rest : List ℕ) → IsParted set w front rest → first front && second rest ≡ perhaps set first second w
   unfolding perhaps
-  perhaps_only h e = rw (in_front_lem set w i found, e, none_on set w i found h)
-
-  pub perhaps_on : i < length w → first (take i w) ≡ true → perhaps set first second w ≡ second (drop (i + 1) w)
-  unfolding perhaps
-  perhaps_on h e = rw (in_front_lem set w i found, e, some_on set w i found h, ne_eqb (length (get_or w i 0 ∷ drop (i + 1) w)) 0 (λ z. omega (arith, z)))
+  perhaps_on front rest at =
+      from_mark set w front rest at (λ b e. rw (← at.before, ← at.behind, e, ne_eqb (length (b ∷ rest)) 0 (λ z. omega (arith, z))))

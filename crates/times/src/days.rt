@@ -8,29 +8,17 @@ pub fn days_of(year: u16, month: u8) -> u8
     ensures { result ≡ days_of year month }
 {
     match month {
-        2 => february(year),
+        2 if is_leap(year) => 29,
+        2 => 28,
         4 | 6 | 9 | 11 => 30,
         1..=12 => 31,
         _ => 0,
     }
 }
 
-// How many days February has in the year.
-fn february(year: u16) -> u8
-    ensures { result ≡ days_of year 2 }
-{
-    if is_leap(year) { 29 } else { 28 }
-}
-
 // Whether the year is a leap year.
 fn is_leap(year: u16) -> bool
     ensures { result ≡ is_leap year }
 {
-    if year % 400 == 0 {
-        return true;
-    }
-    if year % 100 == 0 {
-        return false;
-    }
-    year % 4 == 0
+    (year % 4 == 0 && year % 100 != 0) || year % 400 == 0
 }

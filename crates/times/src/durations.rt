@@ -1,88 +1,58 @@
 // Durations.
 // 001 §18, Duration; document 02, Two: at least one part, and one after "T" if it stands.
-ghost use Rattle.std.specs.Prelude.{◌≡◌, not, ◌+◌, ◌≤◌, length, drop};
-ghost use Rattle.paper.specs.Bytes.{elem, length_in};
-ghost use Rattle.paper.specs.Times.{are_parts, is_span};
-ghost use Rattle.times.specs.Parts.{is_size, letters_of, is_decimals};
+ghost use Rattle.std.specs.Prelude.{◌≡◌, ℕ, Bool, List, length};
+ghost use Rattle.paper.specs.Times.{are_parts, are_date_parts, are_time_parts, is_span};
+ghost use Rattle.times.specs.Parts.{is_decimals, Judges};
 
 use crate::fields::are_digits;
-use text::parts::find;
-
-// The stretch of a duration that a part stands in: before "T", or behind it.
-#[derive(Clone, Copy)]
-pub enum Stretch {
-    Date,
-    Time,
-}
+use crate::parted::{parted, perhaps, split_once};
 
 // Whether the bytes are what stands behind the "P" of a duration.
 pub fn is_span(w: &[u8]) -> bool
     ensures { result ≡ is_span w.now }
 {
-    let t = find(w, 0, b"T");
-    let dated = are_parts(&w[..t], Stretch::Date);
-    let time = t + 1;
-    if w.len() < time {
-        return dated;
-    }
-    if t != 0 && !dated {
-        return false;
-    }
-    are_parts(&w[time..], Stretch::Time)
+    are_date_parts(w)
+        || parted(
+            w,
+            b"T",
+            |date| date.is_empty() || are_date_parts(date),
+            are_time_parts,
+        )
 }
 
-// Whether the bytes are parts of the stretch, one at least.
-fn are_parts(w: &[u8], stretch: Stretch) -> bool
-    ensures { result ≡ are_parts (is_size stretch) (letters_of stretch) (length w.now) w.now }
+fn are_date_parts(w: &[u8]) -> bool
+    ensures { result ≡ are_date_parts w.now }
 {
-    let mut i = 0;
-    loop {
-        let letter = letter_at(w, i, stretch);
-        if letter == w.len() {
+    are_parts(w, b"YMWD", are_digits)
+}
+
+fn are_time_parts(w: &[u8]) -> bool
+    ensures { result ≡ are_time_parts w.now }
+{
+    are_parts(w, b"HMS", are_decimals)
+}
+
+// Whether the bytes are parts, one at least: a size, and one of the letters behind it.
+fn are_parts<F: Fn(&[u8]) -> bool>(w: &[u8], letters: &[u8], is_size: F) -> bool
+    requires { F.IsAlwaysCallable is_size }
+    ensures { (size : List ℕ → Bool) → Judges F.Fn is_size size → result ≡ are_parts size letters.now (length w.now) w.now }
+{
+    let mut left = w;
+    while let Some((size, rest)) = split_once(left, letters) {
+        if !is_size(size) {
             return false;
         }
-        if !is_size(&w[i..letter], stretch) {
-            return false;
-        }
-        i = letter + 1;
-        if i == w.len() {
+        if rest.is_empty() {
             return true;
         }
+        left = rest;
     }
-}
-
-// Where the first letter of the stretch stands, from `at` on.
-fn letter_at(w: &[u8], at: usize, stretch: Stretch) -> usize
-    requires { at ≤ length w.now }
-    ensures { (result ≡ at + length_in (λ b. not (elem b (letters_of stretch))) (drop at w.now)) × (at ≤ result) × (result ≤ length w.now) }
-{
-    match stretch {
-        Stretch::Date => find(w, at, b"YMWD"),
-        Stretch::Time => find(w, at, b"HMS"),
-    }
-}
-
-// Whether the bytes are digits, or digits with a fraction, which stands only behind "T".
-fn is_size(w: &[u8], stretch: Stretch) -> bool
-    ensures { result ≡ is_size stretch w.now }
-{
-    match stretch {
-        Stretch::Date => are_digits(w),
-        Stretch::Time => are_decimals(w),
-    }
+    false
 }
 
 // Whether the bytes are digits, and perhaps "." and digits.
 fn are_decimals(w: &[u8]) -> bool
     ensures { result ≡ is_decimals w.now }
 {
-    let point = find(w, 0, b".");
-    if !are_digits(&w[..point]) {
-        return false;
-    }
-    if point == w.len() {
-        return true;
-    }
-    let fraction = point + 1;
-    are_digits(&w[fraction..])
+    perhaps(w, b".", are_digits, are_digits)
 }

@@ -1,41 +1,43 @@
 // Fields of digits: years, and the one rule of all fields of two digits.
 // Document 02, Two: "One rule for two-digit fields serves all of them".
-ghost use Rattle.std.specs.Prelude.{◌≡◌, true, ◌≤◌};
-ghost use Rattle.paper.specs.Bytes.{are_digits};
-ghost use Rattle.paper.specs.Times.{digits, number, two_digits, is_month, is_hour, is_sixtieth};
+ghost use Rattle.std.specs.Prelude.{◌≡◌, ℕ, Bool, true, false, ◌&&◌, MatchOption};
+ghost use Rattle.paper.specs.Bytes.{are_digits, all, starts_in};
+ghost use Rattle.paper.specs.Times.{digits, number, two_digits, is_year, is_month, is_hour, is_sixtieth};
+ghost use Rattle.times.specs.Parts.{JudgesByte};
 
-use text::classes::is_within;
-use text::runs;
-use text::runs::Class;
+use text::classes::{is_digit, is_within};
 
 // Whether all bytes are digits, of which there is one at least.
 pub fn are_digits(w: &[u8]) -> bool
     ensures { result ≡ are_digits w.now }
 {
-    if w.len() == 0 {
-        return false;
-    }
-    runs::end(w, 0, Class::Digit) == w.len()
+    are_some(w, is_digit)
 }
 
-// Whether the bytes are so many digits.
-pub fn has_digits(w: &[u8], size: usize) -> bool
-    ensures { result ≡ digits size w.now }
+// Whether all bytes are of the class, of which there is one at least. It is a loop, since the library's `all` takes more for each byte.
+pub fn are_some<F: Fn(u8) -> bool>(w: &[u8], class: F) -> bool
+    requires { F.IsAlwaysCallable class }
+    ensures { (p : ℕ → Bool) → JudgesByte F.Fn class p → result ≡ (starts_in p w.now && all p w.now) }
 {
-    if w.len() != size {
-        return false;
+    for b in w {
+        if !class(*b) {
+            return false;
+        }
     }
-    runs::end(w, 0, Class::Digit) == size
+    !w.is_empty()
 }
 
 // Whether the bytes are two digits whose number lies from `low` to `high`.
 pub fn two_digits(w: &[u8], low: u8, high: u8) -> bool
     ensures { result ≡ two_digits low high w.now }
 {
-    if !has_digits(w, 2) {
-        return false;
-    }
-    is_within(low, high, pair(w))
+    pair(w).is_some_and(|n| is_within(low, high, n))
+}
+
+pub fn is_year(w: &[u8]) -> bool
+    ensures { result ≡ is_year w.now }
+{
+    year(w).is_some()
 }
 
 pub fn is_month(w: &[u8]) -> bool
@@ -57,18 +59,20 @@ pub fn is_sixtieth(w: &[u8]) -> bool
     two_digits(w, 0, 59)
 }
 
-// The number of two digits.
-pub fn pair(w: &[u8]) -> u8
-    requires { digits 2 w.now ≡ true }
-    ensures { (result ≡ number w.now) × (result ≤ 99) }
+// The number of two digits; none where the bytes are not just two digits.
+pub fn pair(w: &[u8]) -> Option<u8>
+    ensures { MatchOption result (digits 2 w.now ≡ false) (λ n. (digits 2 w.now ≡ true) × (n ≡ number w.now)) }
 {
-    10 * (w[0] - b'0') + (w[1] - b'0')
+    match w {
+        [a @ b'0'..=b'9', b @ b'0'..=b'9'] => Some(10 * (a - b'0') + (b - b'0')),
+        _ => None,
+    }
 }
 
-// The number of a year's four digits.
-pub fn year(w: &[u8]) -> u16
-    requires { digits 4 w.now ≡ true }
-    ensures { result ≡ number w.now }
+// The number of a year's four digits; none where the bytes are not just four digits.
+pub fn year(w: &[u8]) -> Option<u16>
+    ensures { MatchOption result (is_year w.now ≡ false) (λ n. (is_year w.now ≡ true) × (n ≡ number w.now)) }
 {
-    100 * pair(&w[..2]) as u16 + pair(&w[2..]) as u16
+    let (first, last) = w.split_at_checked(2)?;
+    Some(100 * u16::from(pair(first)?) + u16::from(pair(last)?))
 }

@@ -3,95 +3,91 @@
 ghost use Rattle.std.specs.Prelude.{◌≡◌, true, false, List, ◌∷◌, ◌++◌, ℕ};
 ghost use Rattle.paper.specs.Bytes.{byte, bytes, is_lower, starts_in};
 ghost use Rattle.paper.specs.Times.{among, is_date, time_kind, is_reserved};
-ghost use Rattle.times.specs.Numbers.{number_of, TellsTime};
+ghost use Rattle.times.specs.Numbers.{number_of, number_of_kind, number_or_none, TellsTime};
 
 use crate::dates::{is_date, is_day_of, is_year_month};
 use crate::durations::is_span;
 use crate::moments::{is_time, is_zone};
-use paper::forms::only_if;
-use text::parts::{find, same};
+use crate::parted::{split_before, split_once};
+use text::parts::same;
 
-pub const NONE: u32 = 0;
+// A kind of time, with its number.
+#[derive(Clone, Copy)]
+pub enum Kind {
+    Zoned = 1,
+    Local = 2,
+    Date = 3,
+    YearMonth = 4,
+    MonthDay = 5,
+    Time = 6,
+    Duration = 7,
+    Reserved = 8,
+}
 
-pub const ZONED: u32 = 1;
-
-pub const LOCAL: u32 = 2;
-
-pub const DATE: u32 = 3;
-
-pub const YEAR_MONTH: u32 = 4;
-
-pub const MONTH_DAY: u32 = 5;
-
-pub const TIME: u32 = 6;
-
-pub const DURATION: u32 = 7;
-
-pub const RESERVED: u32 = 8;
+impl Kind {
+    pub fn number(self) -> u32
+        ensures { result ≡ number_of_kind self }
+    {
+        self as u32
+    }
+}
 
 // The kind of time that stands between two braces, or none. The first byte says which kinds can fit at all.
-pub fn kind(w: &[u8]) -> u32
-    ensures { result ≡ number_of (time_kind w.now) }
+pub fn kind_of(w: &[u8]) -> Option<Kind>
+    ensures { number_or_none result ≡ number_of (time_kind w.now) }
 {
-    if w.len() == 0 {
-        return NONE;
-    }
-    match w[0] {
-        b'P' => only_if(is_span(&w[1..]), DURATION),
-        b'a'..=b'z' => only_if(is_reserved(w), RESERVED),
+    match w {
+        [b'P', span @ ..] => is_span(span).then_some(Kind::Duration),
+        [b'a'..=b'z', ..] => is_reserved(w).then_some(Kind::Reserved),
         _ => numbered_kind(w),
     }
 }
 
 // The kind of the value that stands in these bytes with its braces, or none where they are no time.
-pub fn value_kind(v: &[u8]) -> u32
-    ensures { TellsTime v.now result }
+pub fn value_kind(v: &[u8]) -> Option<Kind>
+    ensures { TellsTime v.now (number_or_none result) }
 {
-    if v.len() < 2 {
-        return NONE;
+    match v {
+        [b'{', w @ .., b'}'] => kind_of(w),
+        _ => None,
     }
-    let last = v.len() - 1;
-    if v[0] != b'{' || v[last] != b'}' {
-        return NONE;
-    }
-    kind(&v[1..last])
 }
 
 // The kind where neither "P" nor a small letter stands first: with a "T", with a ":" and no "T", or with neither, by its length.
-fn numbered_kind(w: &[u8]) -> u32
+fn numbered_kind(w: &[u8]) -> Option<Kind>
     ensures { starts_in (among (bytes "P")) w.now ≡ false → starts_in is_lower w.now ≡ false
-        → result ≡ number_of (time_kind w.now) }
+        → number_or_none result ≡ number_of (time_kind w.now) }
 {
-    let t = find(w, 0, b"T");
-    if t < w.len() {
-        if !is_date(&w[..t]) {
-            return NONE;
-        }
-        let time = t + 1;
-        return moment_kind(&w[time..]);
+    if let Some((date, time)) = split_once(w, b"T") {
+        return if is_date(date) {
+            moment_kind(time)
+        } else {
+            None
+        };
     }
-    if find(w, 0, b":") < w.len() {
-        return only_if(is_time(w), TIME);
+    if w.contains(&b':') {
+        return is_time(w).then_some(Kind::Time);
     }
     match w.len() {
-        10 => only_if(is_date(w), DATE),
-        7 => only_if(is_year_month(w), YEAR_MONTH),
-        _ => only_if(is_day_of(w, 0), MONTH_DAY),
+        10 => is_date(w).then_some(Kind::Date),
+        7 => is_year_month(w).then_some(Kind::YearMonth),
+        _ => is_day_of(w, 0).then_some(Kind::MonthDay),
     }
 }
 
-// The kind of any date, "T" and these bytes.
-fn moment_kind(w: &[u8]) -> u32
-    ensures { (d : List ℕ) → is_date d ≡ true → result ≡ number_of (time_kind (d ++ (byte "T" ∷ w.now))) }
+// The kind of any date, "T" and these bytes. Were it made part of its callers, they would keep too much in memory to be fast.
+#[inline(never)]
+fn moment_kind(w: &[u8]) -> Option<Kind>
+    ensures { (d : List ℕ) → is_date d ≡ true → number_or_none result ≡ number_of (time_kind (d ++ (byte "T" ∷ w.now))) }
 {
-    let zone = find(w, 0, b"Z+-");
-    if !is_time(&w[..zone]) {
-        return NONE;
+    let (time, zone) = split_before(w, b"Z+-");
+    if !is_time(time) {
+        None
+    } else if zone.is_empty() {
+        Some(Kind::Local)
+    } else {
+        is_zone(zone).then_some(Kind::Zoned)
     }
-    if zone == w.len() {
-        return LOCAL;
-    }
-    only_if(is_zone(&w[zone..]), ZONED)
 }
 
 // Whether the bytes are one of the two reserved words.

@@ -1,131 +1,71 @@
 // Times of day, and the zones that stand behind them.
 // 001 §18, Time, TimeZoneOffset and TimeZoneId; document 02, Two.
 ghost use Rattle.std.specs.Prelude.{◌≡◌};
-ghost use Rattle.paper.specs.Bytes.{bytes};
-ghost use Rattle.paper.specs.Times.{perhaps, is_time, is_offset, is_zone_byte, is_zone_name, is_zone};
+ghost use Rattle.paper.specs.Times.{is_time, is_offset, is_zone_byte, is_zone_name, is_zone};
 ghost use Rattle.times.specs.Parts.{is_past_hour, is_past_minute, is_hour_minute, are_zone_bytes};
 
-use crate::fields::{are_digits, is_hour, is_sixtieth};
+use crate::fields::{are_digits, are_some, is_hour, is_sixtieth};
+use crate::parted::{parted, perhaps};
 use text::classes;
-use text::parts::{find, same};
+use text::parts::same;
 
 // Whether the bytes are a time of day.
 pub fn is_time(w: &[u8]) -> bool
     ensures { result ≡ is_time w.now }
 {
-    let colon = find(w, 0, b":");
-    if colon == w.len() {
-        return false;
-    }
-    if !is_hour(&w[..colon]) {
-        return false;
-    }
-    let minute = colon + 1;
-    is_past_hour(&w[minute..])
+    parted(w, b":", is_hour, is_past_hour)
 }
 
 // Whether the bytes are a minute, and perhaps ":" and what stands behind it.
 fn is_past_hour(w: &[u8]) -> bool
     ensures { result ≡ is_past_hour w.now }
 {
-    let colon = find(w, 0, b":");
-    if !is_sixtieth(&w[..colon]) {
-        return false;
-    }
-    if colon == w.len() {
-        return true;
-    }
-    let second = colon + 1;
-    is_past_minute(&w[second..])
+    perhaps(w, b":", is_sixtieth, is_past_minute)
 }
 
 // Whether the bytes are a second, and perhaps "." and digits.
 fn is_past_minute(w: &[u8]) -> bool
     ensures { result ≡ is_past_minute w.now }
 {
-    let point = find(w, 0, b".");
-    if !is_sixtieth(&w[..point]) {
-        return false;
-    }
-    if point == w.len() {
-        return true;
-    }
-    let fraction = point + 1;
-    are_digits(&w[fraction..])
+    perhaps(w, b".", is_sixtieth, are_digits)
 }
 
 // Whether the bytes are an offset, and perhaps a zone's name.
 pub fn is_zone(w: &[u8]) -> bool
     ensures { result ≡ is_zone w.now }
 {
-    let bracket = find(w, 0, b"[");
-    if !is_offset(&w[..bracket]) {
-        return false;
-    }
-    if bracket == w.len() {
-        return true;
-    }
-    let name = bracket + 1;
-    is_zone_name(&w[name..])
+    perhaps(w, b"[", is_offset, is_zone_name)
 }
 
 // Whether the bytes are the offset of a zone: "Z", or a sign, an hour and a minute.
 fn is_offset(w: &[u8]) -> bool
     ensures { result ≡ is_offset w.now }
 {
-    if same(w, b"Z") {
-        return true;
+    match w {
+        [b'+' | b'-', rest @ ..] => is_hour_minute(rest),
+        _ => same(w, b"Z"),
     }
-    if w.len() == 0 {
-        return false;
-    }
-    if !classes::is_one_of(w[0], b"+-") {
-        return false;
-    }
-    is_hour_minute(&w[1..])
 }
 
 // Whether the bytes are an hour, ":" and a minute.
 fn is_hour_minute(w: &[u8]) -> bool
     ensures { result ≡ is_hour_minute w.now }
 {
-    let colon = find(w, 0, b":");
-    if colon == w.len() {
-        return false;
-    }
-    if !is_hour(&w[..colon]) {
-        return false;
-    }
-    let minute = colon + 1;
-    is_sixtieth(&w[minute..])
+    parted(w, b":", is_hour, is_sixtieth)
 }
 
 // Whether the bytes are a zone's name and its closing bracket.
 fn is_zone_name(w: &[u8]) -> bool
     ensures { result ≡ is_zone_name w.now }
 {
-    let bracket = find(w, 0, b"]");
-    if bracket == w.len() {
-        return false;
-    }
-    if bracket + 1 != w.len() {
-        return false;
-    }
-    are_zone_bytes(&w[..bracket])
+    parted(w, b"]", are_zone_bytes, |rest| rest.is_empty())
 }
 
 // Whether all bytes may stand in a zone's name, which has one at least.
 fn are_zone_bytes(w: &[u8]) -> bool
     ensures { result ≡ are_zone_bytes w.now }
 {
-    let mut i = 0;
-    while i < w.len() {
-        if !is_zone_byte(w[i]) {
-            return false;
-        }
-        i += 1;
-    }
-    w.len() != 0
+    are_some(w, is_zone_byte)
 }
 
 fn is_zone_byte(b: u8) -> bool

@@ -4,7 +4,7 @@ use Prim.Native.Nat.{ℕ, ◌+◌, ◌-◌, ◌*◌, ◌≤◌, ◌<◌}
 use mathlib.Core.Path.{◌≡◌, refl, ap, ◌∙◌}
 use mathlib.Core.Bool.{true, false, and-false}
 use mathlib.Core.List.{List, [], ◌∷◌, ◌++◌, append_assoc, append-nil}
-use mathlib.Core.Option.{Option, none, some}
+use Rattle.std.specs.Prelude.{Option, None, Some}
 use native.Mathlib.Numerals.{add-one}
 use native.Mathlib.Omega.{arith}
 use lib.ListN.{length, get_or, set, take, drop, drop_of_length-le}
@@ -15,19 +15,19 @@ use Rattle.text.proofs.Places.{here}
 use Rattle.trials.specs.Hex.{onto, spelt}
 
 onto_onto : (l m : List ℕ) (rest : Option (List ℕ)) → onto l (onto m rest) ≡ onto (l ++ m) rest
-onto_onto l m none = refl
-onto_onto l m (some rest) = rw append_assoc
+onto_onto l m None = refl
+onto_onto l m (Some rest) = rw append_assoc
 
 onto_nothing : (rest : Option (List ℕ)) → rest ≡ onto [] rest
-onto_nothing none = refl
-onto_nothing (some rest) = refl
+onto_nothing None = refl
+onto_nothing (Some rest) = refl
 
 module _ (t : List ℕ) (i : ℕ) where
-  pub half : i < length t → length t - i < 2 → spelt (drop i t) ≡ none
+  pub half : i < length t → length t - i < 2 → spelt (drop i t) ≡ None
   unfolding spelt
   half h f = let e : length t ≤ i + 1 = omega arith in rw (here t i h, drop_of_length-le t e)
 
-  pub over : length t ≤ i → spelt (drop i t) ≡ some []
+  pub over : length t ≤ i → spelt (drop i t) ≡ Some []
   unfolding spelt
   over h = rw (drop_of_length-le t h)
 
@@ -35,11 +35,11 @@ module _ (t : List ℕ) (i : ℕ) where
     pair : drop i t ≡ get_or t i 0 ∷ get_or t (i + 1) 0 ∷ drop (i + 2) t
     pair = let e : i + 1 + 1 ≡ i + 2 = omega arith in rw (here t i (omega arith), here t (i + 1) h, e)
 
-    pub first_wrong : is_hex (get_or t i 0) ≡ false → spelt (drop i t) ≡ none
+    pub first_wrong : is_hex (get_or t i 0) ≡ false → spelt (drop i t) ≡ None
     unfolding spelt
     first_wrong e = rw (pair, e)
 
-    pub second_wrong : is_hex (get_or t (i + 1) 0) ≡ false → spelt (drop i t) ≡ none
+    pub second_wrong : is_hex (get_or t (i + 1) 0) ≡ false → spelt (drop i t) ≡ None
     unfolding spelt
     second_wrong e = rw (pair, e, and-false)
 
@@ -57,11 +57,11 @@ pub begins : (t room : List ℕ) → Spelling t 0 room 0
 begins t room = record { agrees = onto_nothing (spelt t) }
 
 module _ (t : List ℕ) (i : ℕ) (room : List ℕ) (n : ℕ) (so : Spelling t i room n) where
-  pub stops : spelt (drop i t) ≡ none → spelt t ≡ none
+  pub stops : spelt (drop i t) ≡ None → spelt t ≡ None
   stops e = so.agrees ∙ rw e
 
-  pub ends : length t ≤ i → spelt t ≡ some (take n room)
-  ends h = so.agrees ∙ rw (over t i h) (ap some (append-nil (take n room)))
+  pub ends : length t ≤ i → spelt t ≡ Some (take n room)
+  ends h = so.agrees ∙ rw (over t i h) (ap Some (append-nil (take n room)))
 
   -- one pair more, whose digits have these values
   pub goes_on : (high low : ℕ) → i + 1 < length t → n < length room

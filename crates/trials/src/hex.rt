@@ -5,15 +5,8 @@ ghost use Rattle.trials.specs.Hex.{Answers};
 
 use text::classes;
 
-// What digits spell: so many bytes, or they are not pairs of hex digits.
-#[derive(Clone, Copy)]
-pub enum Spelt {
-    Bytes(usize),
-    Wrong,
-}
-
-// Puts the bytes that the digits spell at the front of the room.
-pub fn read(digits: &[u8], room: &mut [u8]) -> Spelt
+// Puts the bytes that the digits spell at the front of the room, and answers how many they are; none where they are not pairs of hex digits.
+pub fn read(digits: &[u8], room: &mut [u8]) -> Option<usize>
     requires { length digits.now ≤ 2 * length room.old }
     ensures { Answers digits.now result room.new }
 {
@@ -21,16 +14,16 @@ pub fn read(digits: &[u8], room: &mut [u8]) -> Spelt
     let mut at = 0;
     while at < digits.len() {
         if digits.len() - at < 2 {
-            return Spelt::Wrong;
+            return None;
         }
         let high = digits[at];
         let low = digits[at + 1];
         if !classes::is_hex(high) || !classes::is_hex(low) {
-            return Spelt::Wrong;
+            return None;
         }
         room[n] = classes::hex_digit(high) * 16 + classes::hex_digit(low);
         n += 1;
         at += 2;
     }
-    Spelt::Bytes(n)
+    Some(n)
 }

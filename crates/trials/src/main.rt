@@ -23,13 +23,6 @@ enum Line {
     TooLong,
 }
 
-// The next byte of the input, or its end.
-#[derive(Clone, Copy)]
-enum Next {
-    Byte(u8),
-    End,
-}
-
 fn main(rt: HostRuntime) -> io::Result<()> {
     let mut room = [0u8; ROOM];
     answer_lines(&rt, &mut rt.reader(), &mut room)
@@ -72,7 +65,7 @@ fn read_line(input: &mut impl Read, room: &mut [u8]) -> io::Result<Line>
 {
     let mut n = 0;
     loop {
-        let Next::Byte(byte) = read_byte(input)? else {
+        let Some(byte) = read_byte(input)? else {
             if n == 0 {
                 return Ok(Line::End);
             }
@@ -89,10 +82,11 @@ fn read_line(input: &mut impl Read, room: &mut [u8]) -> io::Result<Line>
     }
 }
 
-fn read_byte(input: &mut impl Read) -> io::Result<Next> {
+// The next byte of the input, if it has not ended.
+fn read_byte(input: &mut impl Read) -> io::Result<Option<u8>> {
     let mut byte = [0u8; 1];
     if input.read(&mut byte)? == 0 {
-        return Ok(Next::End);
+        return Ok(None);
     }
-    Ok(Next::Byte(byte[0]))
+    Ok(Some(byte[0]))
 }

@@ -3,7 +3,7 @@
 // be written.
 ghost use Rattle.std.specs.Prelude.{◌≤◌, length};
 
-use paper::Answer;
+use paper::{Answer, Told};
 use std::io;
 
 // Writes the text and a line end.
@@ -13,13 +13,11 @@ pub fn line(rt: &impl Print, text: &str) -> io::Result<()> {
 
 // Writes the numbers as decimals split by single spaces.
 pub fn numbers(rt: &impl Print, numbers: &[u64]) -> io::Result<()> {
-    let mut i = 0;
-    while i < numbers.len() {
+    for (i, number) in numbers.iter().enumerate() {
         if 0 < i {
-            print!(rt; " ")?;
+            rt.print(" ")?;
         }
-        print!(rt; "{}", numbers[i])?;
-        i += 1;
+        rt.print(number)?;
     }
     Ok(())
 }
@@ -32,72 +30,41 @@ pub fn row(rt: &impl Print, row: &[u64]) -> io::Result<()> {
 
 // Writes number, place and count.
 pub fn answer(rt: &impl Print, answer: Answer) -> io::Result<()> {
+    let told = Told::from(answer);
     numbers(
         rt,
-        &[
-            answer.number() as u64,
-            answer.place() as u64,
-            answer.count() as u64,
-        ],
+        &[told.number as u64, told.place as u64, told.count as u64],
     )
 }
 
 // Writes each cell after a space, and a line end. Zeros behind the last cell that is not zero are left out.
 pub fn cells(rt: &impl Print, cells: &[u32]) -> io::Result<()> {
-    let n = used(cells);
-    let mut i = 0;
-    while i < n {
-        cell(rt, cells[i])?;
-        i += 1;
+    let used = cells
+        .iter()
+        .rposition(|&cell| cell != 0)
+        .map_or(0, |last| last + 1);
+    for cell in cells.iter().take(used) {
+        print!(rt; " {cell}")?;
     }
     line(rt, "")
-}
-
-fn cell(rt: &impl Print, cell: u32) -> io::Result<()> {
-    print!(rt; " {cell}")
-}
-
-// How many cells there are up to the last that is not zero.
-fn used(cells: &[u32]) -> usize
-    ensures { result ≤ length cells.now }
-{
-    let mut n = cells.len();
-    while 0 < n && cells[n - 1] == 0 {
-        n -= 1;
-    }
-    n
 }
 
 // Writes the bytes up to the last that is not zero, as `bytes` does. A form has no zeros.
 pub fn written(rt: &impl Print, out: &[u8]) -> io::Result<()> {
-    let n = written_end(out);
-    bytes(rt, &out[..n])
-}
-
-// How many bytes there are up to the last that is not zero.
-fn written_end(out: &[u8]) -> usize
-    ensures { result ≤ length out.now }
-{
-    let mut n = out.len();
-    while 0 < n && out[n - 1] == 0 {
-        n -= 1;
-    }
-    n
+    let used = out
+        .iter()
+        .rposition(|&byte| byte != 0)
+        .map_or(0, |last| last + 1);
+    bytes(rt, &out[..used])
 }
 
 // Writes the bytes in hex after a space, if there are any, and a line end.
 pub fn bytes(rt: &impl Print, bytes: &[u8]) -> io::Result<()> {
-    let mut i = 0;
-    while i < bytes.len() {
-        if i == 0 {
-            print!(rt; " ")?;
-        }
-        byte(rt, bytes[i])?;
-        i += 1;
+    if !bytes.is_empty() {
+        rt.print(" ")?;
+    }
+    for byte in bytes {
+        print!(rt; "{byte:02x}")?;
     }
     line(rt, "")
-}
-
-fn byte(rt: &impl Print, byte: u8) -> io::Result<()> {
-    print!(rt; "{byte:02x}")
 }

@@ -3,10 +3,8 @@
 ghost use Rattle.std.specs.Prelude.{◌≤◌, length};
 ghost use Rattle.trials.specs.Lines.{line_limit, Request, cell_limit, room_limit};
 
-use crate::words::{Listed, Numeral};
 use crate::{hex, print, words};
-use leaves::judged::Judged;
-use paper::Refusal;
+use paper::Refused;
 use std::io;
 use text::utf8;
 use values::reading;
@@ -53,7 +51,7 @@ fn bytes(rt: &impl Print, line: &[u8]) -> io::Result<bool>
     requires { Request line.now }
 {
     let mut room = [0u8; ROOM];
-    let hex::Spelt::Bytes(n) = hex::read(&line[2..], &mut room) else {
+    let Some(n) = hex::read(&line[2..], &mut room) else {
         return Ok(false);
     };
     let bytes = &room[..n];
@@ -70,11 +68,15 @@ fn bytes(rt: &impl Print, line: &[u8]) -> io::Result<bool>
 
 fn sheet_bytes(rt: &impl Print, sheet: &[u8]) -> io::Result<()> {
     match utf8::check(sheet) {
-        utf8::Checked::Sound => print::row(rt, &[0, sheet.len() as u64]),
-        utf8::Checked::Broken(place) => {
-            print::row(rt, &[paper::number(Refusal::Bytes) as u64, place as u64])
-        }
+        Ok(()) => print::row(rt, &[0, sheet.len() as u64]),
+        Err(refused) => refusal(rt, refused),
     }
+}
+
+// Answers a refusal's number and its place.
+fn refusal(rt: &impl Print, refused: Refused) -> io::Result<()> {
+    let number = u32::from(refused.refusal);
+    print::row(rt, &[number as u64, refused.place as u64])
 }
 
 fn mode_table(rt: &impl Print, table: &[u8]) -> io::Result<()> {
@@ -84,10 +86,8 @@ fn mode_table(rt: &impl Print, table: &[u8]) -> io::Result<()> {
 
 fn value(rt: &impl Print, bytes: &[u8]) -> io::Result<()> {
     match reading::read_whole(bytes, 0) {
-        Judged::Found { form, end } => print::row(rt, &[0, end as u64, form as u64]),
-        Judged::Refused { refusal, place } => {
-            print::row(rt, &[paper::number(refusal) as u64, place as u64])
-        }
+        Ok(value) => print::row(rt, &[0, value.end as u64, value.form.number() as u64]),
+        Err(refused) => refusal(rt, refused),
     }
 }
 
@@ -114,10 +114,10 @@ fn sheet(rt: &impl Print, letter: u8, table: &[u8], sheet: &[u8], asked: &[u8]) 
 {
     let mut table_room = [0u8; ROOM];
     let mut sheet_room = [0u8; ROOM];
-    let hex::Spelt::Bytes(t) = hex::read(table, &mut table_room) else {
+    let Some(t) = hex::read(table, &mut table_room) else {
         return Ok(false);
     };
-    let hex::Spelt::Bytes(n) = hex::read(sheet, &mut sheet_room) else {
+    let Some(n) = hex::read(sheet, &mut sheet_room) else {
         return Ok(false);
     };
     of_sheet(rt, letter, &table_room[..t], &sheet_room[..n], asked)
@@ -140,7 +140,7 @@ fn of_sheet(
 
 // Reads a sheet with as many cells lent as are asked for.
 fn reading(rt: &impl Print, table: &[u8], sheet: &[u8], asked: &[u8]) -> io::Result<bool> {
-    let Numeral::Is(lent) = words::number(asked) else {
+    let Some(lent) = words::number(asked) else {
         return Ok(false);
     };
     if CELLS < lent {
@@ -167,10 +167,10 @@ fn read_into(rt: &impl Print, table: &[u8], sheet: &[u8], cells: &mut [u32]) -> 
 fn form(rt: &impl Print, table: &[u8], sheet: &[u8], asked: &[u8]) -> io::Result<bool> {
     let lent_end = words::end(asked, 0);
     let room_start = words::past(asked, lent_end);
-    let Numeral::Is(lent) = words::number(&asked[..lent_end]) else {
+    let Some(lent) = words::number(&asked[..lent_end]) else {
         return Ok(false);
     };
-    let Numeral::Is(room) = words::number(&asked[room_start..]) else {
+    let Some(room) = words::number(&asked[room_start..]) else {
         return Ok(false);
     };
     if CELLS < lent || ROOM < room {
@@ -212,13 +212,13 @@ fn part(rt: &impl Print, sheet: &[u8], entry: &[u8], cells: &[u8]) -> io::Result
 {
     let mut sheet_room = [0u8; ROOM];
     let mut cell_room = [0u32; CELLS];
-    let hex::Spelt::Bytes(n) = hex::read(sheet, &mut sheet_room) else {
+    let Some(n) = hex::read(sheet, &mut sheet_room) else {
         return Ok(false);
     };
-    let Numeral::Is(number) = words::number(entry) else {
+    let Some(number) = words::number(entry) else {
         return Ok(false);
     };
-    let Listed::Cells(k) = words::cells(cells, &mut cell_room) else {
+    let Some(k) = words::cells(cells, &mut cell_room) else {
         return Ok(false);
     };
     view(rt, &sheet_room[..n], &cell_room[..k], number)?;

@@ -1,5 +1,5 @@
 -- One turn over the items of a bracket, by the slots and tests that lead through it, and where a bracket may be entered. Over plain lists. Assumes nothing.
-use Prim.Native.Nat.{ℕ, suc, ◌+◌, ◌-◌, ◌*◌, ◌^◌, ◌≤◌, ◌<◌}
+use Prim.Native.Nat.{ℕ, ◌+◌, ◌-◌, ◌≤◌, ◌<◌}
 use mathlib.Core.Path.{◌≡◌, sym, ap, ◌∙◌}
 use mathlib.Core.Bool.{Bool, true, false}
 use mathlib.Core.List.{List, [], ◌∷◌, ◌++◌}
@@ -7,16 +7,21 @@ use native.Mathlib.Omega.{arith}
 use lib.ListN.{length, drop, length-append}
 use lib.Dec.{leb}
 use borrow.Author.Tests.{leb-true, leb-false}
+use Rattle.std.specs.Prelude.{Result, Ok, Err}
+use Rattle.paper.specs.declared.Refusal.TheVariants.{NoEntryLeft}
+use Rattle.paper.specs.declared.Refused.{Refused}
+use Rattle.paper.specs.declared.forms.Form.{Form}
 use Rattle.paper.specs.declared.brackets.Bracket.{Bracket}
+use Rattle.paper.specs.Answer.{refused_at}
+use Rattle.paper.specs.Forms.{number_of_form}
 use Rattle.paper.specs.Bytes.{byte, bytes, is_white, starts_with}
 use Rattle.paper.specs.Values.{opener, bracket_form, enders, Label, no_label, label, key_onto, label_onto, bracket}
 use Rattle.paper.specs.ReadingValues.{value_of, item_and}
-use Rattle.paper.specs.Entries.{entry_cells, key_width, label_width}
+use Rattle.paper.specs.Entries.{key_width, label_width}
 use Rattle.paper.proofs.Labels.{key_append}
 use Rattle.entries.specs.Laid.{lay, slot_after, slot_under}
 use Rattle.entries.specs.declared.Slot.{Slot}
 use Rattle.values.specs.declared.entering.Entered.{Entered}
-use Rattle.values.specs.declared.entering.Entered.TheVariants.{Items, Full}
 use Rattle.values.specs.Entering.{Ready, left_of, Ahead, Enters, EntersFrom}
 use Rattle.text.proofs.Stretch.{Stretch}
 use Rattle.values.proofs.LabelLaws.{LabelTo}
@@ -59,13 +64,11 @@ module _ {s : List ℕ} {at brackets : ℕ} {start : List ℕ} {slot : Slot} {i 
   room_is : next.room ≡ slot.room
   room_is = ap (λ (x : Slot). x.room) h.next_is
 
-  pub next_small : next.next < 2 ^ 32 - 1
-  next_small = omega (arith, number, h.few, h.stands.fits.inside, h.stands.fits.few)
-
   module _ (test : Bool) (f : test ≡ leb next.room next.next) where
     -- no entry is left
-    pub full_turn : (k : Bracket) → test ≡ true → EntersFrom k s i cells slot made own (item_and k brackets (bracket k) (drop i s)) (Full i) cells
-    full_turn k t = let l = leb-true next.room next.next (sym f ∙ t) in none_left k s i brackets cells slot made own (omega (arith, number, room_is))
+    pub full_turn : (k : Bracket) → test ≡ true → (w : Refused) → w ≡ refused_at NoEntryLeft i
+        → EntersFrom k s i cells slot made own (item_and k brackets (bracket k) (drop i s)) (Err w) cells
+    full_turn k t w q = let l = leb-true next.room next.next (sym f ∙ t) in rw q (none_left k s i brackets cells slot made own (omega (arith, number, room_is)))
 
     module _ (t : test ≡ false) (under : Slot) (b : under ≡ slot_under next) where
       room_left : slot.next + made < slot.room
@@ -74,22 +77,9 @@ module _ {s : List ℕ} {at brackets : ℕ} {start : List ℕ} {slot : Slot} {i 
       under_is : under ≡ slot_under (slot_after slot made)
       under_is = b ∙ ap slot_under h.next_is
 
-      -- the item's value, behind its label
-      pub item_stands : {k : Bracket} {key value : ℕ} → LabelTo k s i key value → Ready s value brackets cells under
-      item_stands to =
-          let n : under.next ≡ slot.next + made + 1 = ap (λ (x : Slot). x.next) under_is in
-          let r : under.room ≡ slot.room = ap (λ (x : Slot). x.room) under_is in
-          let k = h.stands.fits in
-          record {
-            place = to.inside;
-            short = h.stands.short;
-            few = h.stands.few;
-            fits = record { held = omega (arith, k.held, h.kept); few = omega (arith, k.few); inside = omega (arith, room_left) };
-          }
-
 -- the same with an item that was entered behind its label, and the cells that it left
 pub record Turned (k : Bracket) (s : List ℕ) (at brackets : ℕ) (start : List ℕ) (slot : Slot) (i made own : ℕ) (cells : List ℕ) (next : Slot) (key value : ℕ)
-    (item : Entered) (mid : List ℕ) : Type 0 where
+    (item : Result Entered Refused) (mid : List ℕ) : Type 0 where
   pub turn : Turn s at brackets start slot i made own cells next
   pub label : LabelTo k s i key value
   pub same : length mid ≡ length cells
@@ -100,7 +90,7 @@ pub record Turned (k : Bracket) (s : List ℕ) (at brackets : ℕ) (start : List
 pub turned : {s : List ℕ} {at brackets : ℕ} {start : List ℕ} {slot : Slot} {i made own : ℕ} {cells : List ℕ} {next : Slot}
     (h : Turn s at brackets start slot i made own cells next)
     (test : Bool) → test ≡ leb next.room next.next → test ≡ false → {k : Bracket} {key value : ℕ} → LabelTo k s i key value
-    → (under : Slot) → under ≡ slot_under next → (item : Entered) (mid : List ℕ) → length mid ≡ length cells
+    → (under : Slot) → under ≡ slot_under next → (item : Result Entered Refused) (mid : List ℕ) → length mid ≡ length cells
     → Ahead s value brackets (left_of under) item × Enters s value cells under (value_of brackets (enders k) (drop value s)) item mid
     → Turned k s at brackets start slot i made own cells next key value item mid
 turned h test f t to under b item mid l e =
@@ -122,18 +112,15 @@ pub record Far (s : List ℕ) (at brackets : ℕ) (slot : Slot) (i made own key 
   pub own_in : own ≤ made
 
 module _ {k : Bracket} {s : List ℕ} {at brackets : ℕ} {start : List ℕ} {slot : Slot} {i made own : ℕ} {cells : List ℕ} {next : Slot} {key value : ℕ}
-    {item : Entered} {mid : List ℕ} (h : Turned k s at brackets start slot i made own cells next key value item mid) where
-  pub put_room : suc next.next * entry_cells ≤ length mid
-  put_room = omega (arith, h.same, h.room, number h.turn, h.turn.kept, h.turn.stands.fits.held)
-
+    {item : Result Entered Refused} {mid : List ℕ} (h : Turned k s at brackets start slot i made own cells next key value item mid) where
   -- no entry is left inside the item
-  pub none_turn : (p : ℕ) → item ≡ Full p → EntersFrom k s i cells slot made own (item_and k brackets (bracket k) (drop i s)) item mid
-  none_turn p q = none_inside k s i brackets cells slot made own key value h.label h.room item mid h.entered p q
+  pub none_turn : (w : Refused) → item ≡ Err w → EntersFrom k s i cells slot made own (item_and k brackets (bracket k) (drop i s)) (Err w) mid
+  none_turn w q = none_inside k s i brackets cells slot made own key value h.label h.room item mid h.entered w q
 
-  module _ (form end inside count : ℕ) (q : item ≡ Items form end inside count) where
-    pub far : Far s at brackets slot i made own key value end inside count
+  module _ (it : Entered) (q : item ≡ Ok it) where
+    pub far : Far s at brackets slot i made own key value it.end it.made it.own
     far =
-        let a = h.ahead.far form end inside count q in
+        let a = h.ahead.far it q in
         let f = h.turn.stands.fits in
         record {
           from = h.turn.from;
@@ -149,21 +136,22 @@ module _ {k : Bracket} {s : List ℕ} {at brackets : ℕ} {start : List ℕ} {sl
           own_in = h.turn.owned;
         }
 
-    pub last_ahead : Ahead s at (brackets + 1) (left_of slot) (Items (bracket_form k) (end + 1) (made + (1 + inside)) (own + 1))
-    last_ahead =
-        let n = far in
-        ahead_items s at (brackets + 1) (left_of slot) (bracket_form k) (end + 1) (made + (1 + inside)) (own + 1) (omega arith) (omega arith) (omega arith) (omega arith)
+    pub last_ahead : (form : Form)
+        → Ahead s at (brackets + 1) (left_of slot) (Ok (record { form = form; end = it.end + 1; made = made + (1 + it.made); own = own + 1 }))
+    last_ahead form = let n = far in ahead_items s at (brackets + 1) (left_of slot) _ (omega arith) (omega arith) (omega arith) (omega arith)
 
-    module _ (laid : List ℕ) (p : laid ≡ lay mid next.next (written form slot.parent count i key value end ∷ [])) where
-      laid_there : laid ≡ lay mid (slot.next + made) (written form slot.parent count i key value end ∷ [])
-      laid_there = p ∙ ap (λ (n : ℕ). lay mid n (written form slot.parent count i key value end ∷ [])) (number h.turn)
+    module _ (laid : List ℕ) (p : laid ≡ lay mid next.next (written (number_of_form it.form) slot.parent it.own i key value it.end ∷ [])) where
+      laid_there : laid ≡ lay mid (slot.next + made) (written (number_of_form it.form) slot.parent it.own i key value it.end ∷ [])
+      laid_there = p ∙ ap (λ (n : ℕ). lay mid n (written (number_of_form it.form) slot.parent it.own i key value it.end ∷ [])) (number h.turn)
 
-      pub last_turn : starts_with (bytes ",") (drop end s) ≡ false → EntersFrom k s i cells slot made own (item_and k brackets (bracket k) (drop i s))
-          (Items (bracket_form k) (end + 1) (made + (1 + inside)) (own + 1)) laid
-      last_turn c = last_item k s i brackets cells slot made own key value h.label h.room item mid h.entered form end inside count q laid laid_there c
+      pub last_turn : starts_with (bytes ",") (drop it.end s) ≡ false → (form : Form) → number_of_form form ≡ bracket_form k
+          → EntersFrom k s i cells slot made own (item_and k brackets (bracket k) (drop i s))
+          (Ok (record { form = form; end = it.end + 1; made = made + (1 + it.made); own = own + 1 })) laid
+      last_turn c form g =
+          last_item k s i brackets cells slot made own key value h.label h.room item mid h.entered it q laid laid_there c form g
 
-      pub next_turn : starts_with (bytes ",") (drop end s) ≡ true → (on : ℕ) → Stretch is_white s (end + 1) on → (r : Entered) (after : List ℕ)
-          → EntersFrom k s on laid slot (made + (1 + inside)) (own + 1) (item_and k brackets (bracket k) (drop on s)) r after
+      pub next_turn : starts_with (bytes ",") (drop it.end s) ≡ true → (on : ℕ) → Stretch is_white s (it.end + 1) on → (r : Result Entered Refused) (after : List ℕ)
+          → EntersFrom k s on laid slot (made + (1 + it.made)) (own + 1) (item_and k brackets (bracket k) (drop on s)) r after
           → EntersFrom k s i cells slot made own (item_and k brackets (bracket k) (drop i s)) r after
-      next_turn c on g r after w = next_item k s i brackets cells slot made own key value h.label h.room item mid h.entered form end inside count q laid
-          laid_there c on g r after w
+      next_turn c on g r after w =
+          next_item k s i brackets cells slot made own key value h.label h.room item mid h.entered it q laid laid_there c on g r after w

@@ -57,17 +57,17 @@ module _ (k : Bracket) (brackets : ℕ) (l : List ℕ) where
               made = sym m;
               parts = record { valued = valued; mid = mid; labelled = p; item = q; behind = b ∙ ap (found more) n };
             }
-        mores a valued p v mid q (fault n end) b e = let z : ◌≡◌ {A = ℕ} 0 1 = cc in absurd (omega arith)
+        mores a valued p v mid q (fault n end) b e = absurd (cc)
 
         values : (a : Label) (valued : List ℕ) → label_of k l ≡ found a valued → (y : Found Value) → value_of brackets (enders k) valued ≡ y
             → with_more k brackets (make a) y ≡ found it left → MadeOf k brackets make l it left
         values a valued p (found v mid) q e = mores a valued p v mid q (more_of k brackets mid) refl e
-        values a valued p (fault n mid) q e = let z : ◌≡◌ {A = ℕ} 0 1 = cc in absurd (omega arith)
+        values a valued p (fault n mid) q e = absurd (cc)
 
         labels : (x : Found Label) → label_of k l ≡ x → and_then x (λ a valued. with_more k brackets (make a) (value_of brackets (enders k) valued)) ≡ found it left
             → MadeOf k brackets make l it left
         labels (found a valued) p e = values a valued p (value_of brackets (enders k) valued) refl e
-        labels (fault n valued) p e = let z : ◌≡◌ {A = ℕ} 0 1 = cc in absurd (omega arith)
+        labels (fault n valued) p e = absurd (cc)
 
     pub together : (a : Label) (v : Value) (more : More) (left : List ℕ) → Parts k brackets l a v more left → item_and k brackets make l ≡ found (make a v more) left
     together a v more left p = rw (p.labelled, p.item, p.behind)
@@ -98,8 +98,7 @@ pub closed : (k : Bracket) (brackets : ℕ) (l : List ℕ) (more : More) (left :
 unfolding starts_with
 closed k brackets [] more left c e =
     let f : fault 9 [] ≡ found more left = sym (more_of_end k brackets) ∙ e in
-    let z : ◌≡◌ {A = ℕ} 0 1 = cc in
-    absurd (omega arith)
+    absurd (cc)
 closed k brackets (b ∷ l) more left c e =
     split (eqb b (closer k))
     (λ h. let q = eqb-true b (closer k) h in
@@ -110,8 +109,7 @@ closed k brackets (b ∷ l) more left c e =
     (λ h. split (eqb b (byte ","))
     (λ q. true_false (rw (q, starts_with) at c))
     (λ q. let f : fault 6 (b ∷ l) ≡ found more left = sym (more_of_other k brackets b l h q) ∙ e in
-    let z : ◌≡◌ {A = ℕ} 0 1 = cc in
-    absurd (omega arith)))
+    absurd (cc)))
 
 -- ---- the first entry that has no room
 

@@ -8,8 +8,11 @@ use native.Mathlib.Omega.{arith}
 use lib.ListN.{length, get_or, take, drop, length-drop, drop_of_length-le}
 use lib.Dec.{eqb}
 use borrow.Author.Tests.{eqb-true, eqb-false, eq-eqb, ne_eqb, leb-true}
-use Rattle.paper.specs.declared.Refusal.{Refusal}
+use Rattle.std.specs.Prelude.{None, Some, Result, Ok, Err}
+use Rattle.paper.specs.declared.Refused.{Refused}
 use Rattle.paper.specs.declared.Refusal.TheVariants.{Value, Cut}
+use Rattle.paper.specs.Answer.{refused_at}
+use Rattle.paper.specs.Forms.{number_of_form}
 use Rattle.paper.specs.Found.{Found, found, fault, pick}
 use Rattle.paper.specs.Bytes.{byte, bytes, is_lower, is_white, is_blank, is_line_end, elem, all, starts_in, length_in, is}
 use Rattle.paper.specs.Values.{is_ender, ends_word, word_form, Leaf, leaf_form, Key, bare_key, leaf_key, is_bare, is_key_form}
@@ -21,11 +24,12 @@ use Rattle.paper.proofs.WordKinds.{word_begins, begins_no_leaf, begins_no_word}
 use Rattle.paper.proofs.Leaves.{ReadLeaf, leaf_reads, leaf_word, by_first}
 use Rattle.paper.proofs.Labels.{key_form_lem}
 use Rattle.text.proofs.Places.{here}
+use Rattle.text.proofs.Answers.{FoundTo}
 use Rattle.leaves.specs.declared.judged.Judged.{Judged}
-use Rattle.leaves.specs.Shown.{Shown, shown, shown_of, Judges}
+use Rattle.leaves.specs.Shown.{Shown, shown_of, no_form, Judges, Ends}
 use Rattle.leaves.proofs.Showing.{finds, no_value, cut_off, stands, passes}
 use Rattle.leaves.proofs.LeafReads.{word_parts}
-use Rattle.values.specs.Labels.{key_form, word_key, bare_length, no_key}
+use Rattle.values.specs.Labels.{word_key, bare_end, no_key}
 use Rattle.values.proofs.BareNames.{also, bare_first, is_bare_lem, not_bare}
 
 -- ---- where nothing ends a word
@@ -70,10 +74,10 @@ ended_word (b ∷ l) h =
     (λ q. rw (word_goes_on also b l e) (omega (arith, ended_word l (omega (arith, rw (length_in, q) at h))))))
 
 module _ (s : List ℕ) (at end : ℕ) (run : end ≡ at + length_in is_going (drop at s)) (h : at ≤ length s) where
-  pub no_key_cut : end ≡ length s → Judged.Refused Cut (length s) ≡ no_key also s at
+  pub no_key_cut : end ≡ length s → refused_at Cut (length s) ≡ no_key also s at
   no_key_cut e = rw (eq-eqb (at + word_length also (drop at s)) (length s) (omega (arith, cut_word (drop at s) (omega (arith, length-drop at s)), length-drop at s)))
 
-  pub no_key_bad : end ≤ length s → (end ≡ length s → ⊥) → Judged.Refused Value at ≡ no_key also s at
+  pub no_key_bad : end ≤ length s → (end ≡ length s → ⊥) → refused_at Value at ≡ no_key also s at
   no_key_bad k n =
       rw (ne_eqb (at + word_length also (drop at s)) (length s)
       (λ e. omega (arith, ended_word (drop at s) (omega (arith, length-drop at s)), length-drop at s)))
@@ -93,13 +97,12 @@ module _ (s : List ℕ) (at : ℕ) where
   key_told end run k = word_parts also s at end run key_word ∙ rw (here s end k)
 
 -- a bare name
-module _ (s : List ℕ) (at end : ℕ) (is : end ≡ at + bare_length also (drop at s)) where
-  pub key_bare : at < end → Judges key_form s at (word_key also (drop at s)) (Judged.Found 0 end)
-  unfolding key_word
-  key_bare h =
-      let b = is_bare_lem s at end is h in
-      finds key_form s at (word_key also (drop at s)) 0 end (bare_key (take (end - at) (drop at s))) h (omega (arith, b.inside)) refl
-      (key_told s at end b.run b.inside ∙ rw (key_word, b.name) (ap (found (bare_key (take (end - at) (drop at s)))) (sym (here s end b.inside))))
+pub key_bare : (s : List ℕ) (at end : ℕ) → Some end ≡ bare_end also s at → Ends s at (word_key also (drop at s)) (Ok end)
+unfolding key_word
+key_bare s at end is =
+    let b = is_bare_lem s at end is in
+    finds no_form s at (word_key also (drop at s)) end (bare_key (take (end - at) (drop at s))) b.ahead (omega (arith, b.inside)) refl
+    (key_told s at end b.run b.inside ∙ rw (key_word, b.name) (ap (found (bare_key (take (end - at) (drop at s)))) (sym (here s end b.inside))))
 
 -- what a quote or a brace begins is no key as a word
 abbrev marks : List ℕ
@@ -124,13 +127,13 @@ quote_form n b l q =
     begun zero e = true_false (sym e)
     begun (suc n) e = true_false (sym e ∙ ap not (elem_more b marks begins_no_leaf q))
 
-pub no_key_lem : (s : List ℕ) (at : ℕ) → at < length s → elem (get_or s at 0) marks ≡ true → (r : Judged) → r ≡ no_key also s at
-    → Judges key_form s at (word_key also (drop at s)) r
+pub no_key_lem : (s : List ℕ) (at : ℕ) → at < length s → elem (get_or s at 0) marks ≡ true → (r : Refused) → r ≡ no_key also s at
+    → Ends s at (word_key also (drop at s)) (Err r)
 unfolding key_word
 no_key_lem s at h q r e =
     let end = at + word_length also (drop at s) in
-    split (eqb end (length s)) (λ y. cut_off key_form s at _ r (e ∙ rw y) (key_ends s at (eqb-true end (length s) y)))
-    (λ n. no_value key_form s at _ r at (e ∙ rw n) (omega arith)
+    split (eqb end (length s)) (λ y. cut_off no_form s at _ r (e ∙ rw y) (key_ends s at (eqb-true end (length s) y)))
+    (λ n. no_value no_form s at _ r at (e ∙ rw n) (omega arith)
     (let k : end < length s = omega (arith, word_fits (drop at s), length-drop at s, eqb-false end (length s) n) in
     let b = get_or s at 0 in
     let l = drop (at + 1) s in
@@ -152,13 +155,7 @@ as_key_lem start w (b ∷ l) n =
     split (eqb (word_form w) 0) (λ e. rw (n (omega arith), key_word, e, word_of, eqb-true (word_form w) 0 e))
     (λ e. rw (n (omega arith), key_word, e, word_of) (split (is_key_form (word_form w)) (λ f. rw f) (λ f. rw f)))
 
-same_key : (s start : List ℕ) (x : Found Leaf) → is_key_form (shown_of leaf_form s x).form ≡ true → shown_of leaf_form s x ≡ shown_of key_form s (key_found start x)
-unfolding is_key_form
-same_key s start (found v left) e = rw e
-same_key s start (fault n left) e = refl
-
-module _ (s : List ℕ) (at : ℕ) (h : at < length s) (q : elem (get_or s at 0) marks ≡ false) (end : ℕ) (is : end ≡ at + bare_length also (drop at s))
-    (n : end ≤ at) where
+module _ (s : List ℕ) (at : ℕ) (h : at < length s) (q : elem (get_or s at 0) marks ≡ false) (n : None ≡ bare_end also s at) where
   key_as : word_key also (drop at s) ≡ key_found (drop at s) (leaf_of also (drop at s))
   unfolding elem
   key_as =
@@ -166,26 +163,27 @@ module _ (s : List ℕ) (at : ℕ) (h : at < length s) (q : elem (get_or s at 0)
       let o : first_of (get_or s at 0) ≡ other =
       by_first (get_or s at 0) (not (byte "\"") refl) (not (byte "'") refl) (not (byte "`") refl) (not (byte "{") refl) (λ f. f) in
       let l : leaf_of also (drop at s) ≡ word_leaf also (drop at s) = rw (here s at h) (leaf_word also (drop (at + 1) s) (get_or s at 0) o) in
-      as_key_lem (drop at s) _ _ (λ k. not_bare s at end is n (omega (arith, length-drop (word_length also (drop at s)) (drop at s)))) ∙ ap (key_found (drop at s)) (sym l)
+      as_key_lem (drop at s) _ _ (λ k. not_bare s at n (omega (arith, length-drop (word_length also (drop at s)) (drop at s)))) ∙ ap (key_found (drop at s)) (sym l)
 
-  module _ (r : Judged) (e : Judges leaf_form s at (leaf_of also (drop at s)) r) where
-    pub key_refused : (why : Refusal) (place : ℕ) → r ≡ Judged.Refused why place → Judges key_form s at (word_key also (drop at s)) r
-    key_refused why place p = passes e key_form at (word_key also (drop at s)) why place p (λ left f. key_as ∙ ap (key_found (drop at s)) f)
+  module _ (r : Result Judged Refused) (e : Judges leaf_form s at (leaf_of also (drop at s)) r) where
+    pub key_refused : (w : Refused) → r ≡ Err w → Ends s at (word_key also (drop at s)) (Err w)
+    key_refused w p = passes e no_form at (word_key also (drop at s)) w p (λ left f. key_as ∙ ap (key_found (drop at s)) f)
 
-    module _ (f to : ℕ) (p : r ≡ Judged.Found f to) where
-      pub key_formed : is_key_form f ≡ true → Judges key_form s at (word_key also (drop at s)) (Judged.Found f to)
+    module _ (v : Judged) (p : r ≡ Ok v) where
+      -- the value that was read, and its form
+      value : FoundTo (ReadLeaf also (drop at s)) s at (leaf_of also (drop at s)) v.end
+      value = stands e (ReadLeaf also (drop at s)) (leaf_reads also (drop at s)) v p
+
+      form_is : leaf_form value.it ≡ number_of_form v.form
+      form_is = ap (λ (x : Shown). x.form) (ap (shown_of leaf_form s) (sym value.finds) ∙ sym (rw p at e.same))
+
+      key_is : word_key also (drop at s) ≡ key_found (drop at s) (found value.it (drop v.end s))
+      key_is = key_as ∙ ap (key_found (drop at s)) value.finds
+
+      pub key_formed : is_key_form (number_of_form v.form) ≡ true → Ends s at (word_key also (drop at s)) (Ok v.end)
       key_formed y =
-          let fit = ap (λ (x : Shown). is_key_form x.form) (sym e.same) ∙ ap (λ (x : Judged). is_key_form (shown x).form) p ∙ y in
-          let j : Judges key_form s at (word_key also (drop at s)) r =
-          record {
-            same = e.same ∙ same_key s (drop at s) (leaf_of also (drop at s)) fit ∙ ap (shown_of key_form s) (sym key_as);
-            ahead = e.ahead;
-            inside = e.inside;
-          } in
-          rw p at j
+          let a = e.ahead v p in
+          finds no_form s at (word_key also (drop at s)) v.end (leaf_key value.it) a.0 a.1 refl (key_is ∙ rw (form_is, y))
 
-      pub key_unfit : is_key_form f ≡ false → word_key also (drop at s) ≡ fault 6 (drop at s)
-      key_unfit z =
-          let v = stands e (ReadLeaf also (drop at s)) (leaf_reads also (drop at s)) f to p in
-          let form : leaf_form v.it ≡ f = ap (λ (x : Shown). x.form) (ap (shown_of leaf_form s) (sym v.finds) ∙ sym e.same ∙ ap shown p) in
-          key_as ∙ ap (key_found (drop at s)) v.finds ∙ rw (form, z)
+      pub key_unfit : is_key_form (number_of_form v.form) ≡ false → word_key also (drop at s) ≡ fault 6 (drop at s)
+      key_unfit z = key_is ∙ rw (form_is, z)

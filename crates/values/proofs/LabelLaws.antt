@@ -1,12 +1,13 @@
 -- Labels at a place: what an answer tells of one, where it stands, and a refusal. Over plain lists. Assumes nothing.
 -- Document 02, Five; 001 §21.
 use Prim.Native.Nat.{ℕ, ◌+◌, ◌≤◌}
-use mathlib.Core.Path.{◌≡◌, sym, ap, ◌∙◌, subst}
+use mathlib.Core.Path.{◌≡◌, sym, ap, ◌∙◌}
 use mathlib.Core.Bool.{true}
 use mathlib.Core.List.{List, []}
 use native.Mathlib.Omega.{arith}
 use lib.ListN.{length, drop, length-drop, length-append}
-use Rattle.paper.specs.declared.Refusal.{Refusal}
+use Rattle.std.specs.Prelude.{Result, Ok, Err}
+use Rattle.paper.specs.declared.Refused.{Refused}
 use Rattle.paper.specs.declared.brackets.Bracket.{Bracket}
 use Rattle.paper.specs.Found.{Found, found, fault}
 use Rattle.paper.specs.Values.{Label, label_onto, label_rule}
@@ -15,8 +16,7 @@ use Rattle.paper.specs.ReadingValues.{label_of}
 use Rattle.paper.proofs.Labels.{ReadLabel, label_reads, label_append}
 use Rattle.text.proofs.Answers.{Tells, found_to, FaultAt, fault_to}
 use Rattle.values.specs.declared.labels.Labelled.{Labelled}
-use Rattle.values.specs.declared.labels.Due.{Due}
-use Rattle.values.specs.Labels.{Seen, seen, seen_of, LabelsAt, key_end, labelled_of, DueAt}
+use Rattle.values.specs.Labels.{Seen, seen, seen_of, LabelsAt}
 
 -- the label that stands from a place to where its value is due, and where its key ends
 pub record LabelTo (k : Bracket) (s : List ℕ) (at key value : ℕ) : Type 0 where
@@ -28,19 +28,19 @@ pub record LabelTo (k : Bracket) (s : List ℕ) (at key value : ℕ) : Type 0 wh
   pub due : value ≡ at + label_width it
   pub inside : value ≤ length s
 
-module _ (k : Bracket) (s : List ℕ) (at : ℕ) {r : Labelled} (h : LabelsAt k s at r) where
+module _ (k : Bracket) (s : List ℕ) (at : ℕ) {r : Result Labelled Refused} (h : LabelsAt k s at r) where
   -- the number and the place of an answer are those of what is found
-  tells : (y : Labelled) → r ≡ y → Tells s (label_of k (drop at s)) (seen y).number (seen y).place
+  tells : (y : Result Labelled Refused) → r ≡ y → Tells s (label_of k (drop at s)) (seen y).number (seen y).place
   tells y q = go (label_of k (drop at s)) (ap seen (sym q) ∙ h.same)
     where
       go : (x : Found Label) → seen y ≡ seen_of (λ a. at + key_width a) s x → Tells s x (seen y).number (seen y).place
       go (found a left) e = (ap (λ (y : Seen). y.number) e, ap (λ (y : Seen). y.place) e)
       go (fault n left) e = (ap (λ (y : Seen). y.number) e, ap (λ (y : Seen). y.place) e)
 
-  pub label_stands : at ≤ length s → (key value : ℕ) → r ≡ Labelled.Label key value → LabelTo k s at key value
-  label_stands l key value q =
-      let to = found_to (ReadLabel k (drop at s)) s at (label_of k (drop at s)) value (tells (Labelled.Label key value) q) (label_reads k (drop at s)) l in
-      let same : seen (Labelled.Label key value) ≡ seen_of (λ a. at + key_width a) s (found to.it (drop value s)) =
+  pub label_stands : at ≤ length s → (a : Labelled) → r ≡ Ok a → LabelTo k s at a.key a.value
+  label_stands l a q =
+      let to = found_to (ReadLabel k (drop at s)) s at (label_of k (drop at s)) a.value (tells (Ok a) q) (label_reads k (drop at s)) l in
+      let same : seen (Ok a) ≡ seen_of (λ a. at + key_width a) s (found to.it (drop a.value s)) =
       ap seen (sym q) ∙ h.same ∙ ap (seen_of (λ a. at + key_width a) s) to.finds in
       record {
         it = to.it;
@@ -50,9 +50,9 @@ module _ (k : Bracket) (s : List ℕ) (at : ℕ) {r : Labelled} (h : LabelsAt k 
         ends = ap (λ (y : Seen). y.key) same;
         due = omega (
           arith,
-          ap length (to.holds.covers ∙ label_append to.it (drop value s)),
-          length-append (label_onto to.it []) (drop value s),
-          length-drop value s,
+          ap length (to.holds.covers ∙ label_append to.it (drop a.value s)),
+          length-append (label_onto to.it []) (drop a.value s),
+          length-drop a.value s,
           length-drop at s,
           to.inside,
           to.ahead,
@@ -60,23 +60,5 @@ module _ (k : Bracket) (s : List ℕ) (at : ℕ) {r : Labelled} (h : LabelsAt k 
         inside = to.inside;
       }
 
-  pub label_fails : (why : Refusal) (place : ℕ) → r ≡ Labelled.Refused why place → FaultAt s (label_of k (drop at s)) why place
-  label_fails why place q = fault_to s (label_of k (drop at s)) why place (tells (Labelled.Refused why place) q)
-
-  -- where only the value's place is told
-  pub due_stands : (key value : ℕ) → r ≡ Labelled.Label key value → DueAt k s at (Due.At value)
-  due_stands key value q =
-      let l : LabelsAt k s at (Labelled.Label key value) = rw q at h in
-      subst (λ (n : ℕ). LabelsAt k s at (Labelled.Label n value)) (ap (λ (y : Seen). y.key) l.same) l
-
-  pub due_fails : (why : Refusal) (place : ℕ) → r ≡ Labelled.Refused why place → DueAt k s at (Due.Refused why place)
-  due_fails why place q = rw q at h
-
-module _ (k : Bracket) (s : List ℕ) (at : ℕ) {r : Due} (h : DueAt k s at r) where
-  pub due_label : at ≤ length s → (value : ℕ) → r ≡ Due.At value → LabelTo k s at (key_end k s at) value
-  due_label l value q = label_stands k s at h l (key_end k s at) value (ap (labelled_of (key_end k s at)) q)
-
-  pub due_fault : (why : Refusal) (place : ℕ) → r ≡ Due.Refused why place → FaultAt s (label_of k (drop at s)) why place × (place ≤ length s)
-  due_fault why place q =
-      let e = ap (labelled_of (key_end k s at)) q in
-      (label_fails k s at h why place e, h.inside why place e)
+  pub label_fails : (e : Refused) → r ≡ Err e → FaultAt s (label_of k (drop at s)) e.refusal e.place
+  label_fails e q = fault_to s (label_of k (drop at s)) e.refusal e.place (tells (Err e) q)

@@ -5,8 +5,9 @@ use mathlib.Core.Path.{◌≡◌, sym, ap, ◌∙◌}
 use mathlib.Core.Bool.{true, false}
 use mathlib.Core.List.{List, [], ◌∷◌}
 use lib.ListN.{length, get_or, drop, drop_of_length-le}
-use lib.Dec.{ltb, eqb}
-use borrow.Author.Tests.{eqb-true, eq-eqb, le-ltb}
+use lib.Dec.{eqb}
+use borrow.Author.Tests.{eqb-true, eq-eqb}
+use Rattle.std.specs.Prelude.{None, Some}
 use Rattle.paper.specs.declared.brackets.Bracket.{Bracket}
 use Rattle.paper.specs.Bytes.{byte, bytes, starts_in, starts_with}
 use Rattle.paper.specs.Values.{opener}
@@ -15,23 +16,18 @@ use Rattle.paper.proofs.Tests.{split}
 use Rattle.paper.proofs.Lists.{starts_is}
 use Rattle.paper.proofs.BracketKinds.{opening_of_lem}
 use Rattle.text.proofs.Places.{here}
-use Rattle.values.specs.declared.brackets.Opening.{Opening}
 use Rattle.values.specs.Brackets.{opening_of}
 use Rattle.leaves.proofs.Runs.{starts_one}
 
 module _ (s : List ℕ) (at : ℕ) where
   -- the bytes that open a kind stand there
-  pub opens_kind : (k : Bracket) → starts_with (opener k) (drop at s) ≡ true → Opening.Opens k ≡ opening_of (opens_with (drop at s))
+  pub opens_kind : (k : Bracket) → starts_with (opener k) (drop at s) ≡ true → Some k ≡ opening_of (opens_with (drop at s))
   opens_kind k e = ap opening_of (sym (ap opens_with (starts_is (opener k) (drop at s) e) ∙ opening_of_lem k (inside k (drop at s))))
 
-  -- nothing opens or closes at the end
-  pub opens_end : length s ≤ at → Opening.NoBracket ≡ opening_of (opens_with (drop at s))
+  -- nothing opens at the end
+  pub opens_end : length s ≤ at → None ≡ opening_of (opens_with (drop at s))
   unfolding opens_with starts_with
   opens_end h = rw (drop_of_length-le s h)
-
-  pub closes_end : (c : ℕ) → length s ≤ at → ltb at (length s) ≡ starts_with (c ∷ []) (drop at s)
-  unfolding starts_with
-  closes_end c h = rw (drop_of_length-le s h, le-ltb at (length s) h)
 
   module _ (h : at < length s) where
     -- one byte that opens or closes
@@ -39,7 +35,7 @@ module _ (s : List ℕ) (at : ℕ) where
     unfolding starts_in
     starts_here c = rw (here s at h) (sym (starts_one c (get_or s at 0 ∷ drop (at + 1) s)))
 
-    pub opens_one : (k : Bracket) (c : ℕ) → opener k ≡ c ∷ [] → get_or s at 0 ≡ c → Opening.Opens k ≡ opening_of (opens_with (drop at s))
+    pub opens_one : (k : Bracket) (c : ℕ) → opener k ≡ c ∷ [] → get_or s at 0 ≡ c → Some k ≡ opening_of (opens_with (drop at s))
     opens_one k c o e = opens_kind k (rw o (sym (starts_here c) ∙ eq-eqb (get_or s at 0) c e))
 
     -- fixed bytes stand only where their first one does
@@ -48,7 +44,7 @@ module _ (s : List ℕ) (at : ℕ) where
     starts_off c p off = split (eqb (get_or s at 0) c) (λ e. off (eqb-true (get_or s at 0) c e)) (λ e. rw (here s at h, starts_with, e))
 
     pub opens_none : (get_or s at 0 ≡ byte "[" → ⊥) → (get_or s at 0 ≡ byte "(" → ⊥) → (get_or s at 0 ≡ byte "s" → starts_with (bytes "set[") (drop at s) ≡ false)
-        → (get_or s at 0 ≡ byte "m" → starts_with (bytes "map[") (drop at s) ≡ false) → Opening.NoBracket ≡ opening_of (opens_with (drop at s))
+        → (get_or s at 0 ≡ byte "m" → starts_with (bytes "map[") (drop at s) ≡ false) → None ≡ opening_of (opens_with (drop at s))
     unfolding opens_with
     opens_none l t e m =
         rw (

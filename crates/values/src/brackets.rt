@@ -9,36 +9,16 @@ ghost use Rattle.values.specs.Brackets.{opening_of};
 use paper::brackets::Bracket;
 use text::parts::starts_with;
 
-// The bracket that a value begins with.
-#[derive(Clone, Copy)]
-pub enum Opening {
-    NoBracket,
-    Opens(Bracket),
-}
-
-// Which bracket opens at `at`. The first byte says which one it can be.
-pub fn opens(s: &[u8], at: usize) -> Opening
+// Which bracket opens at `at`, if one does. The first byte says which one it can be.
+pub fn opens(s: &[u8], at: usize) -> Option<Bracket>
     ensures { result ≡ opening_of (opens_with (drop at s.now)) }
 {
-    if s.len() <= at {
-        return Opening::NoBracket;
-    }
-    match s[at] {
-        b'[' => Opening::Opens(Bracket::List),
-        b'(' => Opening::Opens(Bracket::Tuple),
-        b's' => {
-            if starts_with(s, at, b"set[") {
-                return Opening::Opens(Bracket::Set);
-            }
-            Opening::NoBracket
-        }
-        b'm' => {
-            if starts_with(s, at, b"map[") {
-                return Opening::Opens(Bracket::Map);
-            }
-            Opening::NoBracket
-        }
-        _ => Opening::NoBracket,
+    match *s.get(at)? {
+        b'[' => Some(Bracket::List),
+        b'(' => Some(Bracket::Tuple),
+        b's' if starts_with(s, at, b"set[") => Some(Bracket::Set),
+        b'm' if starts_with(s, at, b"map[") => Some(Bracket::Map),
+        _ => None,
     }
 }
 
@@ -46,7 +26,7 @@ pub fn opens(s: &[u8], at: usize) -> Opening
 pub fn closes(s: &[u8], at: usize, kind: Bracket) -> bool
     ensures { result ≡ starts_with (closer kind ∷ []) (drop at s.now) }
 {
-    at < s.len() && s[at] == kind.closer()
+    starts_with(s, at, &[kind.closer()])
 }
 
 // Whether a bracket of this kind closes at `at` without an item, which a tuple may not.

@@ -1,6 +1,6 @@
 // Entering the items of a value that was read whole.
 // Document 01, "Entries": items in depth-first order; refusal 11; document 02, Five: a map's item has its key in the name cells.
-ghost use Rattle.std.specs.Prelude.{◌≡◌, []};
+ghost use Rattle.std.specs.Prelude.{◌≡◌, Ok, []};
 ghost use Rattle.paper.specs.Limits.{bracket_limit};
 ghost use Rattle.paper.specs.Values.{value_form};
 ghost use Rattle.paper.specs.ReadingValues.{value_of};
@@ -8,41 +8,43 @@ ghost use Rattle.leaves.specs.Shown.{JudgesAt};
 ghost use Rattle.leaves.specs.Kinds.{enders_of};
 ghost use Rattle.values.specs.Entering.{without_items, Ready, EntersValue, EntersItems};
 
-use crate::brackets::{Opening, goes_on, is_empty, opens};
-use crate::labels::{Labelled, read_label};
+use crate::brackets::{goes_on, is_empty, opens};
+use crate::labels::read_label;
 use entries::{Entry, Slot, put};
 use leaves::judged::Judged;
 use leaves::read_leaf;
 use leaves::words::Around;
 use paper::brackets::Bracket;
-use paper::kinds;
-use text::nesting::{Deeper, Nesting};
-use text::runs;
-use text::runs::Class;
+use paper::forms::Form;
+use paper::kinds::Kind;
+use paper::{Refusal, Refused};
+use text::nesting::Nesting;
+use text::runs::{self, White};
 
 // A value whose items are entered: its form and end, how many entries its items took at any depth, and how many items are its own.
-// Or the place of the first item that has no entry left.
 #[derive(Clone, Copy)]
-pub enum Entered {
-    Items {
-        form: u32,
-        end: usize,
-        made: usize,
-        own: usize,
-    },
-    Full {
-        place: usize,
-    },
+pub struct Entered {
+    pub form: Form,
+    pub end: usize,
+    pub made: usize,
+    pub own: usize,
 }
 
-// Enters the items of a trait's whole value, which was read as `value`. What holds no items was judged by that reading.
-pub fn enter_whole(s: &[u8], at: usize, value: Judged, cells: &mut [u32], slot: Slot) -> Entered
-    requires { Ready s.now at bracket_limit cells.old slot × JudgesAt value_form (value_of bracket_limit []) s.now at value }
+// Enters the items of a trait's whole value, which was read as `value`. What holds no items was judged by that reading. The first item that
+// has no entry left is refused.
+pub fn enter_whole(
+    s: &[u8],
+    at: usize,
+    value: Judged,
+    cells: &mut [u32],
+    slot: Slot,
+) -> Result<Entered, Refused>
+    requires { Ready s.now at bracket_limit cells.old slot × JudgesAt value_form (value_of bracket_limit []) s.now at (Ok value) }
     ensures { EntersValue bracket_limit [] s.now at cells.old slot result cells.new }
 {
-    let Opening::Opens(_) = opens(s, at) else {
-        return without_items(value);
-    };
+    if opens(s, at).is_none() {
+        return Ok(without_items(value));
+    }
     enter(
         s,
         at,
@@ -62,40 +64,35 @@ fn enter(
     around: Around,
     cells: &mut [u32],
     slot: Slot,
-) -> Entered
+) -> Result<Entered, Refused>
     requires { Ready s.now at nesting.left cells.old slot }
     ensures { EntersValue nesting.left (enders_of around) s.now at cells.old slot result cells.new }
 {
-    let Opening::Opens(kind) = opens(s, at) else {
-        return without_items(read_leaf(s, at, around));
+    let Some(kind) = opens(s, at) else {
+        return Ok(without_items(read_leaf(s, at, around)?));
     };
-    let Deeper::Inside(fewer) = nesting.step() else {
-        return Entered::Full { place: at };
+    let Some(fewer) = nesting.step() else {
+        return Err(Refusal::TooDeep.at(at));
     };
     let first = at + kind.opener_length();
     if is_empty(s, first, kind) {
-        return Entered::Items {
+        return Ok(without_items(Judged {
             form: kind.form(),
             end: first + 1,
-            made: 0,
-            own: 0,
-        };
+        }));
     }
     enter_items(s, first, kind, fewer, cells, slot)
 }
 
-// A value that begins with no bracket has no items; what was refused is never entered.
+// A value that has no items: one that begins with no bracket, or an empty one. No `From`: others that were read have some.
 fn without_items(read: Judged) -> Entered
     ensures { result ≡ without_items read }
 {
-    match read {
-        Judged::Found { form, end } => Entered::Items {
-            form,
-            end,
-            made: 0,
-            own: 0,
-        },
-        Judged::Refused { place, .. } => Entered::Full { place },
+    Entered {
+        form: read.form,
+        end: read.end,
+        made: 0,
+        own: 0,
     }
 }
 
@@ -108,7 +105,7 @@ fn enter_items(
     nesting: Nesting,
     cells: &mut [u32],
     slot: Slot,
-) -> Entered
+) -> Result<Entered, Refused>
     requires { Ready s.now at nesting.left cells.old slot }
     ensures { EntersItems kind nesting.left s.now at cells.old slot result cells.new }
 {
@@ -119,47 +116,35 @@ fn enter_items(
     loop {
         let next = slot.after(made);
         if next.is_full() {
-            return Entered::Full { place: i };
+            return Err(Refusal::NoEntryLeft.at(i));
         }
-        // The labels of a value that was read are never refused.
-        let Labelled::Label { key, value } = read_label(s, i, kind) else {
-            return Entered::Full { place: at };
-        };
-        let item = enter(s, value, nesting, around, cells, next.under());
-        let Entered::Items {
-            form,
-            end,
-            made: inside,
-            own: count,
-        } = item
-        else {
-            return item;
-        };
+        let label = read_label(s, i, kind)?;
+        let item = enter(s, label.value, nesting, around, cells, next.under())?;
         let n = next.next;
         put(
             cells,
             n,
             Entry {
-                kind: kinds::ITEM,
-                form,
+                kind: Kind::Item.number(),
+                form: item.form.number(),
                 parent: slot.parent,
-                count: count as u32,
+                count: item.own as u32,
                 name_start: i as u32,
-                name_end: key as u32,
-                start: value as u32,
-                end: end as u32,
+                name_end: label.key as u32,
+                start: label.value as u32,
+                end: item.end as u32,
             },
         );
-        made += 1 + inside;
+        made += 1 + item.made;
         own += 1;
-        if !goes_on(s, end) {
-            return Entered::Items {
+        if !goes_on(s, item.end) {
+            return Ok(Entered {
                 form: kind.form(),
-                end: end + 1,
+                end: item.end + 1,
                 made,
                 own,
-            };
+            });
         }
-        i = runs::end(s, end + 1, Class::White);
+        i = runs::end::<White>(s, item.end + 1);
     }
 }

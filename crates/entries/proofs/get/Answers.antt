@@ -1,11 +1,14 @@
--- The entry lies not wholly in the cells, or its eight cells are read.
-use mathlib.Core.Path.{sym, ◌∙◌}
+-- The entry lies not wholly in the cells, or its row is read.
 use native.Mathlib.Omega.{arith}
 use Rattle.entries.proofs.Getting.{at_none, at_read}
 use Rattle.entries.proofs.get.Goals as goal
 
-pub returns-then-cells-n : goal.returns-then-cells-n
-returns-then-cells-n c = c.nameless.ensures ∙ sym (at_none _ _ (omega (arith, c.if-cells-n.true)))
+pub returns-in_default : goal.returns-in_default
+returns-in_default c =
+    let past = c.in_default.ensures.lookup in
+    cc (at_none c.args.cells.now c.args.n (omega (arith, c.as_chunks.ensures.front_len)))
 
 pub returns : goal.returns
-returns c = at_read _ _ (omega arith)
+returns c =
+    let inside = c.in-Some.ensures.lookup in
+    at_read _ _ _ (omega (arith, c.as_chunks.ensures.front_len)) (rw c.as_chunks.ensures.front at inside.1)

@@ -1,9 +1,8 @@
--- Eight stores in a row are the entry's cells laid at its number. Assumes nothing.
-use native.Mathlib.Numerals.{towards_suc}
+-- The entry's cells are a row, laid at its number.
 use Rattle.paper.specs.Entries.{all_cells}
 use Rattle.entries.specs.Laid.{lay}
 use Rattle.entries.proofs.put.Goals as goal
 
 pub returns : goal.returns
 unfolding lay all_cells
-returns c = simp towards_suc
+returns c = c.lay.ensures

@@ -1,25 +1,18 @@
 -- The page says whether the form fits: too long for a sheet or for the room, or written. Assumes nothing.
-use mathlib.Core.Path.{sym, ◌∙◌}
+use mathlib.Core.Path.{◌∙◌}
 use native.Mathlib.Omega.{arith}
-use lib.Seq.{length-take-le}
 use Rattle.paper.specs.Canonical.{canonical}
 use Rattle.layout.proofs.WriteLaws.{blank_page, no_space_lem, form_written}
 use Rattle.layout.proofs.write_form.Goals as goal
 
 pub returns-then-room-end : goal.returns-then-room-end
 returns-then-room-end c =
-    λ t lent of. rw c.no_room.ensures
+    λ t lent of. rw c.at.ensures
     (no_space_lem _ c.put_sheet-end.new.out (canonical t) c.args.out.now c.put_sheet-end.result lent
     (c.put_sheet-end.ensures t of) c.put_sheet-end.auto.out blank_page (omega (arith, c.room.ensures, c.if-room-end.true)))
-
-pub slice_bounds-put-end : goal.slice_bounds-put-end
-slice_bounds-put-end c =
-    let l = c.put_sheet-end.auto.out ∙ blank_page in sym
-    (length-take-le c.put_sheet-end.result c.put_sheet-end.new.out
-    (omega (arith, c.room.ensures, c.if-room-end.false)))
 
 pub returns : goal.returns
 returns c =
     λ t lent of. form_written _ c.put_sheet-end.new.out (canonical t) c.args.out.now c.put_sheet-end.result lent
     (c.put_sheet-end.ensures t of) c.put_sheet-end.auto.out blank_page
-    (omega (arith, c.room.ensures, c.if-room-end.false)) _ _ c.put.ensures c.put.auto.out
+    (omega (arith, c.room.ensures, c.if-room-end.false)) _ c.copy_from_slice.ensures.after

@@ -1,57 +1,56 @@
 -- The second section begins where the first ends, and the table ends where the second does; the index lists the names of both.
 use Prim.Native.Nat.{ℕ}
-use mathlib.Core.Path.{◌≡◌, sym, ap, ◌∙◌}
+use mathlib.Core.Path.{refl}
 use mathlib.Core.List.{List}
 use native.Mathlib.Omega.{arith}
 use lib.ListN.{drop}
-use Rattle.paper.specs.Answer.{told}
-use Rattle.paper.specs.declared.Answer.{Answer}
-use Rattle.paper.specs.declared.Answer.TheVariants.{Accepted}
+use Rattle.std.specs.Prelude.{Ok}
+use Rattle.text.proofs.Answers.{passes}
+use Rattle.paper.specs.declared.Accepted.{Accepted}
 use Rattle.modes.specs.Table.{names_of}
 use Rattle.modes.specs.Index.{ReadsSection}
-use Rattle.modes.proofs.Answered.{table_refused, not_both}
 use Rattle.modes.proofs.Tables.{Read, section_read, first_refused, second_refused, table_spare, table_done, table_indexed, first_due, second_due, into_refused}
 use Rattle.modes.proofs.read_into.Goals as goal
 
 -- a section that was accepted
-accepted_read : {t x : List ℕ} {at earlier place count : ℕ} {r : Answer} → r ≡ Accepted place count → ReadsSection t at earlier r x
-    → Read t (names_of earlier (drop 1 t)) at place count
-accepted_read is reads = section_read _ _ _ _ _ (sym (ap told is) ∙ reads.answer)
+accepted : {t x : List ℕ} {at earlier : ℕ} {a : Accepted} → ReadsSection t at earlier (Ok a) x → Read t (names_of earlier (drop 1 t)) at a.place a.count
+accepted reads = section_read _ _ _ _ _ reads.answer
 
-pub read_section-first-requires : goal.read_section-first-requires
-read_section-first-requires c = first_due _ _ c.requires
+pub read_section-requires : goal.read_section-requires
+read_section-requires c = first_due _ _ c.requires
 
-pub returns-in_default : goal.returns-in_default
-returns-in_default c = into_refused _ _ _ (first_refused _ _ _ _ c.read_section-first.ensures.answer c.in_default.is) (not_both _ _ _ c.in_default.is)
+pub returns-in_err-first : goal.returns-in_err-first
+returns-in_err-first c =
+    rw (passes c.from_residual.ensures.1) (into_refused _ _ _ (first_refused _ _ c.in_err-first.ensures.answer))
 
-pub read_section-second-requires : goal.read_section-second-requires
-read_section-second-requires c =
-    let section = c.read_section-first.ensures in
-    second_due _ _ _ _ (accepted_read c.in-Accepted.is section) (section.near _ _ c.in-Accepted.is) (section.lists _ _ c.in-Accepted.is)
+pub read_section-requires-2 : goal.read_section-requires-2
+read_section-requires-2 c =
+    let section = c.in_ok-first.ensures in
+    second_due _ _ _ _ (accepted section) (section.near _ refl) (section.lists _ refl)
 
-pub returns-in_default-second : goal.returns-in_default-second
-returns-in_default-second c =
-    let first = accepted_read c.in-Accepted.is c.read_section-first.ensures in
-    into_refused _ _ _ (second_refused _ _ _ first _ _ _ c.read_section-second.ensures.answer c.in_default-second.is) (not_both _ _ _ c.in_default-second.is)
+pub returns-in_err-second : goal.returns-in_err-second
+returns-in_err-second c =
+    let first = accepted c.in_ok-first.ensures in
+    rw (passes c.from_residual-in_err-second.ensures.1) (into_refused _ _ _ (second_refused _ _ _ first _ c.in_err-second.ensures.answer))
 
-pub returns-then-end-table : goal.returns-then-end-table
-returns-then-end-table c =
-    let first = accepted_read c.in-Accepted.is c.read_section-first.ensures in
-    let second = accepted_read c.in-Accepted-second.is c.read_section-second.ensures in
-    into_refused _ _ _ (c.refuse.ensures ∙ table_spare _ _ _ first _ _ second c.if-end-table.true) (table_refused _ _ c.refuse.ensures)
+pub returns-then-second-table : goal.returns-then-second-table
+returns-then-second-table c =
+    let first = accepted c.in_ok-first.ensures in
+    let second = accepted c.in_ok-second.ensures in
+    rw c.at.ensures (into_refused _ _ _ (table_spare _ _ _ first _ _ second c.if-second-table.true))
 
 pub overflow_add-result : goal.overflow_add-result
 overflow_add-result c =
-    let first = accepted_read c.in-Accepted.is c.read_section-first.ensures in
-    let second = accepted_read c.in-Accepted-second.is c.read_section-second.ensures in
+    let first = accepted c.in_ok-first.ensures in
+    let second = accepted c.in_ok-second.ensures in
     omega arith
 
 pub returns : goal.returns
 returns c =
-    let first = accepted_read c.in-Accepted.is c.read_section-first.ensures in
-    let section = c.read_section-second.ensures in
-    let second = accepted_read c.in-Accepted-second.is section in
+    let first = accepted c.in_ok-first.ensures in
+    let section = c.in_ok-second.ensures in
+    let second = accepted section in
     record {
-      answer = table_done _ _ _ first _ _ second c.if-end-table.false;
-      indexed = λ p n e. table_indexed _ _ _ first _ _ second _ c.if-end-table.false (section.lists _ _ c.in-Accepted-second.is);
+      answer = table_done _ _ _ first _ _ second c.if-second-table.false;
+      indexed = λ a e. table_indexed _ _ _ first _ _ second _ c.if-second-table.false (section.lists _ refl);
     }

@@ -1,55 +1,50 @@
 -- A law for each way out: the blank lines, the tabs, the root, and what stands behind it.
+use mathlib.Core.Path.{refl}
 use native.Mathlib.Omega.{arith}
+use Rattle.text.proofs.Answers.{passes}
 use Rattle.modes.specs.Table.{modes_of}
-use Rattle.sheets.proofs.SheetLaws.{blanks_inside, before_refused, tabs_refused, Led, tabs_led, root_stands, root_refused, RootAt, root_read, rest_refused}
-use Rattle.sheets.proofs.SheetLaws.{tree_read}
-use Rattle.sheets.proofs.read_tree.Goals.{In-Read-tabs, In-Read-root}
+use Rattle.sheets.proofs.SheetLaws.{blanks_inside, before_refused, tabs_refused, Led, tabs_led, root_stands, root_refused, RootAt, root_read, rest_refused, tree_read}
+use Rattle.sheets.proofs.read_tree.Goals.{In_ok-tabs_only, In_ok-root}
 use Rattle.sheets.proofs.read_tree.Goals as goal
 
 -- what leads to the root
-leads : (c : In-Read-tabs) → let start = c.args in Led (modes_of start.table.now) start.s.now start.cells.now c.in-Read.first
-leads c =
-    tabs_led _ _ _ c.blank_lines-blanks.result c.blank_lines-blanks.ensures _ _ _ c.in-Read.is
-    c.tabs_only-tabs.result c.tabs_only-tabs.ensures _ _ _ c.in-Read-tabs.is
+leads : (c : In_ok-tabs_only) → let start = c.args in Led (modes_of start.modes.table.now) start.s.now start.cells.now c.in_ok-first.first
+leads c = tabs_led _ _ _ _ c.in_ok-first.ensures _ c.in_ok-tabs_only.ensures
 
 -- the root
-reads : (c : In-Read-root) → Led (modes_of c.args.table.now) c.args.s.now c.args.cells.now c.in-Read.first
-    → RootAt (modes_of c.args.table.now) c.args.s.now c.args.cells.now c.in-Read-root.end c.in-Read-root.made c.in-Read-root.own c.read_root-root.new.cells
-reads c leads = root_read _ _ _ _ leads _ _ c.new.ensures c.room.ensures _ _ c.read_root-root.ensures _ _ _ c.in-Read-root.is
+reads : (c : In_ok-root) → let start = c.args in let root = c.in_ok-root.root in Led (modes_of start.modes.table.now) start.s.now start.cells.now c.in_ok-first.first
+    → RootAt (modes_of start.modes.table.now) start.s.now start.cells.now root.end root.made root.own c.read_root.new.cells
+reads c l = root_read _ _ _ _ l _ _ c.new.ensures c.room.ensures _ _ c.in_ok-root.ensures _ refl
 
-pub returns-in_default : goal.returns-in_default
-returns-in_default c = before_refused _ _ _ _ c.blank_lines-blanks.ensures _ _ _ c.in_default.is
+pub returns-in_err-first : goal.returns-in_err-first
+returns-in_err-first c = before_refused _ _ _ _ c.in_err-first.ensures (passes c.from_residual.ensures.1) _
 
-pub tabs_only-tabs-requires : goal.tabs_only-tabs-requires
-tabs_only-tabs-requires c =
-    blanks_inside c.args.s.now 0 c.blank_lines-blanks.result
-    c.blank_lines-blanks.ensures (omega arith) _ _ _ c.in-Read.is
+pub tabs_only-requires : goal.tabs_only-requires
+tabs_only-requires c = blanks_inside c.args.s.now 0 (omega arith) _ c.in_ok-first.ensures
 
-pub returns-in_default-tabs : goal.returns-in_default-tabs
-returns-in_default-tabs c =
-    tabs_refused _ _ _ _ c.blank_lines-blanks.ensures _ _ _ c.in-Read.is _
-    c.tabs_only-tabs.ensures _ _ _ c.in_default-tabs.is
+pub returns-in_err-tabs_only : goal.returns-in_err-tabs_only
+returns-in_err-tabs_only c =
+    tabs_refused _ _ _ _ c.in_ok-first.ensures _ c.in_err-tabs_only.ensures (passes c.from_residual-in_err-tabs_only.ensures.1) _
 
-pub read_root-root-requires : goal.read_root-root-requires
-read_root-root-requires c =
-    root_stands _ _ _ _ _ _ c.requires.0 c.requires.1 (leads (goal.at.read_root-root-requires c).In-Read-tabs).inside c.room.ensures
+pub read_root-requires : goal.read_root-requires
+read_root-requires c = root_stands _ _ _ _ c.requires (leads (goal.at.read_root-requires c).In_ok-tabs_only).inside c.room.ensures
 
-pub returns-in_default-root : goal.returns-in_default-root
-returns-in_default-root c =
-    root_refused _ _ _ _ (leads (goal.at.returns-in_default-root c).In-Read-tabs) _ _ c.new.ensures
-    c.room.ensures _ _ c.read_root-root.ensures _ _ c.in_default-root.is
+pub returns-in_err-root : goal.returns-in_err-root
+returns-in_err-root c =
+    root_refused _ _ _ _ (leads (goal.at.returns-in_err-root c).In_ok-tabs_only) _ _ c.new.ensures
+    c.room.ensures _ _ c.in_err-root.ensures _ refl (passes c.from_residual-in_err-root.ensures.1)
 
-pub read_rest-rest-requires : goal.read_rest-rest-requires
-read_rest-rest-requires c =
-    let at = goal.at.read_rest-rest-requires c in
-    (reads at.In-Read-root (leads at.In-Read-tabs)).inside
+pub read_rest-requires : goal.read_rest-requires
+read_rest-requires c =
+    let at = goal.at.read_rest-requires c in
+    (reads at.In_ok-root (leads at.In_ok-tabs_only)).inside
 
-pub returns-in_default-rest : goal.returns-in_default-rest
-returns-in_default-rest c =
-    let at = goal.at.returns-in_default-rest c in
-    rest_refused _ _ _ _ _ _ _ (reads at.In-Read-root (leads at.In-Read-tabs)) _ c.read_rest-rest.ensures _ _ c.in_default-rest.is
+pub returns-in_err-end : goal.returns-in_err-end
+returns-in_err-end c =
+    let at = goal.at.returns-in_err-end c in
+    rest_refused _ _ _ _ _ _ _ (reads at.In_ok-root (leads at.In_ok-tabs_only)) _ c.in_err-end.ensures (passes c.from_residual-in_err-end.ensures.1)
 
 pub returns : goal.returns
 returns c =
     let at = goal.at.returns c in
-    tree_read _ _ _ _ _ _ _ (reads at.In-Read-root (leads at.In-Read-tabs)) _ c.read_rest-rest.ensures _ _ _ c.in-Read-rest.is
+    tree_read _ _ _ _ _ _ _ (reads at.In_ok-root (leads at.In_ok-tabs_only)) _ c.in_ok-end.ensures

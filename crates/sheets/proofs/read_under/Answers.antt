@@ -1,8 +1,10 @@
 -- A law for each way out: the length, the bytes, the tree.
 use Prim.Native.Nat.{◌≤◌}
-use mathlib.Core.Path.{sym, ◌∙◌}
+use mathlib.Core.Path.{refl, sym, ap, ◌∙◌}
 use lib.ListN.{length}
 use borrow.Author.Tests.{ltb-true, ltb-false}
+use Rattle.text.proofs.Answers.{passes}
+use Rattle.std.specs.Prelude.{Err}
 use Rattle.paper.specs.Limits.{sheet_limit}
 use Rattle.sheets.proofs.SheetLaws.{sheet_long, sheet_broken, sheet_refused, sheet_read}
 use Rattle.sheets.proofs.read_under.Goals.{Else-is_too_long}
@@ -13,24 +15,19 @@ short : (c : Else-is_too_long) → length c.args.sheet.now ≤ sheet_limit
 short c = ltb-false _ _ (sym c.is_too_long.ensures ∙ c.if-is_too_long.false)
 
 pub returns-then-is_too_long : goal.returns-then-is_too_long
-returns-then-is_too_long c = sheet_long _ _ _ _ (ltb-true _ _ (sym c.is_too_long.ensures ∙ c.if-is_too_long.true))
+returns-then-is_too_long c = rw c.at.ensures (sheet_long _ _ _ _ (ltb-true _ _ (sym c.is_too_long.ensures ∙ c.if-is_too_long.true)))
 
 pub read_tree-requires : goal.read_tree-requires
-read_tree-requires c =
-    (c.requires, (short (goal.at.read_tree-requires c).Else-is_too_long))
+read_tree-requires c = short (goal.at.read_tree-requires c).Else-is_too_long
 
-pub returns-in-Broken : goal.returns-in-Broken
-returns-in-Broken c =
-    sheet_broken _ _ _ (short (goal.at.returns-in-Broken c).Else-is_too_long) _ _ (sym c.in-Broken.is ∙ c.check.ensures)
+pub returns-in_err-check : goal.returns-in_err-check
+returns-in_err-check c =
+    rw (passes c.from_residual.ensures.1) (sheet_broken _ _ _ (short (goal.at.returns-in_err-check c).Else-is_too_long) _ _ c.in_err-check.ensures)
 
-pub returns-in-Refused : goal.returns-in-Refused
-returns-in-Refused c =
-    sheet_refused _ _ _ (short (goal.at.returns-in-Refused c).Else-is_too_long)
-    (sym c.in-Sound.is ∙ c.check.ensures) _ _
-    c.read_tree.ensures _ _ c.in-Refused.is
+pub returns-in_err-tree : goal.returns-in_err-tree
+returns-in_err-tree c =
+    rw (passes c.from_residual-in_err-tree.ensures.1)
+    (sheet_refused _ _ _ (short (goal.at.returns-in_err-tree c).Else-is_too_long) c.in_ok-check.ensures _ _ c.in_err-tree.ensures _ refl)
 
-pub returns-in-Read : goal.returns-in-Read
-returns-in-Read c =
-    sheet_read _ _ _ (short (goal.at.returns-in-Read c).Else-is_too_long)
-    (sym c.in-Sound.is ∙ c.check.ensures) _ _
-    c.read_tree.ensures _ _ _ c.in-Read.is
+pub returns : goal.returns
+returns c = sheet_read _ _ _ (short (goal.at.returns c).Else-is_too_long) c.in_ok-check.ensures _ _ c.in_ok-tree.ensures _ refl

@@ -1,13 +1,9 @@
--- By the span: the length of its part, or 17.
-use mathlib.Core.Path.{sym, ◌∙◌}
-use Rattle.sheets.proofs.Views.{part_inside, answer_part, answer_none}
+-- By the part: its length, or 17.
+use Rattle.sheets.proofs.Views.{answer_part, answer_none}
 use Rattle.sheets.proofs.view_answer.Goals as goal
 
-pub overflow_sub-result : goal.overflow_sub-result
-overflow_sub-result c = (part_inside _ _ _ _ _ (sym c.in-Part.is ∙ c.span_of.ensures)).0
+pub returns-in-Some : goal.returns-in-Some
+returns-in-Some c = answer_part _ _ _ c.in-Some.ensures
 
-pub returns-in-Part : goal.returns-in-Part
-returns-in-Part c = answer_part _ _ _ _ _ (sym c.in-Part.is ∙ c.span_of.ensures)
-
-pub returns-in-Nowhere : goal.returns-in-Nowhere
-returns-in-Nowhere c = answer_none _ _ _ (sym c.in-Nowhere.is ∙ c.span_of.ensures)
+pub returns-in-None : goal.returns-in-None
+returns-in-None c = rw c.at.ensures (answer_none _ _ _ c.in-None.ensures)

@@ -1,7 +1,9 @@
 -- A law for each way out; where the run of hex digits ends, "}" is due.
-use Prim.Native.Nat.{◌+◌, ◌-◌}
-use mathlib.Core.Path.{sym, ◌∙◌}
+use Prim.Native.Nat.{ℕ, ◌+◌, ◌-◌}
+use mathlib.Core.Path.{sym, ap, ◌∙◌}
 use mathlib.Core.Logic.{inl, inr}
+use Rattle.std.specs.Prelude.{Option}
+use Rattle.std.specs.Option.{ok_or}
 use native.Mathlib.Omega.{arith}
 use borrow.Author.Tests.{eqb-false}
 use Rattle.leaves.proofs.Showing.{no_value, cut_off}
@@ -10,15 +12,15 @@ use Rattle.leaves.proofs.escapes.braced_end.Goals as goal
 
 pub returns-then-end-start-gt-DIGITS : goal.returns-then-end-start-gt-DIGITS
 returns-then-end-start-gt-DIGITS c =
-    λ quote. no_value _ _ _ _ _ _ c.no_value.ensures (omega arith)
+    λ quote. no_value _ _ _ _ _ _ c.at.ensures (omega arith)
     (braced_many quote _ c.args.at _ _ c.end-end.ensures c.if-end-start-gt-DIGITS.true)
 
 pub returns-then-end-s : goal.returns-then-end-s
-returns-then-end-s c = λ quote. cut_off _ _ _ _ _ c.cut.ensures (braced_ends quote _ c.args.at _ _ c.end-end.ensures c.if-end-start-gt-DIGITS.false c.if-end-s.true)
+returns-then-end-s c = λ quote. cut_off _ _ _ _ _ c.at-then-end-s.ensures (braced_ends quote _ c.args.at _ _ c.end-end.ensures c.if-end-start-gt-DIGITS.false c.if-end-s.true)
 
 pub returns-then-s-end-ne125 : goal.returns-then-s-end-ne125
 returns-then-s-end-ne125 c =
-    λ quote. no_value _ _ _ _ _ _ c.no_value-then-s-end-ne125.ensures (omega arith)
+    λ quote. no_value _ _ _ _ _ _ c.at-then-s-end-ne125.ensures (omega arith)
     (elim c.then-s-end-ne125.either [
       | inl other ↦ braced_other quote _ c.args.at _ _ c.end-end.ensures c.if-end-start-gt-DIGITS.false (omega arith) other
       | inr none ↦ braced_none quote _ c.args.at _ _ c.end-end.ensures c.if-end-start-gt-DIGITS.false (omega arith) none.0 none.1
@@ -33,4 +35,4 @@ returns c =
     (braced_judged quote _ c.args.at _ _ c.end-end.ensures c.if-end-start-gt-DIGITS.false (omega arith) c.if-s-end-ne125.false) _
     (c.spells_scalar.ensures
     ∙ sym (braced_spells quote _ c.args.at _ _ c.end-end.ensures c.if-end-start-gt-DIGITS.false (omega arith) c.if-s-end-ne125.false (omega (arith, eqb-false))))
-    _ c.escape_if.ensures
+    _ _ c.at-2.ensures (c.ok_or.ensures.value ∙ ap (λ (o : Option ℕ). ok_or o c.at-2.result) c.then_some.ensures)

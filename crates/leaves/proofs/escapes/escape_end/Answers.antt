@@ -1,5 +1,8 @@
 -- A law for each way out; the fixed bytes say which kind of escape it is.
-use mathlib.Core.Path.{sym, ◌∙◌}
+use Prim.Native.Nat.{ℕ}
+use mathlib.Core.Path.{sym, ap, ◌∙◌}
+use Rattle.std.specs.Prelude.{Option}
+use Rattle.std.specs.Option.{ok_or}
 use native.Mathlib.Omega.{arith}
 use Rattle.paper.specs.Bytes.{bytes}
 use Rattle.leaves.proofs.Showing.{cut_off}
@@ -22,10 +25,10 @@ returns-then-starts_with-2 c =
     (sym c.starts_with-2.ensures ∙ c.if-starts_with-2.true)) (c.four_end.ensures _)
 
 pub returns-then-s-letter : goal.returns-then-s-letter
-returns-then-s-letter c = cut_off _ _ _ _ _ c.cut.ensures (escape_ends _ _ _ c.requires.0 c.requires.1 c.if-s-letter.true)
+returns-then-s-letter c = cut_off _ _ _ _ _ c.at.ensures (escape_ends _ _ _ c.requires.0 c.requires.1 c.if-s-letter.true)
 
 pub returns : goal.returns
 returns c =
     by_rule _ _ _ _ _ _ (omega arith) (omega arith)
     (letter_judged _ _ _ c.requires.0 c.requires.1 c.if-s-letter.false (sym c.starts_with-2.ensures ∙ c.if-starts_with-2.false)) _
-    c.is_escaped.ensures _ c.escape_if.ensures
+    c.is_escaped.ensures _ _ c.at-2.ensures (c.ok_or.ensures.value ∙ ap (λ (o : Option ℕ). ok_or o c.at-2.result) c.then_some.ensures)

@@ -5,9 +5,6 @@ use Rattle.paper.specs.Values.{in_ranges}
 use Rattle.leaves.proofs.IriParts.{iri_taken, iri_out, iri_barred, iri_first_gap, iri_planes}
 use Rattle.leaves.proofs.iris.may_stand.Goals as goal
 
-pub returns-in-0-to-127 : goal.returns-in-0-to-127
-returns-in-0-to-127 c = c.may_stand_ascii.ensures
-
 pub returns-in-65536-to-917503 : goal.returns-in-65536-to-917503
 returns-in-65536-to-917503 c = iri_planes _ (omega arith) (omega arith)
 

@@ -1,39 +1,43 @@
 -- A law for each way out, by the first byte.
 use Prim.Native.Nat.{◌+◌}
-use mathlib.Core.Path.{◌≡◌, sym, ◌∙◌}
+use mathlib.Core.Path.{sym, ◌∙◌}
 use native.Mathlib.Omega.{arith}
-use Rattle.text.specs.Steps.{step_at}
+use Rattle.text.proofs.Answers.{passes}
 use Rattle.text.proofs.Steps.{stepped, step_from_lem}
+use Rattle.std.proofs.lemmas.Grind.{common_steps}
+use Rattle.std.proofs.lemmas.Option.{gets}
 use Rattle.leaves.proofs.Showing.{no_value, cut_off}
-use Rattle.leaves.proofs.Quotes.{character_ends, character_none, character_refused, character_escaped, character_direct, character_unread}
+use Rattle.leaves.proofs.Quotes.{character_ends, character_none, character_refused, character_escaped, character_direct, character_unread, broken_of, unbroken}
 use Rattle.leaves.proofs.quoted.character_end.Goals as goal
 
-pub returns-then-s-first : goal.returns-then-s-first
-returns-then-s-first c = cut_off _ _ _ _ _ c.cut.ensures (character_ends _ _ c.if-s-first.true)
+pub returns-in-None : goal.returns-in-None
+returns-in-None c = cut_off _ _ _ _ _ c.at.ensures (character_ends _ _ c.in-None.ensures.lookup.3)
 
-pub escape_end-escape-requires : goal.escape_end-escape-requires
-escape_end-escape-requires c = (c.if-s-first.false, c.in-92.is)
+pub returns-in-Some-eq39 : goal.returns-in-Some-eq39
+returns-in-Some-eq39 c =
+    no_value _ _ _ _ _ _ c.at-in-Some-eq39.ensures (grind (arith, common_steps, gets))
+    (character_none c.args.s.now (c.args.at + 1) (grind (arith, common_steps, gets)) (broken_of _ (λ l r. grind (arith, common_steps, gets))))
 
-pub returns-in_default-escape : goal.returns-in_default-escape
-returns-in_default-escape c = character_refused _ _ c.if-s-first.false c.in-92.is _ c.escape_end-escape.ensures _ _ c.in_default-escape.is
+pub returns-in_err-escape_end-in-Some-eq92 : goal.returns-in_err-escape_end-in-Some-eq92
+returns-in_err-escape_end-in-Some-eq92 c =
+    let got = c.in-Some-eq92.ensures.lookup.3 in
+    rw (passes c.from_residual.ensures.1)
+    (character_refused _ _ got.0 (sym (got.1 0) ∙ c.in-Some-eq92.field-0-test) _ c.escape_end.ensures _ c.in_err-escape_end-in-Some-eq92.was)
 
-pub returns-in_default-step : goal.returns-in_default-step
-returns-in_default-step c =
-    let said : c.step.result ≡ step_at c.args.s.now (c.args.at + 1) = step_from_lem _ c.new-cursor.ensures c.step.ensures in
-    no_value _ _ _ _ _ _ c.no_value-in_default-step.ensures (omega arith)
-    (character_unread _ _ c.if-s-first.false c.in_default.in_default-own.rest.0.1 c.in_default.in_default-own.rest.1 _ said
-    c.in_default-step.not-Scalar)
-
-pub returns-in-39 : goal.returns-in-39
-returns-in-39 c = no_value _ _ _ _ _ _ c.no_value.ensures (omega arith) (character_none _ _ c.if-s-first.false c.in-39.is)
-
-pub returns-in-Found : goal.returns-in-Found
-returns-in-Found c =
-    character_escaped _ _ c.if-s-first.false c.in-92.is _ c.escape_end-escape.ensures _ _ c.in-Found.is
+pub returns-in_ok-escape_end-in-Some-eq92 : goal.returns-in_ok-escape_end-in-Some-eq92
+returns-in_ok-escape_end-in-Some-eq92 c =
+    let got = c.in-Some-eq92.ensures.lookup.3 in
+    character_escaped _ _ got.0 (sym (got.1 0) ∙ c.in-Some-eq92.field-0-test) _ c.escape_end.ensures _ c.in_ok-escape_end-in-Some-eq92.was
     c.closing_quote.ensures
 
 pub returns-in-Scalar : goal.returns-in-Scalar
 returns-in-Scalar c =
-    let said : c.step.result ≡ step_at c.args.s.now (c.args.at + 1) = step_from_lem _ c.new-cursor.ensures c.step.ensures in
-    character_direct _ _ c.if-s-first.false c.in_default.in_default-own.rest.0.1 c.in_default.in_default-own.rest.1 _ _
-    (stepped _ _ _ _ (sym c.in-Scalar.is ∙ said)) c.closing_quote-in_default.ensures
+    let got = c.in-Some.ensures.lookup.3 in
+    character_direct _ _ got.0 (unbroken _ (omega (arith, got.1 0))) (omega (arith, got.1 0)) _ _
+    (stepped _ _ _ _ (step_from_lem _ c.new.ensures c.in-Scalar.ensures)) c.closing_quote-in-Scalar.ensures
+
+pub returns-in_default : goal.returns-in_default
+returns-in_default c =
+    let got = c.in-Some.ensures.lookup.3 in
+    no_value _ _ _ _ _ _ c.at-in_default.ensures (omega arith)
+    (character_unread _ _ got.0 (unbroken _ (omega (arith, got.1 0))) (omega (arith, got.1 0)) _ (step_from_lem _ c.new.ensures c.step.ensures) c.in_default.not-Scalar)

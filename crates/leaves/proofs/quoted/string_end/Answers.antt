@@ -1,5 +1,6 @@
 use mathlib.Core.Path.{refl}
 use native.Mathlib.Omega.{arith}
+use Rattle.text.proofs.Answers.{passes}
 use Rattle.leaves.proofs.Showing.{finds, no_value, cut_off}
 use Rattle.leaves.proofs.Quotes.{string_ends, string_closes, string_breaks, string_itself, string_refused, string_escaped}
 use Rattle.leaves.proofs.Plainly.{string_plain}
@@ -9,40 +10,28 @@ pub loop-i-init : goal.loop-i-init
 loop-i-init c = (c.plain_end-i.ensures.1, c.plain_end-i.ensures.2, λ r e. string_plain _ _ _ c.plain_end-i.ensures e)
 
 pub returns-in-34 : goal.returns-in-34
-returns-in-34 c = c.loop-i.invariant.2 _ (finds _ _ _ _ _ _ _ (omega arith) (omega arith) refl (string_closes _ _ c.loop-i-test.true c.in-34.is))
+returns-in-34 c = c.loop-i.invariant.2 _ (finds _ _ _ _ _ _ (omega arith) (omega arith) refl (string_closes _ _ c.loop-i-test.true c.in-34.is))
 
-pub escape_end-escape-requires : goal.escape_end-escape-requires
-escape_end-escape-requires c = (c.loop-i-test.true, c.in-92.is)
-
-pub returns-in_default-escape : goal.returns-in_default-escape
-returns-in_default-escape c =
-    c.loop-i.invariant.2 _ (string_refused _ _ c.loop-i-test.true c.in-92.is _ c.escape_end-escape.ensures _ _
-    c.in_default-escape.is)
-
-pub plain_end-i-requires-in-92 : goal.plain_end-i-requires-in-92
-plain_end-i-requires-in-92 c = (c.escape_end-escape.ensures.ahead _ _ c.in-Found.is).1
-
-pub loop-i-smaller-in-92 : goal.loop-i-smaller-in-92
-loop-i-smaller-in-92 c = omega (arith, c.escape_end-escape.ensures.ahead _ _ c.in-Found.is, c.plain_end-i-in-92.ensures)
+pub returns-in_err-end-in-92 : goal.returns-in_err-end-in-92
+returns-in_err-end-in-92 c =
+    rw (passes c.from_residual.ensures.1) (c.loop-i.invariant.2 _
+    (string_refused _ _ c.loop-i-test.true c.in-92.is _ c.escape_end.ensures _ c.in_err-end-in-92.was))
 
 pub loop-i-preserved-in-92 : goal.loop-i-preserved-in-92
 loop-i-preserved-in-92 c =
-    let ahead = c.escape_end-escape.ensures.ahead _ _ c.in-Found.is in
+    let ahead = c.escape_end.ensures.ahead _ c.in_ok-end-in-92.was in
     let run = c.plain_end-i-in-92.ensures in (
       omega arith,
       run.2,
       λ r e. c.loop-i.invariant.2 r
-          (string_escaped _ _ c.loop-i-test.true c.in-92.is _ c.escape_end-escape.ensures _ _
-          c.in-Found.is (string_plain _ _ _ run e)),
+          (string_escaped _ _ c.loop-i-test.true c.in-92.is _ c.escape_end.ensures _
+          c.in_ok-end-in-92.was (string_plain _ _ _ run e)),
     )
 
 pub returns-in-10 : goal.returns-in-10
 returns-in-10 c =
-    c.loop-i.invariant.2 _ (no_value _ _ _ _ _ _ c.no_value.ensures (omega arith)
+    c.loop-i.invariant.2 _ (no_value _ _ _ _ _ _ c.at.ensures (omega arith)
     (string_breaks _ _ c.loop-i-test.true c.in-10.is))
-
-pub loop-i-smaller : goal.loop-i-smaller
-loop-i-smaller c = omega (arith, c.plain_end-i-in_default.ensures)
 
 pub loop-i-preserved : goal.loop-i-preserved
 loop-i-preserved c =
@@ -55,4 +44,4 @@ loop-i-preserved c =
     )
 
 pub returns : goal.returns
-returns c = c.loop-i.invariant.2 _ (cut_off _ _ _ _ _ c.cut.ensures (string_ends _ _ c.loop-i-test.false))
+returns c = c.loop-i.invariant.2 _ (cut_off _ _ _ _ _ c.at-2.ensures (string_ends _ _ c.loop-i-test.false))

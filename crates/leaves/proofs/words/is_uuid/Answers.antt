@@ -1,51 +1,48 @@
--- One group after another: what the word is from each place on.
-use Prim.Native.Nat.{ℕ}
-use mathlib.Core.Path.{◌≡◌, refl, sym, ◌∙◌}
-use mathlib.Core.List.{List, [], ◌∷◌}
-use native.Mathlib.Omega.{arith}
-use lib.ListN.{drop}
-use Rattle.paper.specs.Values.{hex_groups, is_uuid}
-use Rattle.leaves.proofs.Groups.{group_off, group_on, last_digits, other_size}
+-- The size, and one group after another.
+use mathlib.Core.Path.{◌≡◌, sym, ◌∙◌}
+use mathlib.Core.Bool.{◌&&◌}
+use lib.Dec.{eqb}
+use lib.ListN.{length, drop}
+use borrow.Author.Tests.{eq-eqb, ne_eqb}
+use Rattle.leaves.specs.Kinds.{is_group}
+use Rattle.leaves.proofs.Groups.{both_first, both_second, uuid_of, uuid_not}
 use Rattle.leaves.proofs.words.is_uuid.Goals as goal
+use Rattle.leaves.proofs.words.is_uuid.Goals.{Joined-is_group-3}
+use Rattle.leaves.proofs.words.is_uuid.Goals.{then-w-eq36, else-w-eq36, then-is_group, else-is_group, then-is_group-2, else-is_group-2, then-is_group-3, else-is_group-3}
 
-pub returns-then-w-ne36 : goal.returns-then-w-ne36
-returns-then-w-ne36 c = other_size _ c.if-w-ne36.true
+sized : (c : Joined-is_group-3) → c.if-w-eq36.value ≡ (eqb (length c.args.w.now) 36 && is_group 8 c.args.w.now)
+sized c = elim c.if-w-eq36.branch [
+  | then-w-eq36 w ↦ w.value-is ∙ both_second (eq-eqb _ _ w.if-w-eq36.true) w.is_group.ensures
+  | else-w-eq36 w ↦ both_first _ (ne_eqb _ _ w.if-w-eq36.false) w.value-is
+]
 
-pub returns-then-not-is_group : goal.returns-then-not-is_group
-returns-then-not-is_group c = group_off _ 0 8 4 _ refl (omega arith) (sym c.is_group.ensures ∙ c.if-not-is_group.true)
+second : (c : Joined-is_group-3) → c.if-is_group.value ≡ (c.if-w-eq36.value && is_group 4 (drop 9 c.args.w.now))
+second c = elim c.if-is_group.branch [
+  | then-is_group w ↦ w.value-is ∙ both_second w.if-is_group.true w.is_group-then-is_group.ensures
+  | else-is_group w ↦ both_first _ w.if-is_group.false w.value-is
+]
 
-pub returns-then-not-is_group-2 : goal.returns-then-not-is_group-2
-returns-then-not-is_group-2 c =
-    let word1 : List ℕ = c.args.w.now in
-    let rest1 : is_uuid word1 ≡ hex_groups (4 ∷ 4 ∷ 4 ∷ 12 ∷ []) (drop 9 word1) = group_on word1 0 8 4 _ refl (sym c.is_group.ensures ∙ c.if-not-is_group.false) in
-    group_off _ 9 4 4 _ rest1 (omega arith) (sym c.is_group-2.ensures ∙ c.if-not-is_group-2.true)
+third : (c : Joined-is_group-3) → c.if-is_group-2.value ≡ (c.if-is_group.value && is_group 4 (drop 14 c.args.w.now))
+third c = elim c.if-is_group-2.branch [
+  | then-is_group-2 w ↦ w.value-is ∙ both_second w.if-is_group-2.true w.is_group-then-is_group-2.ensures
+  | else-is_group-2 w ↦ both_first _ w.if-is_group-2.false w.value-is
+]
 
-pub returns-then-not-is_group-3 : goal.returns-then-not-is_group-3
-returns-then-not-is_group-3 c =
-    let word1 : List ℕ = c.args.w.now in
-    let word2 : List ℕ = word1 in
-    let rest1 : is_uuid word1 ≡ hex_groups (4 ∷ 4 ∷ 4 ∷ 12 ∷ []) (drop 9 word1) = group_on word1 0 8 4 _ refl (sym c.is_group.ensures ∙ c.if-not-is_group.false) in
-    let rest2 : is_uuid word2 ≡ hex_groups (4 ∷ 4 ∷ 12 ∷ []) (drop 14 word2) = group_on word2 9 4 4 _ rest1 (sym c.is_group-2.ensures ∙ c.if-not-is_group-2.false) in
-    group_off _ 14 4 4 _ rest2 (omega arith) (sym c.is_group-3.ensures ∙ c.if-not-is_group-3.true)
+fourth : (c : Joined-is_group-3) → c.if-is_group-3.value ≡ (c.if-is_group-2.value && is_group 4 (drop 19 c.args.w.now))
+fourth c = elim c.if-is_group-3.branch [
+  | then-is_group-3 w ↦ w.value-is ∙ both_second w.if-is_group-3.true w.is_group-then-is_group-3.ensures
+  | else-is_group-3 w ↦ both_first _ w.if-is_group-3.false w.value-is
+]
 
-pub returns-then-not-is_group-4 : goal.returns-then-not-is_group-4
-returns-then-not-is_group-4 c =
-    let word1 : List ℕ = c.args.w.now in
-    let word2 : List ℕ = word1 in
-    let word3 : List ℕ = word2 in
-    let rest1 : is_uuid word1 ≡ hex_groups (4 ∷ 4 ∷ 4 ∷ 12 ∷ []) (drop 9 word1) = group_on word1 0 8 4 _ refl (sym c.is_group.ensures ∙ c.if-not-is_group.false) in
-    let rest2 : is_uuid word2 ≡ hex_groups (4 ∷ 4 ∷ 12 ∷ []) (drop 14 word2) = group_on word2 9 4 4 _ rest1 (sym c.is_group-2.ensures ∙ c.if-not-is_group-2.false) in
-    let rest3 : is_uuid word3 ≡ hex_groups (4 ∷ 12 ∷ []) (drop 19 word3) = group_on word3 14 4 4 _ rest2 (sym c.is_group-3.ensures ∙ c.if-not-is_group-3.false) in
-    group_off _ 19 4 12 _ rest3 (omega arith) (sym c.is_group-4.ensures ∙ c.if-not-is_group-4.true)
+all_four : (c : Joined-is_group-3) → let w = c.args.w.now in
+    c.if-is_group-3.value
+    ≡ ((((eqb (length w) 36 && is_group 8 w) && is_group 4 (drop 9 w)) && is_group 4 (drop 14 w)) && is_group 4 (drop 19 w))
+all_four c = rw (fourth c, third c, second c, sized c)
 
-pub returns : goal.returns
-returns c =
-    let word1 : List ℕ = c.args.w.now in
-    let word2 : List ℕ = word1 in
-    let word3 : List ℕ = word2 in
-    let word4 : List ℕ = word3 in
-    let rest1 : is_uuid word1 ≡ hex_groups (4 ∷ 4 ∷ 4 ∷ 12 ∷ []) (drop 9 word1) = group_on word1 0 8 4 _ refl (sym c.is_group.ensures ∙ c.if-not-is_group.false) in
-    let rest2 : is_uuid word2 ≡ hex_groups (4 ∷ 4 ∷ 12 ∷ []) (drop 14 word2) = group_on word2 9 4 4 _ rest1 (sym c.is_group-2.ensures ∙ c.if-not-is_group-2.false) in
-    let rest3 : is_uuid word3 ≡ hex_groups (4 ∷ 12 ∷ []) (drop 19 word3) = group_on word3 14 4 4 _ rest2 (sym c.is_group-3.ensures ∙ c.if-not-is_group-3.false) in
-    let rest4 : is_uuid word4 ≡ hex_groups (12 ∷ []) (drop 24 word4) = group_on word4 19 4 12 _ rest3 (sym c.is_group-4.ensures ∙ c.if-not-is_group-4.false) in
-    last_digits _ rest4 (omega arith) _ c.end.ensures.0
+pub returns-then-is_group-4 : goal.returns-then-is_group-4
+returns-then-is_group-4 c =
+    uuid_of _ _ c.end.ensures.0 (sym (all_four (goal.at.returns-then-is_group-4 c).Joined-is_group-3) ∙ c.if-is_group-4.true)
+
+pub returns-else-is_group-4 : goal.returns-else-is_group-4
+returns-else-is_group-4 c =
+    c.if-is_group-4.false ∙ uuid_not _ (sym (all_four (goal.at.returns-else-is_group-4 c).Joined-is_group-3) ∙ c.if-is_group-4.false)

@@ -1,13 +1,10 @@
--- The invariant: the word from `i` on ends where that from `at` on does; the measure is what is left of the input.
-use Prim.Native.Nat.{◌+◌, ◌≤◌, ◌-◌}
+-- The invariant: the word from `i` on ends where that from `at` on does.
+use Prim.Native.Nat.{◌+◌}
 use mathlib.Core.Path.{◌≡◌}
-use lib.ListN.{length, drop}
+use lib.ListN.{drop}
 use Rattle.paper.specs.ReadingValues.{word_length}
 use Rattle.leaves.specs.Kinds.{enders_of}
 use Rattle.leaves.proofs.words.word_end.Given as goal
 
 abbrev pub invariant-loop-i : goal.invariant-loop-i
-invariant-loop-i l = (l.at ≤ l.i) × (l.i ≤ length l.s) × (l.i + word_length (enders_of l.around) (drop l.i l.s) ≡ l.at + word_length (enders_of l.around) (drop l.at l.s))
-
-abbrev pub decreases-loop-i : goal.decreases-loop-i
-decreases-loop-i l = length l.s - l.i
+invariant-loop-i l = l.i + word_length (enders_of l.around) (drop l.i l.s) ≡ l.at + word_length (enders_of l.around) (drop l.at l.s)

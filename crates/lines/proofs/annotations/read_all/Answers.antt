@@ -1,7 +1,10 @@
-use mathlib.Core.Path.{refl, ap}
-use mathlib.Core.Bool.{not}
+use mathlib.Core.Path.{refl, sym, ◌∙◌}
+use mathlib.Core.Bool.{true}
 use native.Mathlib.Omega.{arith}
-use Rattle.lines.proofs.NoteRuns.{notes_begin, notes_over, mark_inside, lent_fits, notes_refused, note_ahead, notes_on}
+use Rattle.text.proofs.Answers.{passes}
+use Rattle.std.specs.Prelude.{Ok, Err}
+use Rattle.lines.proofs.NoteRuns.{Turn, notes_begin, notes_over, mark_inside, lent_fits, notes_refused, note_ahead, notes_on}
+use Rattle.lines.proofs.annotations.read_all.Goals.{Else-not-starts_with}
 use Rattle.lines.proofs.annotations.read_all.Goals as goal
 
 pub loop-slot-init : goal.loop-slot-init
@@ -9,43 +12,31 @@ loop-slot-init c = notes_begin _ _ _ _ c.requires.0.inside c.requires.1.inside
 
 pub returns-then-not-starts_with : goal.returns-then-not-starts_with
 returns-then-not-starts_with c =
-    notes_over _ _ _ _ _ _ _ c.loop-slot.invariant _ c.end-mark.ensures _ c.starts_with.ensures (ap not c.if-not-starts_with.true) _ refl
+    notes_over (record { so_far = c.loop-slot.invariant; run = c.tab_end-mark.ensures; asked = sym c.starts_with.ensures ∙ c.if-not-starts_with.true })
+
+-- in this turn an annotation is due
+turn : (c : Else-not-starts_with)
+    → Turn c.args.s.now c.args.at c.args.cells.now c.args.slot c.loop-slot.cells c.loop-slot.i c.loop-slot.made c.tab_end-mark.result true
+turn c = record { so_far = c.loop-slot.invariant; run = c.tab_end-mark.ensures; asked = sym c.starts_with.ensures ∙ c.if-not-starts_with.false }
 
 pub overflow_add-mark : goal.overflow_add-mark
-overflow_add-mark c =
-    let there = mark_inside _ _ _ _ _ _ _ c.loop-slot.invariant _ c.end-mark.ensures _ c.starts_with.ensures (ap not c.if-not-starts_with.false) in
-    omega arith
+overflow_add-mark c = let there = mark_inside (turn (goal.at.overflow_add-mark c).Else-not-starts_with) in omega arith
 
-pub after-requires : goal.after-requires
-after-requires c = omega (arith, c.loop-slot.invariant.few, c.requires.1.few)
+pub read_one-requires : goal.read_one-requires
+read_one-requires c =
+    let this = turn (goal.at.read_one-requires c).Else-not-starts_with in
+    (record { within = c.requires.0.within; inside = mark_inside this }, lent_fits this _ c.after.ensures c.requires.1)
 
-pub read_one-one-requires : goal.read_one-one-requires
-read_one-one-requires c =
-    let there = mark_inside _ _ _ _ _ _ _ c.loop-slot.invariant _ c.end-mark.ensures _ c.starts_with.ensures (ap not c.if-not-starts_with.false) in (
-      record { within = c.requires.0.within; inside = there },
-      lent_fits _ _ _ _ _ _ _ c.loop-slot.invariant _ c.end-mark.ensures _ c.starts_with.ensures (ap not c.if-not-starts_with.false) _
-          c.after.ensures c.requires.1,
-    )
-
-pub returns-in_default : goal.returns-in_default
-returns-in_default c =
-    notes_refused _ _ _ _ _ _ _ c.loop-slot.invariant _ c.end-mark.ensures _ c.starts_with.ensures (ap not c.if-not-starts_with.false) _
-    c.after.ensures _ _ c.read_one-one.ensures _ _ c.in_default.is
-
-pub overflow_add-made : goal.overflow_add-made
-overflow_add-made c =
-    omega (arith, c.loop-slot.invariant.few, c.requires.1.few)
+pub returns-in_err-i : goal.returns-in_err-i
+returns-in_err-i c =
+    notes_refused (turn (goal.at.returns-in_err-i c).Else-not-starts_with) _ c.after.ensures (Err _) _ c.in_err-i.ensures _ refl _
+    (passes c.from_residual.ensures.1)
 
 pub loop-slot-smaller : goal.loop-slot-smaller
 loop-slot-smaller c =
-    let n =
-    note_ahead _ _ _ _ _ _ _ c.loop-slot.invariant _ c.end-mark.ensures _ c.starts_with.ensures (ap not c.if-not-starts_with.false) _
-    c.after.ensures _ _ c.read_one-one.ensures _ _ _
-    c.in-Read.is in
+    let n = note_ahead (turn (goal.at.loop-slot-smaller c).Else-not-starts_with) _ c.after.ensures (Ok _) _ c.in_ok-i.ensures _ refl in
     omega arith
 
 pub loop-slot-preserved : goal.loop-slot-preserved
 loop-slot-preserved c =
-    notes_on _ _ _ _ _ _ _ c.loop-slot.invariant _ c.end-mark.ensures _ c.starts_with.ensures (ap not c.if-not-starts_with.false) _
-    c.after.ensures _ _ c.read_one-one.ensures _ _ _
-    c.in-Read.is c.read_one-one.auto.cells
+    notes_on (turn (goal.at.loop-slot-preserved c).Else-not-starts_with) _ c.after.ensures (Ok _) _ c.in_ok-i.ensures _ refl c.read_one.auto.cells

@@ -4,8 +4,8 @@ use lib.ListN.{length}
 use Rattle.lines.proofs.Blanks.{Lines}
 use Rattle.lines.proofs.blank.blank_lines.Given as goal
 
-abbrev pub invariant-loop-line : goal.invariant-loop-line
-invariant-loop-line l = Lines l.s l.at l.i
+abbrev pub invariant-loop-i : goal.invariant-loop-i
+invariant-loop-i l = Lines l.s l.at l.i
 
-abbrev pub decreases-loop-line : goal.decreases-loop-line
-decreases-loop-line l = length l.s - l.i
+abbrev pub decreases-loop-i : goal.decreases-loop-i
+decreases-loop-i l = length l.s - l.i

@@ -5,8 +5,8 @@ use Rattle.lines.specs.Parts.{part}
 use Rattle.lines.proofs.ContentRun.{LinesTo}
 use Rattle.lines.proofs.content.read_content.Given as goal
 
-abbrev pub invariant-loop-mark : goal.invariant-loop-mark
-invariant-loop-mark l = LinesTo l.s (part l.s l.from l.to) l.tabs l.start l.i
+abbrev pub invariant-loop-end : goal.invariant-loop-end
+invariant-loop-end l = LinesTo l.s (part l.s l.from l.to) l.tabs l.start l.i
 
-abbrev pub decreases-loop-mark : goal.decreases-loop-mark
-decreases-loop-mark l = length l.s - l.i
+abbrev pub decreases-loop-end : goal.decreases-loop-end
+decreases-loop-end l = length l.s - l.i

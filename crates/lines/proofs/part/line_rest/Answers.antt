@@ -13,7 +13,7 @@ none = refl
 pub returns-then-starts_with : goal.returns-then-starts_with
 returns-then-starts_with c =
     let starts = sym c.starts_with.ensures ∙ c.if-starts_with.true in
-    rest_lf _ _ _ (no_blanks lf _ _ none starts) starts _ c.past.ensures
+    rest_lf _ _ _ (no_blanks lf _ _ none starts) starts
 
 pub returns : goal.returns
 returns c = c.line_end.ensures ∙ rest_from _ _ _ c.end-end.ensures

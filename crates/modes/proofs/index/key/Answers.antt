@@ -1,18 +1,15 @@
--- The two letters are bytes, so that their sum fits; a name without letters has the key 0.
-use Prim.Native.Nat.{◌-◌}
+-- The first letter and the last, added up; a name without letters has the key 0.
 use mathlib.Core.Path.{refl}
 use native.Mathlib.Omega.{arith}
-use lib.ListN.{length}
 use Rattle.modes.specs.Index.{key_of}
 use Rattle.modes.proofs.Numbers.{key_none, key_few}
 use Rattle.modes.proofs.index.key.Goals as goal
 
-pub returns-then-size-eq0 : goal.returns-then-size-eq0
-returns-then-size-eq0 c = (key_none c.args.name.now c.if-size-eq0.true, omega arith)
-
-pub overflow_add-result : goal.overflow_add-result
-overflow_add-result c = omega (arith, c.type_inv.name 0, c.type_inv.name (length c.args.name.now - 1))
+pub returns-in_default : goal.returns-in_default
+returns-in_default c = let none = c.in_default.ensures.item in (key_none _ (omega arith), omega arith)
 
 pub returns : goal.returns
 unfolding key_of
-returns c = (refl, key_few c.args.name.now)
+returns c =
+    let last = c.in-Some.ensures.item.3 in
+    rw (last.1 0) (refl, key_few c.args.name.now)

@@ -2,7 +2,6 @@
 -- The loop over siblings has the invariant that what is left of the body stands from entry `next` on, and counts down its elements. Assumes nothing.
 use Prim.Native.Nat.{ℕ, ◌+◌, ◌*◌}
 use mathlib.Core.Path.{◌≡◌}
-use lib.ListN.{length}
 use Rattle.paper.specs.Tree.{Body}
 use Rattle.paper.specs.Entries.{body_size, body_count}
 use Rattle.printing.specs.Standing.{Ends, OfBody}
@@ -17,10 +16,10 @@ abbrev pub decreases-put_concept : goal.decreases-put_concept
 decreases-put_concept l = 2 * l.nesting.left
 
 abbrev pub invariant-put_body-loop-left : goal.invariant-put_body-loop-left
-invariant-put_body-loop-left l = (length l.out ≡ length l.initial.out) ×
-    ((parent place : ℕ) (body : Body) → OfBody l.s l.cells l.n parent place body → KeepsBody l.nesting.left body
-    → Ends l.cells (l.n + body_size body) → l.elements ≡ body_count body
-    → BodyLeft l.s l.cells l.depth l.nesting.left (l.n + body_size body) l.initial.out l.at body l.left l.next l.between l.out l.to)
+invariant-put_body-loop-left l =
+    (parent place : ℕ) (body : Body) → OfBody l.laid.s.now l.laid.cells.now l.n parent place body → KeepsBody l.nesting.left body
+    → Ends l.laid.cells.now (l.n + body_size body) → l.elements ≡ body_count body
+    → BodyLeft l.laid.s.now l.laid.cells.now l.depth l.nesting.left (l.n + body_size body) l.initial.page body l.left l.next l.between l.page
 
 abbrev pub decreases-put_body-loop-left : goal.decreases-put_body-loop-left
 decreases-put_body-loop-left l = l.left

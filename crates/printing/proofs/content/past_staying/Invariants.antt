@@ -4,8 +4,8 @@ use lib.ListN.{length}
 use Rattle.printing.specs.Texts.{LinesStay}
 use Rattle.printing.proofs.content.past_staying.Given as goal
 
-abbrev pub invariant-loop-i : goal.invariant-loop-i
-invariant-loop-i l = LinesStay l.lines l.cut l.tabs l.at l.i
+abbrev pub invariant-loop-next : goal.invariant-loop-next
+invariant-loop-next l = LinesStay l.lines l.cut l.tabs l.at l.i
 
-abbrev pub decreases-loop-i : goal.decreases-loop-i
-decreases-loop-i l = length l.lines - l.i
+abbrev pub decreases-loop-next : goal.decreases-loop-next
+decreases-loop-next l = length l.lines - l.i

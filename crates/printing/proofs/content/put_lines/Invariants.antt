@@ -12,9 +12,9 @@ use Rattle.printing.proofs.LineTexts.{line_run}
 use Rattle.printing.proofs.content.put_lines.Given as goal
 
 abbrev pub invariant-loop-i : goal.invariant-loop-i
-invariant-loop-i l = (length l.out ≡ length l.initial.out) ×
-    ((t : ℕ) (ls : List Line) → l.lines ≡ lines_onto t ls [] → l.cut ≡ suc t → all line_rule ls ≡ true
-    → Left (line_run t l.tabs) l.lines l.initial.out l.at ls l.i l.out l.to)
+invariant-loop-i l =
+    (t : ℕ) (ls : List Line) → l.lines ≡ lines_onto t ls [] → l.cut ≡ suc t → all line_rule ls ≡ true
+    → Left (line_run t l.tabs) l.lines l.initial.page ls l.i l.page
 
 abbrev pub decreases-loop-i : goal.decreases-loop-i
 decreases-loop-i l = length l.lines - l.i

@@ -5,6 +5,3 @@ use Rattle.printing.proofs.content.tabs_at.Goals as goal
 
 pub returns-then-s-at : goal.returns-then-s-at
 returns-then-s-at c = (no_tabs _ _ c.if-s-at.true, omega arith)
-
-pub returns : goal.returns
-returns c = (omega (arith, c.tab_end.ensures.0), omega (arith, c.tab_end.ensures))

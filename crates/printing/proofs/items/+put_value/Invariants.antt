@@ -3,7 +3,6 @@ use Prim.Native.Nat.{ℕ, ◌+◌, ◌-◌, ◌≤◌}
 use mathlib.Core.List.{List}
 use mathlib.Core.Bool.{true}
 use mathlib.Core.Path.{◌≡◌}
-use lib.ListN.{length}
 use Rattle.paper.specs.Values.{Value, value_rule, bracket_depth}
 use Rattle.printing.specs.Standing.{OfValue}
 use Rattle.printing.proofs.ItemLaws.{Items}
@@ -12,10 +11,7 @@ use Rattle.printing.proofs.items.+put_value.Given as goal
 abbrev pub decreases-put_value : goal.decreases-put_value
 decreases-put_value l = l.brackets
 
-abbrev pub invariant-loop-left : goal.invariant-loop-left
-invariant-loop-left l = (length l.out ≡ length l.initial.out) × (l.n + 1 ≤ l.next) ×
-    ((also : List ℕ) (v : Value) → OfValue l.s l.cells l.n v → value_rule also v ≡ true → bracket_depth v ≤ l.brackets
-    → Items l.s l.cells l.kind l.n (l.brackets - 1) v l.initial.out l.initial.to l.left l.next l.out l.to)
-
-abbrev pub decreases-loop-left : goal.decreases-loop-left
-decreases-loop-left l = l.left
+abbrev pub invariant-loop-i : goal.invariant-loop-i
+invariant-loop-i l = (l.n + 1 ≤ l.next) ×
+    ((also : List ℕ) (v : Value) → OfValue l.laid.s.now l.laid.cells.now l.n v → value_rule also v ≡ true → bracket_depth v ≤ l.brackets
+    → Items l.laid.s.now l.laid.cells.now l.kind l.n (l.brackets - 1) v l.i-end l.initial.page l.i l.next l.page)

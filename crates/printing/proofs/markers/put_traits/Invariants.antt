@@ -1,6 +1,5 @@
 -- The invariant: which traits are left, and whether the last one before them ends in "/".
--- The measure is how many entries are left in the cells.
--- Assumes nothing.
+-- The measure is how many entries are left in the cells. Assumes nothing.
 use Prim.Native.Nat.{ℕ, ◌+◌, ◌-◌, ◌/◌, ◌≤◌}
 use mathlib.Core.List.{List}
 use mathlib.Core.Bool.{true}
@@ -17,11 +16,10 @@ use Rattle.printing.proofs.Marking.{Left}
 use Rattle.printing.proofs.markers.put_traits.Given as goal
 
 abbrev pub invariant-loop-slash : goal.invariant-loop-slash
-invariant-loop-slash l = (length l.out ≡ length l.initial.out) × (l.n ≤ l.next) ×
-    ((parent place : ℕ) (ts : List Trait) → OfTraits l.s l.cells l.n parent place ts
-    → Ends l.cells (l.n + traits_size ts) → all trait_rule ts ≡ true
-    → all (trait_fits name_limit bracket_limit) ts ≡ true
-    → Left l.s l.cells l.n ts l.below l.depth l.initial.out l.at l.next l.slash l.out l.to)
+invariant-loop-slash l = (l.n ≤ l.next) ×
+    ((parent place : ℕ) (ts : List Trait) → OfTraits l.laid.s.now l.laid.cells.now l.n parent place ts
+    → Ends l.laid.cells.now (l.n + traits_size ts) → all trait_rule ts ≡ true → all (trait_fits name_limit bracket_limit) ts ≡ true
+    → Left l.laid.s.now l.laid.cells.now l.n ts l.below l.depth l.initial.page l.next l.slash l.page)
 
 abbrev pub decreases-loop-slash : goal.decreases-loop-slash
-decreases-loop-slash l = length l.cells / entry_cells - l.next
+decreases-loop-slash l = length l.laid.cells.now / entry_cells - l.next

@@ -3,6 +3,4 @@ use Rattle.printing.proofs.NoteLaws.{note_put}
 use Rattle.printing.proofs.notes.put_note.Goals as goal
 
 pub returns : goal.returns
-returns c =
-    note_put c.args.text.now c.args.depth c.put_tabs-mark.ensures c.put_byte-start.ensures
-    c.put_collapsed-end.ensures c.put.ensures
+returns c = note_put c.args.text.now c.args.depth c.put_tabs.ensures c.put_byte.ensures c.put_collapsed.ensures c.put.ensures

@@ -9,11 +9,11 @@ use Rattle.printing.specs.Walking.{OfNotes}
 use Rattle.printing.proofs.NoteLaws.{NotesLeft}
 use Rattle.printing.proofs.notes.put_notes.Given as goal
 
-abbrev pub invariant-loop-note : goal.invariant-loop-note
-invariant-loop-note l = (length l.out ≡ length l.initial.out) × (l.n ≤ l.next) ×
-    ((parent place : ℕ) (notes : List Annotation) → OfNotes l.s l.cells l.n parent place notes
-    → (kind_at l.cells (l.n + length notes) ≡ 4 → ⊥)
-    → NotesLeft l.s l.cells l.depth (l.n + length notes) l.initial.out l.at notes l.next l.out l.to)
+abbrev pub invariant-loop-page : goal.invariant-loop-page
+invariant-loop-page l = (l.n ≤ l.next) ×
+    ((parent place : ℕ) (notes : List Annotation) → OfNotes l.laid.s.now l.laid.cells.now l.n parent place notes
+    → (kind_at l.laid.cells.now (l.n + length notes) ≡ 4 → ⊥)
+    → NotesLeft l.laid.s.now l.laid.cells.now l.depth (l.n + length notes) l.initial.page notes l.next l.page)
 
-abbrev pub decreases-loop-note : goal.decreases-loop-note
-decreases-loop-note l = length l.cells - l.next
+abbrev pub decreases-loop-page : goal.decreases-loop-page
+decreases-loop-page l = length l.laid.cells.now - l.next

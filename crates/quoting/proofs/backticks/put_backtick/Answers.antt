@@ -1,35 +1,18 @@
 use mathlib.Core.Bool.{false}
-use mathlib.Core.Path.{refl, sym, ◌∙◌}
-use native.Mathlib.Omega.{arith}
-use Rattle.paper.proofs.Tests.{true_false}
+use Rattle.quoting.proofs.Putting.{nothing}
 use Rattle.quoting.proofs.Ticks.{ticks_white, ticks_word, ticks_over}
 use Rattle.quoting.proofs.backticks.put_backtick.Goals as goal
-
-pub loop-i-init : goal.loop-i-init
-loop-i-init c = (refl, λ e. true_false (sym e), λ ps e r. record { rest = ps; after = false; spelt = e; rule = r; same = λ next. refl })
-
-pub loop-i-smaller-then-is_white : goal.loop-i-smaller-then-is_white
-loop-i-smaller-then-is_white c = omega arith
-
-pub loop-i-preserved-then-is_white : goal.loop-i-preserved-then-is_white
-loop-i-preserved-then-is_white c = (
-  omega arith,
-  λ e. e,
-  λ ps e r. ticks_white _ _ _ ps _ _ _ _ _ c.meant_at-own.result (c.loop-i.invariant.2 ps e r)
-      c.meant_at-own.ensures.2 (sym c.is_white.ensures ∙ c.if-is_white.true),
-)
-
-pub loop-i-smaller : goal.loop-i-smaller
-loop-i-smaller c = omega arith
+use Rattle.quoting.proofs.backticks.put_backtick.Goals.{then-passes, else-passes}
 
 pub loop-i-preserved : goal.loop-i-preserved
-loop-i-preserved c = (
-  omega arith,
-  λ e. refl,
-  λ ps e r. ticks_word _ _ _ ps _ _ _ _ _ c.meant_at-own.result (c.loop-i.invariant.2 ps e r) c.meant_at-own.ensures.2
-      (sym c.is_white.ensures ∙ c.if-is_white.false) c.loop-i.invariant.1
-      c.put_gap-word.ensures c.put_escaped-to.ensures,
-)
+loop-i-preserved c = λ ps e r. elim c.if-passes.branch [
+  | then-passes w ↦
+      let h = c.passes.ensures.word w.if-passes.true in
+      rw (w.page-is, h.1) (ticks_word _ _ ps _ _ _ _ (c.loop-i.invariant ps e r) c.meant_at-own.ensures.2 h.0 h.2 w.put_escaped.ensures)
+  | else-passes w ↦
+      let h = c.passes.ensures.white w.if-passes.false in
+      rw (w.page-is, h.1, h.2) (ticks_white _ _ ps _ _ _ _ (c.loop-i.invariant ps e r) c.meant_at-own.ensures.2 h.0)
+]
 
 pub returns : goal.returns
-returns c = λ ps e r. ticks_over _ _ _ ps _ _ _ _ _ 0 (c.loop-i.invariant.2 ps e r) c.loop-i-test.false
+returns c = λ ps e r. ticks_over _ _ ps _ _ _ 0 (c.loop-i.invariant ps e r) c.loop-i-test.false

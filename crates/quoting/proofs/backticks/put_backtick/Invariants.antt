@@ -7,13 +7,11 @@ use mathlib.Core.Path.{◌≡◌}
 use lib.ListN.{length}
 use Rattle.paper.specs.Values.{Piece, pieces_onto, backtick_rule}
 use Rattle.quoting.proofs.Ticks.{Ticks}
-use Rattle.quoting.proofs.Collapsing.{Behind}
 use Rattle.quoting.proofs.backticks.put_backtick.Given as goal
 
 abbrev pub invariant-loop-i : goal.invariant-loop-i
-invariant-loop-i l = (length l.out ≡ length l.initial.out) × Behind l.begun l.gap ×
-    ((ps : List Piece) → l.w ≡ pieces_onto ps [] → backtick_rule false ps ≡ true
-    → Ticks l.w l.initial.out l.at ps l.i l.begun l.gap l.out l.to)
+invariant-loop-i l =
+    (ps : List Piece) → l.w ≡ pieces_onto ps [] → backtick_rule false ps ≡ true → Ticks l.w l.initial.page ps l.i l.spacing l.page
 
 abbrev pub decreases-loop-i : goal.decreases-loop-i
 decreases-loop-i l = length l.w - l.i

@@ -12,10 +12,10 @@ returns-then-starts_with c =
 pub returns-then-starts_with-2 : goal.returns-then-starts_with-2
 unfolding elem
 returns-then-starts_with-2 c =
-    quoted_key c.args.w.now (byte "'") refl (sym c.starts_with-2.ensures ∙ c.if-starts_with-2.true)
+    quoted_key c.args.w.now (byte "'") refl (sym c.starts_with-else-starts_with.ensures ∙ c.if-starts_with-2.true)
     c.put_quoted-then-starts_with-2.ensures
 
-pub returns : goal.returns
-returns c =
+pub returns-else-starts_with-2 : goal.returns-else-starts_with-2
+returns-else-starts_with-2 c =
     other_key c.args.w.now (sym c.starts_with.ensures ∙ c.if-starts_with.false)
-    (sym c.starts_with-2.ensures ∙ c.if-starts_with-2.false) c.put.ensures
+    (sym c.starts_with-else-starts_with.ensures ∙ c.if-starts_with-2.false) c.put.ensures

@@ -8,10 +8,7 @@ returns-then-are_plain c =
     λ ps f r. plain_put c.args.quote c.args.w.now _ c.inner-spelling.ensures (sym c.are_plain.ensures ∙ c.if-are_plain.true)
     c.put.ensures ps f
 
-pub put_pieces-closed-requires : goal.put_pieces-closed-requires
-put_pieces-closed-requires c = c.requires
-
-pub returns : goal.returns
-returns c =
-    quoted_put c.args.quote c.args.w.now _ c.inner-spelling.ensures c.put_byte-opened.ensures c.put_byte.ensures
-    c.put_pieces-closed.ensures
+pub returns-else-are_plain : goal.returns-else-are_plain
+returns-else-are_plain c =
+    quoted_put c.args.quote c.args.w.now _ c.inner-spelling.ensures c.put_byte.ensures c.put_byte-else-are_plain.ensures
+    c.put_pieces.ensures

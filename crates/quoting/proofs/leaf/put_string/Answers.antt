@@ -7,8 +7,8 @@ use Rattle.quoting.proofs.leaf.put_string.Goals as goal
 pub returns-then-starts_with : goal.returns-then-starts_with
 returns-then-starts_with c =
     λ also. backtick_there also c.args.w.now (sym c.starts_with.ensures ∙ c.if-starts_with.true)
-    (ticked_put (byte "\"") c.args.w.now _ c.inner-spelling.ensures c.put_byte-opened.ensures c.put_byte.ensures
-    c.put_backtick-closed.ensures)
+    (ticked_put (byte "\"") c.args.w.now _ c.inner.ensures c.put_byte.ensures c.put_byte-then-starts_with.ensures
+    c.put_backtick.ensures)
 
-pub returns : goal.returns
-returns c = λ also. string_there also c.args.w.now (sym c.starts_with.ensures ∙ c.if-starts_with.false) c.put_quoted.ensures
+pub returns-else-starts_with : goal.returns-else-starts_with
+returns-else-starts_with c = λ also. string_there also c.args.w.now (sym c.starts_with.ensures ∙ c.if-starts_with.false) c.put_quoted.ensures

@@ -11,9 +11,8 @@ use Rattle.quoting.proofs.Spelling.{piece_run}
 use Rattle.quoting.proofs.quoted.put_pieces.Given as goal
 
 abbrev pub invariant-loop-i : goal.invariant-loop-i
-invariant-loop-i l = (length l.out ≡ length l.initial.out) ×
-    ((ps : List Piece) → l.w ≡ pieces_onto ps [] → all (piece_rule l.quote) ps ≡ true
-    → Left (piece_run l.quote) l.w l.initial.out l.at ps l.i l.out l.to)
+invariant-loop-i l = (ps : List Piece) → l.w ≡ pieces_onto ps [] → all (piece_rule l.quote) ps ≡ true
+    → Left (piece_run l.quote) l.w l.initial.page ps l.i l.page
 
 abbrev pub decreases-loop-i : goal.decreases-loop-i
 decreases-loop-i l = length l.w - l.i

@@ -13,22 +13,15 @@ slice_bounds-hex_value-end c =
     let n = length_in_lem is_hex (drop c.args.at c.args.w.now) in
     let d = length-drop c.args.at c.args.w.now in omega arith
 
-pub hex_value-value-requires : goal.hex_value-value-requires
-hex_value-value-requires c = few_digits _ (c.digits_end-end.result - c.args.at) (omega arith) (omega arith)
+pub hex_value-requires : goal.hex_value-requires
+hex_value-requires c = few_digits _ (c.digits_end-end.result - c.args.at) (omega arith) (omega arith)
 
 pub returns : goal.returns
 returns c =
-    let n = length_in_lem is_hex (drop c.args.at
-    c.args.w.now) in
-    let d = length-drop c.args.at
-    c.args.w.now in (
+    let n = length_in_lem is_hex (drop c.args.at c.args.w.now) in
+    let d = length-drop c.args.at c.args.w.now in (
       omega arith,
       omega arith,
-      λ digits left e s m. digits_put c.args.quote
-          c.args.w.now digits left _ _
-          c.args.at
-          c.args.most
-          c.args.to _ e s m _ _
-          c.digits_end-end.ensures c.hex_value-value.ensures
-          c.put_scalar.ensures,
+      λ digits left e s m. digits_put c.args.quote c.args.w.now digits left c.args.at c.args.most e s m _ _ c.digits_end-end.ensures
+          c.hex_value.ensures c.put_scalar.ensures,
     )

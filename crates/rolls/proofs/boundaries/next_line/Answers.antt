@@ -1,20 +1,22 @@
-use mathlib.Core.Bool.{true}
+-- The bytes in front of the line's end, and the end or that of the roll.
+use Prim.Native.Nat.{◌+◌}
+use Rattle.std.proofs.Common.{rules}
+use mathlib.Core.Path.{◌≡◌, ◌∙◌}
 use native.Mathlib.Omega.{arith}
-use Rattle.rolls.proofs.Passing.{passes_then, passes_end, line_passes, other_passes}
+use lib.ListN.{length}
+use Rattle.paper.proofs.Tests.{up_to}
+use Rattle.rolls.proofs.Passing.{passes_then, passes_end, line_passes, other_passes, all_pass}
 use Rattle.rolls.proofs.boundaries.next_line.Goals as goal
 
-pub loop-i-init : goal.loop-i-init
-loop-i-init c = c.skip_blocks-i.ensures
-
-pub returns-then-roll-i-eq10 : goal.returns-then-roll-i-eq10
-returns-then-roll-i-eq10 c =
-    record {
-      passes = passes_then c.loop-i.invariant (line_passes _ _ (omega arith) c.if-roll-i-eq10.true);
-      further = λ h. omega arith;
-    }
-
-pub loop-i-preserved : goal.loop-i-preserved
-loop-i-preserved c = passes_then c.loop-i.invariant (other_passes _ _ (omega arith) (omega arith))
-
 pub returns : goal.returns
-returns c = record { passes = passes_end true c.loop-i.invariant c.loop-i-test.false; further = λ h. omega arith }
+returns c =
+    let e = c.skip-end.ensures in
+    let quiet = passes_then c.past_quiet-quiet.ensures (all_pass e.taken e.inside (λ i h l t. other_passes _ i (omega arith) (search rules))) in
+    up_to (length c.args.roll.now) c.skip-end.result
+    (λ h.
+    let over : c.min.result ≡ c.skip-end.result = omega (arith, e.inside) in
+    rw over (record { passes = passes_end _ quiet h; further = λ l. omega arith }))
+    (λ h.
+    let t = e.other h in
+    let behind : c.min.result ≡ c.skip-end.result + 1 = omega arith in
+    rw behind (record { passes = passes_then quiet (line_passes _ _ h (search rules)); further = λ l. omega (arith, quiet.ahead) }))

@@ -7,7 +7,7 @@ pub loop-at-init : goal.loop-at-init
 loop-at-init c = finding_none _ _ c.requires.1
 
 pub returns-then-most-count : goal.returns-then-most-count
-returns-then-most-count c = finds_over c.loop-at.invariant c.room-most.ensures c.loop-at-test.true c.if-most-count.true
+returns-then-most-count c = rw c.at.ensures (finds_over c.loop-at.invariant c.room-most.ensures c.loop-at-test.true c.if-most-count.true)
 
 pub sheet_end-end-requires : goal.sheet_end-end-requires
 sheet_end-end-requires c = c.loop-at.invariant.begins.boundary c.loop-at-test.true

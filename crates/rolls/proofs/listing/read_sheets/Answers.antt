@@ -4,13 +4,10 @@ use Rattle.rolls.proofs.ReadLaws.{none_read, read_spans, read_turn, all_read}
 use Rattle.rolls.proofs.listing.read_sheets.Goals as goal
 
 pub loop-n-init : goal.loop-n-init
-loop-n-init c = (none_read _ _ _ _ _ c.requires.1, refl)
+loop-n-init c = (none_read _ _ _ _ _ c.requires, refl)
 
 pub read_sheet-requires : goal.read_sheet-requires
-read_sheet-requires c = (c.requires.0, read_spans c.loop-n.invariant.0 c.loop-n-test.true)
-
-pub loop-n-smaller : goal.loop-n-smaller
-loop-n-smaller c = omega arith
+read_sheet-requires c = read_spans c.loop-n.invariant.0 c.loop-n-test.true
 
 pub loop-n-preserved : goal.loop-n-preserved
 loop-n-preserved c =

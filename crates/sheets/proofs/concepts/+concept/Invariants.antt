@@ -26,7 +26,7 @@ decreases-read_piece l = 6 * (length l.s.now - l.at) + 2
 
 abbrev pub invariant-read_children-loop-nesting : goal.invariant-read_children-loop-nesting
 invariant-read_children-loop-nesting l =
-    Pieces l.table l.s l.at l.nesting.left l.initial.cells l.slot l.cells l.i l.made l.own × (length l.names ≡ length l.initial.names) × NamesBefore l.s (l.i + 1) l.names
+    Pieces l.modes.table.now l.s l.at l.nesting.left l.initial.cells l.slot l.cells l.i l.made l.own × (length l.names ≡ length l.initial.names) × NamesBefore l.s (l.i + 1) l.names
 
 abbrev pub decreases-read_children-loop-nesting : goal.decreases-read_children-loop-nesting
 decreases-read_children-loop-nesting l = length l.s - l.i

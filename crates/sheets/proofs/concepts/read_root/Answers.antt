@@ -4,17 +4,8 @@ use native.Mathlib.Omega.{arith}
 use Rattle.sheets.proofs.NameIndex.{no_names}
 use Rattle.sheets.proofs.concepts.read_root.Goals as goal
 
-pub tab_end-mark-requires : goal.tab_end-mark-requires
-tab_end-mark-requires c = c.requires.in_sheet.inside
-
 pub read_annotated-requires : goal.read_annotated-requires
 read_annotated-requires c = (c.requires, c.tab_end-mark.ensures, no_names _ 128 (inl (omega arith)) (omega arith))
 
-pub returns-then-s-le-SHORT : goal.returns-then-s-le-SHORT
-returns-then-s-le-SHORT c = c.read_annotated.ensures.0
-
 pub read_annotated-requires-2 : goal.read_annotated-requires-2
 read_annotated-requires-2 c = (c.requires, c.tab_end-mark.ensures, no_names _ 2048 (inr (omega arith)) (omega arith))
-
-pub returns : goal.returns
-returns c = c.read_annotated-2.ensures.0

@@ -5,8 +5,8 @@ use lib.ListN.{length}
 use Rattle.sheets.proofs.TraitRuns.{SoFar}
 use Rattle.sheets.proofs.traits.read_traits.Given as goal
 
-abbrev pub invariant-loop-slot : goal.invariant-loop-slot
-invariant-loop-slot l = SoFar l.s l.at l.initial.cells l.slot l.initial.names l.cells l.names l.i l.made l.own
+abbrev pub invariant-loop-b : goal.invariant-loop-b
+invariant-loop-b l = SoFar l.s l.at l.initial.cells l.slot l.initial.names l.cells l.names l.i l.made l.own
 
-abbrev pub decreases-loop-slot : goal.decreases-loop-slot
-decreases-loop-slot l = length l.s - l.i
+abbrev pub decreases-loop-b : goal.decreases-loop-b
+decreases-loop-b l = length l.s - l.i

@@ -1,12 +1,8 @@
--- The class is either of the two that are tested.
-use Rattle.paper.specs.Bytes.{is_name_byte}
-use Rattle.text.proofs.Either.{either_first, either_second}
+use mathlib.Core.Path.{◌∙◌}
+use Rattle.std.proofs.Math.Bool.{or_assoc, or_comm}
+use Rattle.paper.specs.Bytes.{is_name_byte, is_letter, is_upper, is_lower, is_digit}
 use Rattle.text.proofs.classes.is_name_byte.Goals as goal
 
-pub returns-then-is_letter : goal.returns-then-is_letter
-unfolding is_name_byte
-returns-then-is_letter c = either_first _ c.is_letter.ensures c.if-is_letter.true
-
-pub returns-else-is_letter : goal.returns-else-is_letter
-unfolding is_name_byte
-returns-else-is_letter c = either_second c.is_letter.ensures c.if-is_letter.false c.is_digit.ensures
+pub returns : goal.returns
+unfolding is_name_byte is_letter is_upper is_lower is_digit
+returns c = c.is_ascii_alphanumeric.ensures.value ∙ or_assoc (is_digit c.args.b) (is_upper c.args.b) (is_lower c.args.b) ∙ or_comm (is_digit c.args.b) (is_letter c.args.b)

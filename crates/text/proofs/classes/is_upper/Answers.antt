@@ -1,7 +1,6 @@
--- The class is the range that is tested.
 use Rattle.paper.specs.Bytes.{is_upper}
 use Rattle.text.proofs.classes.is_upper.Goals as goal
 
 pub returns : goal.returns
 unfolding is_upper
-returns c = c.is_within.ensures
+returns c = c.is_ascii_uppercase.ensures.value

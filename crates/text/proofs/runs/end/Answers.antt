@@ -1,9 +1,9 @@
--- Tabs and text have a walk of their own. Assumes nothing.
-use Rattle.text.proofs.Stretch.{class_end}
+-- All bytes up to the end are of the class, and the one behind is not.
+use Rattle.std.proofs.Common.{rules}
+use Rattle.text.proofs.Stretch.{stretch_from}
 use Rattle.text.proofs.runs.end.Goals as goal
 
-pub returns-in-Tab : goal.returns-in-Tab
-returns-in-Tab c = class_end _ _ _ _ _ c.in-Tab.is c.tab_end.ensures
-
-pub returns-in-Text : goal.returns-in-Text
-returns-in-Text c = class_end _ _ _ _ _ c.in-Text.is c.text_end.ensures
+pub returns : goal.returns
+returns g c =
+    let e = c.skip.ensures in
+    stretch_from g.C.Class.takes _ e.taken.ahead (λ i l h. let t = e.taken.each i l h in search rules) e.inside (λ h. let t = e.other h in search rules)

@@ -13,7 +13,7 @@ pub returns-in_default : goal.returns-in_default
 returns-in_default c = stand_other _ _ (omega arith) (omega arith)
 
 pub returns-in-0-to-31 : goal.returns-in-0-to-31
-returns-in-0-to-31 c = stand_delete _ _ c.in-0-to-31.in-0-to-31-own.keys2
+returns-in-0-to-31 c = stand_delete _ _ (omega arith)
 
 pub returns-in-0-to-31-2 : goal.returns-in-0-to-31-2
 returns-in-0-to-31-2 c = stand_control _ _ (omega arith) (omega arith) (omega arith) (omega arith)

@@ -1,25 +1,20 @@
--- Two digits, each from "0" to "9": what the law of pairs says of them. Assumes nothing.
+-- Two digits, each from "0" to "9", or not. Assumes nothing.
 use native.Mathlib.Omega.{arith}
-use Rattle.times.proofs.Digits.{pair}
+use Rattle.times.proofs.Digits.{pair_is, pair_none}
 use Rattle.times.proofs.fields.pair.Goals as goal
 
-pub bounds-w-0 : goal.bounds-w-0
-bounds-w-0 c = omega (arith, (pair _ c.requires).size)
+pub returns-in-48-to-57 : goal.returns-in-48-to-57
+returns-in-48-to-57 c =
+    pair_is c.args.w.now (omega arith) (omega arith) (omega arith) (omega arith) (omega arith)
 
-pub overflow_sub-result : goal.overflow_sub-result
-overflow_sub-result c = (pair _ c.requires).tens.0
+pub returns-in_default-2 : goal.returns-in_default-2
+returns-in_default-2 c = pair_none _ (λ s a b d e. omega arith)
 
-pub overflow_mul-result : goal.overflow_mul-result
-overflow_mul-result c = omega (arith, (pair _ c.requires).tens)
+pub returns-in_default-3 : goal.returns-in_default-3
+returns-in_default-3 c = pair_none _ (λ s a b d e. omega arith)
 
-pub bounds-w-1 : goal.bounds-w-1
-bounds-w-1 c = omega (arith, (pair _ c.requires).size)
+pub returns-in_default-4 : goal.returns-in_default-4
+returns-in_default-4 c = pair_none _ (λ s a b d e. omega arith)
 
-pub overflow_sub-result-2 : goal.overflow_sub-result-2
-overflow_sub-result-2 c = (pair _ c.requires).ones.0
-
-pub overflow_add-result : goal.overflow_add-result
-overflow_add-result c = let p = pair _ c.requires in omega (arith, p.tens, p.ones)
-
-pub returns : goal.returns
-returns c = let p = pair _ c.requires in (p.spells, omega (arith, p.tens, p.ones))
+pub returns-in_default-5 : goal.returns-in_default-5
+returns-in_default-5 c = pair_none _ (λ s a b d e. omega arith)

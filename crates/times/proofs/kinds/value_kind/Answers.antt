@@ -3,11 +3,14 @@ use native.Mathlib.Omega.{arith}
 use Rattle.times.proofs.Braces.{too_short, unopened, unclosed, told_inside}
 use Rattle.times.proofs.kinds.value_kind.Goals as goal
 
-pub returns-then-v-lt2 : goal.returns-then-v-lt2
-returns-then-v-lt2 c = too_short _ c.if-v-lt2.true
+pub returns-in-123 : goal.returns-in-123
+returns-in-123 c = told_inside _ (omega arith) (omega arith) (omega arith) _ c.kind_of.ensures
 
-pub returns-then-v-ne123 : goal.returns-then-v-ne123
-returns-then-v-ne123 c = grind (arith, unopened c.args.v.now, unclosed c.args.v.now)
+pub returns-in_default : goal.returns-in_default
+returns-in_default c = too_short _ (omega arith)
 
-pub returns : goal.returns
-returns c = told_inside _ (omega arith) (omega arith) (omega arith) _ c.kind.ensures
+pub returns-in_default-2 : goal.returns-in_default-2
+returns-in_default-2 c = unclosed _ (λ e. omega arith)
+
+pub returns-in_default-3 : goal.returns-in_default-3
+returns-in_default-3 c = unopened _ (λ e. omega arith)

@@ -1,13 +1,18 @@
 -- A law for each way out: cut, missing, or there.
+use mathlib.Core.Path.{sym, ◌∙◌}
 use native.Mathlib.Omega.{arith}
 use Rattle.values.proofs.LabelReads.{colon_ends, colon_missing, colon_there}
 use Rattle.values.proofs.labels.read_colon.Goals as goal
 
-pub returns-then-s-at : goal.returns-then-s-at
-returns-then-s-at c key = colon_ends _ _ key c.if-s-at.true
+pub returns-in-None : goal.returns-in-None
+returns-in-None c key = colon_ends _ _ key c.in-None.ensures.lookup.3 _ c.at.ensures
 
-pub returns-then-s-at-ne58 : goal.returns-then-s-at-ne58
-returns-then-s-at-ne58 c key = colon_missing _ _ key c.if-s-at.false c.if-s-at-ne58.true
+pub returns-in-Some-eq58 : goal.returns-in-Some-eq58
+returns-in-Some-eq58 c key =
+    let there = c.in-Some-eq58.ensures.lookup.3 in
+    colon_there _ _ key there.0 (sym (there.1 0) ∙ c.in-Some-eq58.field-0-test) _ c.end.ensures.0 (omega arith) (omega arith)
 
-pub returns : goal.returns
-returns c key = colon_there _ _ key c.if-s-at.false (omega arith) _ c.end.ensures.0 (omega arith) (omega arith)
+pub returns-in-Some : goal.returns-in-Some
+returns-in-Some c key =
+    let there = c.in-Some.ensures.lookup.3 in
+    colon_missing _ _ key there.0 (λ q. c.in-Some.field-0-test.1 (there.1 0 ∙ q)) _ c.at-in-Some.ensures

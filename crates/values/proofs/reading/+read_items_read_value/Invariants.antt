@@ -14,10 +14,10 @@ decreases-read_items l = 2 * l.nesting.left + 1
 abbrev pub decreases-read_value : goal.decreases-read_value
 decreases-read_value l = 2 * l.nesting.left
 
-abbrev pub invariant-read_items-loop-refusal : goal.invariant-read_items-loop-refusal
-invariant-read_items-loop-refusal l = (l.at ≤ l.i) × (l.i ≤ length l.s)
+abbrev pub invariant-read_items-loop-value : goal.invariant-read_items-loop-value
+invariant-read_items-loop-value l = (l.at ≤ l.i) × (l.i ≤ length l.s)
     × (shown_of (form_in l.kind) l.s (item_and l.kind l.nesting.left (bracket l.kind) (drop l.i l.s))
     ≡ shown_of (form_in l.kind) l.s (item_and l.kind l.nesting.left (bracket l.kind) (drop l.at l.s)))
 
-abbrev pub decreases-read_items-loop-refusal : goal.decreases-read_items-loop-refusal
-decreases-read_items-loop-refusal l = length l.s - l.i
+abbrev pub decreases-read_items-loop-value : goal.decreases-read_items-loop-value
+decreases-read_items-loop-value l = length l.s - l.i

@@ -1,9 +1,0 @@
--- The class is what names are made of, or one of three bytes.
-use Rattle.text.proofs.Either.{either_first, either_second}
-use Rattle.text.proofs.classes.is_scheme_byte.Goals as goal
-
-pub returns-then-is_name_byte : goal.returns-then-is_name_byte
-returns-then-is_name_byte c = either_first _ c.is_name_byte.ensures c.if-is_name_byte.true
-
-pub returns-else-is_name_byte : goal.returns-else-is_name_byte
-returns-else-is_name_byte c = either_second c.is_name_byte.ensures c.if-is_name_byte.false c.is_one_of.ensures
