@@ -23,7 +23,7 @@ pub fn write(table: &[u8], sheet: &[u8], cells: &mut [u32], out: &mut [u8]) -> A
     let mut index = [0; modes::index::CELLS];
     let answer = match modes::read_into(table, &mut index) {
         Ok(_) => write_under(
-            Modes {
+            &Modes {
                 table,
                 index: &index,
             },
@@ -38,8 +38,8 @@ pub fn write(table: &[u8], sheet: &[u8], cells: &mut [u32], out: &mut [u8]) -> A
 }
 
 // Writes the form under a table that is in order. What it leaves in the cells is not told.
-fn write_under(modes: Modes, sheet: &[u8], cells: &mut [u32], out: &mut [u8]) -> Answer
-    ensures { WritesUnder modes.entry.table.now sheet.now (length cells.old) out.old (told result) out.new }
+fn write_under(modes: &Modes, sheet: &[u8], cells: &mut [u32], out: &mut [u8]) -> Answer
+    ensures { WritesUnder modes.now.table.now sheet.now (length cells.old) out.old (told result) out.new }
 {
     let read = read_under(modes, sheet, cells)?;
     let end = read.count * CELLS;

@@ -42,7 +42,7 @@ pub fn add(table: &[u8], sheet: &[u8], roll: &mut [u8], n: usize, cells: &mut [u
     let mut index = [0; modes::index::CELLS];
     let answer = match modes::read_into(table, &mut index) {
         Ok(_) => add_under(
-            Modes {
+            &Modes {
                 table,
                 index: &index,
             },
@@ -58,8 +58,8 @@ pub fn add(table: &[u8], sheet: &[u8], roll: &mut [u8], n: usize, cells: &mut [u
 }
 
 // Adds the form under a table that is in order. What it leaves in the cells is not told.
-fn add_under(modes: Modes, sheet: &[u8], roll: &mut [u8], n: usize, cells: &mut [u32]) -> Answer
-    ensures { AddsUnder modes.entry.table.now sheet.now roll.old n (length cells.old) (told result) roll.new }
+fn add_under(modes: &Modes, sheet: &[u8], roll: &mut [u8], n: usize, cells: &mut [u32]) -> Answer
+    ensures { AddsUnder modes.now.table.now sheet.now roll.old n (length cells.old) (told result) roll.new }
 {
     let read = read_under(modes, sheet, cells)?;
     let end = read.count * CELLS;

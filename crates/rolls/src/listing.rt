@@ -34,7 +34,7 @@ pub fn list(table: &[u8], roll: &[u8], records: &mut [u32], cells: &mut [u32]) -
         return Err(Refusal::BeforeBoundary.at(before.place));
     }
     let found = find_sheets(roll, first, records)?;
-    read_sheets(modes, roll, records, found.count, cells);
+    read_sheets(&modes, roll, records, found.count, cells);
     Ok(found)
 }
 
@@ -73,10 +73,10 @@ fn found_at(start: usize, end: usize) -> Record
 }
 
 // Reads each sheet that was found, in order.
-fn read_sheets(modes: Modes, roll: &[u8], records: &mut [u32], count: usize, cells: &mut [u32])
+fn read_sheets(modes: &Modes, roll: &[u8], records: &mut [u32], count: usize, cells: &mut [u32])
     requires { AllFound roll.now records.old count }
     ensures { records.new ≡ lay_records records.old 0
-        (records_in modes.entry.table.now (length cells.old) (parts_of roll.now)) }
+        (records_in modes.now.table.now (length cells.old) (parts_of roll.now)) }
 {
     for n in 0..count {
         read_sheet(modes, roll, records, n, cells);
@@ -84,9 +84,9 @@ fn read_sheets(modes: Modes, roll: &[u8], records: &mut [u32], count: usize, cel
 }
 
 // Reads the sheet of record number `n` by itself, and puts its answer into the record.
-fn read_sheet(modes: Modes, roll: &[u8], records: &mut [u32], n: usize, cells: &mut [u32])
+fn read_sheet(modes: &Modes, roll: &[u8], records: &mut [u32], n: usize, cells: &mut [u32])
     requires { Spans roll.now records.old n }
-    ensures { ReadsRecord modes.entry.table.now roll.now (length cells.old) records.old n
+    ensures { ReadsRecord modes.now.table.now roll.now (length cells.old) records.old n
         records.new }
 {
     let at = n * CELLS;

@@ -26,7 +26,7 @@ use text::runs;
 // Reads the Concept whose "<" is due at `at`, on a line of so many tabs, and enters it with what it holds.
 #[cycle(concept)]
 fn read_concept(
-    modes: Modes,
+    modes: &Modes,
     s: &[u8],
     at: usize,
     tabs: usize,
@@ -36,7 +36,7 @@ fn read_concept(
     names: &mut [u16],
 ) -> Result<Part, Refused>
     requires { Ready s.now at cells.old slot × NamesBefore s.now (at + 1) names.old }
-    ensures { ReadsConcept modes.entry.table.now s.now at tabs nesting.left cells.old slot result cells.new
+    ensures { ReadsConcept modes.now.table.now s.now at tabs nesting.left cells.old slot result cells.new
         × NamesOnward s.now result names.new }
 {
     let opened = read_opening(modes, s, at, nesting, cells, slot, names)?;
@@ -54,14 +54,14 @@ fn read_concept(
         next,
         names,
     )?;
-    Ok(end_concept(body, opened, at, cells, slot))
+    Ok(end_concept(body, &opened, at, cells, slot))
 }
 
 // Enters a Concept that was opened so at a "<" that stands at `at`, and ends with its body.
-fn end_concept(body: Part, opened: Opened, at: usize, cells: &mut [u32], slot: Slot) -> Part
-    requires { Ends cells.old slot body at opened.to opened.made opened.own }
-    ensures { (result ≡ ended_by body opened.made)
-        × (cells.new ≡ cells_ended cells.old slot body (number_of_body opened.form) at opened.to opened.own) }
+fn end_concept(body: Part, opened: &Opened, at: usize, cells: &mut [u32], slot: Slot) -> Part
+    requires { Ends cells.old slot body at opened.now.to opened.now.made opened.now.own }
+    ensures { (result ≡ ended_by body opened.now.made)
+        × (cells.new ≡ cells_ended cells.old slot body (number_of_body opened.now.form) at opened.now.to opened.now.own) }
 {
     put(
         cells,
@@ -87,7 +87,7 @@ fn end_concept(body: Part, opened: Opened, at: usize, cells: &mut [u32], slot: S
 // Reads what follows an opening marker of this form that ends at `at`: nothing, children or Content.
 #[cycle(concept)]
 fn read_inside(
-    modes: Modes,
+    modes: &Modes,
     s: &[u8],
     at: usize,
     form: Body,
@@ -100,7 +100,7 @@ fn read_inside(
     names: &mut [u16],
 ) -> Result<Part, Refused>
     requires { Ready s.now at cells.old slot × (from ≤ to) × (to ≤ length s.now) × NamesBefore s.now (at + 1) names.old }
-    ensures { ReadsInside modes.entry.table.now s.now at (number_of_body form) tabs from to nesting.left cells.old slot result
+    ensures { ReadsInside modes.now.table.now s.now at (number_of_body form) tabs from to nesting.left cells.old slot result
         cells.new
         × NamesOnward s.now result names.new }
 {
@@ -114,7 +114,7 @@ fn read_inside(
 // Reads the children of a block from behind its marker's ">" on, with its closing marker. Its name stands from `from` to `to`.
 #[cycle(concept)]
 fn read_block(
-    modes: Modes,
+    modes: &Modes,
     s: &[u8],
     at: usize,
     from: usize,
@@ -125,7 +125,7 @@ fn read_block(
     names: &mut [u16],
 ) -> Result<Part, Refused>
     requires { Ready s.now at cells.old slot × (from ≤ to) × (to ≤ length s.now) × NamesBefore s.now (at + 1) names.old }
-    ensures { ReadsBlock modes.entry.table.now s.now at from to nesting.left cells.old slot result cells.new
+    ensures { ReadsBlock modes.now.table.now s.now at from to nesting.left cells.old slot result cells.new
         × NamesOnward s.now result names.new }
 {
     let start = line_rest(s, at)?;
@@ -134,10 +134,12 @@ fn read_block(
     Ok(Part { end, ..body })
 }
 
-// Reads the lines of a children body that stand at `at`, up to the closing marker behind the tabs of its line.
+// Reads the lines of a children body that stand at `at`, up to the closing marker behind the tabs of its line. It is part of
+// the Concept reader, so that a Concept takes one frame of stack.
 #[cycle(concept)]
+#[inline(always)]
 fn read_children(
-    modes: Modes,
+    modes: &Modes,
     s: &[u8],
     at: usize,
     nesting: Nesting,
@@ -146,7 +148,7 @@ fn read_children(
     names: &mut [u16],
 ) -> Result<Part, Refused>
     requires { Ready s.now at cells.old slot × NamesBefore s.now (at + 1) names.old }
-    ensures { ReadsChildren modes.entry.table.now s.now at nesting.left cells.old slot result cells.new
+    ensures { ReadsChildren modes.now.table.now s.now at nesting.left cells.old slot result cells.new
         × NamesOnward s.now result names.new }
 {
     let mut i = at;
@@ -172,7 +174,7 @@ fn read_children(
 // what stands there is looked at first, since most lines have a Concept behind their tabs, or nothing.
 #[cycle(concept)]
 fn read_piece(
-    modes: Modes,
+    modes: &Modes,
     s: &[u8],
     at: usize,
     mark: usize,
@@ -182,7 +184,7 @@ fn read_piece(
     names: &mut [u16],
 ) -> Result<Part, Refused>
     requires { Ready s.now at cells.old slot × Tabbed s.now at mark × NamesBefore s.now (at + 1) names.old }
-    ensures { ReadsPiece modes.entry.table.now s.now at nesting.left cells.old slot result cells.new
+    ensures { ReadsPiece modes.now.table.now s.now at nesting.left cells.old slot result cells.new
         × NamesOnward s.now result names.new }
 {
     if !starts_with(s, mark, b"<") {
@@ -210,7 +212,7 @@ fn end_line(s: &[u8], part: Part) -> Result<Part, Refused>
 // Reads the annotations that stand at `at` and their Concept, which is due behind the tabs of the next line. The tabs at `at` end at `mark`.
 #[cycle(concept)]
 fn read_annotated(
-    modes: Modes,
+    modes: &Modes,
     s: &[u8],
     at: usize,
     mark: usize,
@@ -220,7 +222,7 @@ fn read_annotated(
     names: &mut [u16],
 ) -> Result<Part, Refused>
     requires { Ready s.now at cells.old slot × Tabbed s.now at mark × NamesBefore s.now (at + 1) names.old }
-    ensures { ReadsAnnotated modes.entry.table.now s.now at nesting.left cells.old slot result cells.new
+    ensures { ReadsAnnotated modes.now.table.now s.now at nesting.left cells.old slot result cells.new
         × NamesOnward s.now result names.new }
 {
     let notes = read_notes(s, at, mark, cells, slot)?;
@@ -266,7 +268,7 @@ fn read_notes(
 // The same where a sheet's root is due, with an index of trait names for the whole sheet, which is a short one where the sheet is short.
 // Two arrays, and not one that is cut: only the short one's cells are set to zero then.
 pub fn read_root(
-    modes: Modes,
+    modes: &Modes,
     s: &[u8],
     at: usize,
     nesting: Nesting,
@@ -274,7 +276,7 @@ pub fn read_root(
     slot: Slot,
 ) -> Result<Part, Refused>
     requires { Ready s.now at cells.old slot }
-    ensures { ReadsAnnotated modes.entry.table.now s.now at nesting.left cells.old slot result cells.new }
+    ensures { ReadsAnnotated modes.now.table.now s.now at nesting.left cells.old slot result cells.new }
 {
     let mark = runs::tab_end(s, at);
     if s.len() <= earlier::SHORT {

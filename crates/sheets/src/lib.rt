@@ -31,7 +31,7 @@ pub fn read(table: &[u8], sheet: &[u8], cells: &mut [u32]) -> Answer
     let mut index = [0; modes::index::CELLS];
     let answer = match modes::read_into(table, &mut index) {
         Ok(_) => read_under(
-            Modes {
+            &Modes {
                 table,
                 index: &index,
             },
@@ -46,8 +46,8 @@ pub fn read(table: &[u8], sheet: &[u8], cells: &mut [u32]) -> Answer
 
 // Reads a sheet under a table that is in order. It zeroes no cell: those behind the entries are as they were, and what a refusal leaves is
 // not told.
-pub fn read_under(modes: Modes, sheet: &[u8], cells: &mut [u32]) -> Answer
-    ensures { ReadsUnder modes.entry.table.now sheet.now cells.old (told result) cells.new }
+pub fn read_under(modes: &Modes, sheet: &[u8], cells: &mut [u32]) -> Answer
+    ensures { ReadsUnder modes.now.table.now sheet.now cells.old (told result) cells.new }
 {
     if Cursor::is_too_long(sheet) {
         return Err(Refusal::SheetTooLong.at(Cursor::LIMIT));
@@ -61,9 +61,9 @@ pub fn read_under(modes: Modes, sheet: &[u8], cells: &mut [u32]) -> Answer
 }
 
 // Reads the root with its annotations and the blank lines around them, and enters it from the first cell on.
-fn read_tree(modes: Modes, s: &[u8], cells: &mut [u32]) -> Result<Part, Refused>
+fn read_tree(modes: &Modes, s: &[u8], cells: &mut [u32]) -> Result<Part, Refused>
     requires { length s.now ≤ sheet_limit }
-    ensures { ReadsTree modes.entry.table.now s.now cells.old result cells.new }
+    ensures { ReadsTree modes.now.table.now s.now cells.old result cells.new }
 {
     let first = blank_lines(s, 0)?;
     tabs_only(s, first)?;

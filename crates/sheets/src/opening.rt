@@ -32,7 +32,7 @@ pub struct Opened {
 
 // Reads the opening marker that is due at `at`, and enters its traits behind the entry that is kept free for the Concept.
 pub fn read_opening(
-    modes: Modes,
+    modes: &Modes,
     s: &[u8],
     at: usize,
     nesting: Nesting,
@@ -41,7 +41,7 @@ pub fn read_opening(
     names: &mut [u16],
 ) -> Result<Opened, Refused>
     requires { In s.now at × Fits cells.old slot × NamesBefore s.now (at + 1) names.old }
-    ensures { ReadsOpening modes.entry.table.now s.now at nesting.left cells.old slot result cells.new
+    ensures { ReadsOpening modes.now.table.now s.now at nesting.left cells.old slot result cells.new
         × NamesOnward s.now (part_of result) names.new }
 {
     let to = read_head(s, at)?;
@@ -59,7 +59,7 @@ fn read_head(s: &[u8], at: usize) -> Result<usize, Refused>
 
 // Goes on behind the name that stands from behind the "<" at `at` to `to`.
 fn read_named(
-    modes: Modes,
+    modes: &Modes,
     s: &[u8],
     at: usize,
     to: usize,
@@ -69,7 +69,7 @@ fn read_named(
     names: &mut [u16],
 ) -> Result<Opened, Refused>
     requires { In s.now to × (at < to) × Fits cells.old slot × NamesBefore s.now (at + 1) names.old }
-    ensures { ReadsNamed modes.entry.table.now s.now at to nesting.left cells.old slot result cells.new
+    ensures { ReadsNamed modes.now.table.now s.now at to nesting.left cells.old slot result cells.new
         × NamesOnward s.now (part_of result) names.new }
 {
     let start = at + 1;

@@ -12,16 +12,16 @@ use Rattle.layout.proofs.write_under.Goals as goal
 
 pub returns-in_err-read : goal.returns-in_err-read
 returns-in_err-read c =
-    under_refused c.args.modes.table.now c.args.sheet.now c.args.out.now _ c.from_residual.result _ _
-    (sheet_passed c.args.modes.table.now c.args.sheet.now c.args.cells.now c.read_under.new.cells _ c.args.modes.indexed.valid c.in_err-read.ensures
+    under_refused c.args.modes.now.table.now c.args.sheet.now c.args.out.now _ c.from_residual.result _ _
+    (sheet_passed c.args.modes.now.table.now c.args.sheet.now c.args.cells.now c.read_under.new.cells _ c.args.modes.now.indexed.valid c.in_err-read.ensures
     c.read_under.auto.cells)
     (passes c.from_residual.ensures.1)
 
 -- the cells of the entries are part of those that are lent
 inside : (c : In_ok-read) → c.in_ok-read.read.count * entry_cells ≤ length c.read_under.new.cells
 inside c =
-    cells_inside c.args.modes.table.now c.args.sheet.now c.args.cells.now c.read_under.new.cells c.args.out.now c.read_under.result c.in_ok-read.read
-    c.args.modes.indexed.valid c.read_under.ensures c.read_under.auto.cells c.in_ok-read.was
+    cells_inside c.args.modes.now.table.now c.args.sheet.now c.args.cells.now c.read_under.new.cells c.args.out.now c.read_under.result c.in_ok-read.read
+    c.args.modes.now.indexed.valid c.read_under.ensures c.read_under.auto.cells c.in_ok-read.was
 
 pub overflow_mul-end : goal.overflow_mul-end
 overflow_mul-end c = omega (arith, inside (goal.at.overflow_mul-end c).In_ok-read)
@@ -34,5 +34,5 @@ slice_bounds-write_form-end-2 c = sym (length-take-le _ _ (inside (goal.at.slice
 
 pub returns : goal.returns
 returns c =
-    under_written c.args.modes.table.now c.args.sheet.now c.args.cells.now c.read_under.new.cells c.args.out.now c.read_under.result c.in_ok-read.read
-    c.args.modes.indexed.valid c.read_under.ensures c.read_under.auto.cells c.in_ok-read.was _ _ c.write_form.ensures
+    under_written c.args.modes.now.table.now c.args.sheet.now c.args.cells.now c.read_under.new.cells c.args.out.now c.read_under.result c.in_ok-read.read
+    c.args.modes.now.indexed.valid c.read_under.ensures c.read_under.auto.cells c.in_ok-read.was _ _ c.write_form.ensures

@@ -8,12 +8,12 @@ use Rattle.sheets.proofs.read_tree.Goals.{In_ok-tabs_only, In_ok-root}
 use Rattle.sheets.proofs.read_tree.Goals as goal
 
 -- what leads to the root
-leads : (c : In_ok-tabs_only) → let start = c.args in Led (modes_of start.modes.table.now) start.s.now start.cells.now c.in_ok-first.first
+leads : (c : In_ok-tabs_only) → let start = c.args in Led (modes_of start.modes.now.table.now) start.s.now start.cells.now c.in_ok-first.first
 leads c = tabs_led _ _ _ _ c.in_ok-first.ensures _ c.in_ok-tabs_only.ensures
 
 -- the root
-reads : (c : In_ok-root) → let start = c.args in let root = c.in_ok-root.root in Led (modes_of start.modes.table.now) start.s.now start.cells.now c.in_ok-first.first
-    → RootAt (modes_of start.modes.table.now) start.s.now start.cells.now root.end root.made root.own c.read_root.new.cells
+reads : (c : In_ok-root) → let start = c.args in let root = c.in_ok-root.root in Led (modes_of start.modes.now.table.now) start.s.now start.cells.now c.in_ok-first.first
+    → RootAt (modes_of start.modes.now.table.now) start.s.now start.cells.now root.end root.made root.own c.read_root.new.cells
 reads c l = root_read _ _ _ _ l _ _ c.new.ensures c.room.ensures _ _ c.in_ok-root.ensures _ refl
 
 pub returns-in_err-first : goal.returns-in_err-first

@@ -267,7 +267,7 @@ read_piece-returns-then-is_blank_line t c = (
 -- a Concept with its annotations is due: its line has tabs only in front, or "<" behind them
 concept_due : (t : ℕ) (c : read_piece-After-read_annotated t) → let top = c.args in
     let room = top.slot.room - top.slot.next in
-    let m = modes_of top.modes.table.now in
+    let m = modes_of top.modes.now.table.now in
     piece_of m bounds top.nesting.left room (drop top.at top.s.now) ≡ annotated_line (annotated_of m bounds top.nesting.left room (drop top.at top.s.now))
 concept_due t c =
     elim c.if-not-starts_with.branch [
