@@ -117,7 +117,7 @@ use Prim.Native.Nat.{ℕ, ◌-◌}
 use mathlib.Core.Path.{◌≡◌, refl}
 use mathlib.Core.List.{List, [], ◌∷◌, ◌++◌, map}
 use lib.ListN.{length, replicate}
-use Rattle.paper.specs.Answer.{Told}
+use Rattle.paper.specs.declared.Told.{Told}
 use Rattle.paper.specs.Found.{found, fault}
 
 pub record SheetCase : Type 0 where
