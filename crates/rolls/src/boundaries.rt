@@ -25,7 +25,8 @@ fn next_line(roll: &[u8], at: usize) -> usize
     (end + 1).min(roll.len())
 }
 
-// Past blocks of 48 bytes at `at` in which, and directly behind which, no sheet begins: none does without a "<" behind an LF.
+// Past blocks of 48 bytes at `at` in which, and directly behind which, no sheet begins: none does without a "<" behind an LF. Both
+// bytes are tested whatever the first one is, so that the compiler takes a block's bytes together.
 fn past_quiet(roll: &[u8], at: usize) -> usize
     requires { at ≤ length roll.now }
     ensures { Passes false false roll.now at result }
@@ -36,7 +37,7 @@ fn past_quiet(roll: &[u8], at: usize) -> usize
     skip_blocks::<48, _>(
         at,
         roll.len() - 1,
-        |i| roll[i] != b'\n' || roll[i + 1] != b'<',
+        |i| (roll[i] != b'\n') | (roll[i + 1] != b'<'),
     )
 }
 
