@@ -34,7 +34,7 @@ fn enter_trait(
     if slot.is_full() {
         return Err(Refusal::NoEntryLeft.at(from));
     }
-    let entered = enter_whole(s, at, value, cells, slot.under())?;
+    let entered = enter_whole(s, at, Ok(value), cells, slot.under())?;
     put(
         cells,
         slot.next,

@@ -7,6 +7,7 @@ use native.Mathlib.Omega.{arith}
 use lib.ListN.{length, drop, length-drop}
 use lib.Seq.{length-take-le}
 use Rattle.std.specs.Prelude.{Result, Ok, Err}
+use Rattle.std.specs.Result.{MatchResult, IsOkAnd, IsErrAnd}
 use Rattle.paper.specs.declared.Refused.{Refused}
 use Rattle.paper.specs.declared.forms.Form.{Form}
 use Rattle.paper.specs.declared.brackets.Bracket.{Bracket}
@@ -431,6 +432,32 @@ module _ (s : List ℕ) (at brackets : ℕ) (also cells : List ℕ) (slot : Slot
   read_enters read o h e q =
       let x = value_of brackets also (drop at s) in
       rw q (bare_ahead x read h (left_of slot), bare_enters x read h (leaf_bare o))
+
+  -- the same of what may have been refused
+  pub read_as : (value : Result Judged Refused) → opens_with (drop at s) ≡ no_bracket → Judges value_form s at (value_of brackets also (drop at s)) value
+      → (r : Result Entered Refused) {Says : Judged → Entered → Type 0} → MatchResult value (λ v. IsOkAnd r (Says v)) (λ w. r ≡ Err w)
+      → ((v : Judged) (e : Entered) → Says v e → e ≡ without_items v) → EntersValue brackets also s at cells slot r cells
+  read_as (Ok v) o h (Ok e) q says = read_enters v o h e (says v e q)
+  read_as (Ok v) o h (Err w) q says = absurd q
+  read_as (Err w) o h r q says = rw q (refused_enters (Err w) h w refl)
+
+  -- what tells an answer so that a value and a refusal 11 stay as they are
+  pub told_so : (r told : Result Entered Refused) (after : List ℕ) (Says : Refused → Refused → Type 0)
+      → MatchResult r (λ e. told ≡ Ok e) (λ w. IsErrAnd told (Says w)) → ((place : ℕ) (f : Refused) → Says (no_entry_left place) f → f ≡ no_entry_left place)
+      → EntersValue brackets also s at cells slot r after → EntersValue brackets also s at cells slot told after
+  told_so (Ok e) told after Says q says h = rw q h
+  told_so (Err w) (Ok e) after Says q says h = absurd q
+  told_so (Err w) (Err f) after Says q says h = (
+    ahead_refused s at brackets (left_of slot) f,
+    record {
+      fits = λ v left e k. let g = (h.1.fits v left e k).0.is in absurd (cc);
+      full = λ v left e k.
+          let g = h.1.full v left e k in
+          let place = first_over (left_of slot) (item_entries slot.parent slot.next at v) in
+          let p : w ≡ no_entry_left place = cc in
+          ap Err (says place f (subst (λ (u : Refused). Says u f) p q));
+    },
+  )
 
   module _ (r : Result Judged Refused) (o : opens_with (drop at s) ≡ no_bracket) (h : Judges leaf_form s at (leaf_of also (drop at s)) r) where
     pub leaf_enters : (read : Judged) → r ≡ Ok read → (e : Entered) → e ≡ without_items read → EntersValue brackets also s at cells slot (Ok e) cells

@@ -1,12 +1,12 @@
 // Entering the items of a value that was read whole.
 // Document 01, "Entries": items in depth-first order; refusal 11; document 02, Five: a map's item has its key in the name cells.
-ghost use Rattle.std.specs.Prelude.{◌≡◌, Ok, []};
+ghost use Rattle.std.specs.Prelude.{◌≡◌, [], IfErr};
 ghost use Rattle.paper.specs.Limits.{bracket_limit};
 ghost use Rattle.paper.specs.Values.{value_form};
 ghost use Rattle.paper.specs.ReadingValues.{value_of};
 ghost use Rattle.leaves.specs.Shown.{JudgesAt};
 ghost use Rattle.leaves.specs.Kinds.{enders_of};
-ghost use Rattle.values.specs.Entering.{without_items, Ready, EntersValue, EntersItems};
+ghost use Rattle.values.specs.Entering.{without_items, no_entry_left, Ready, EntersValue, EntersItems};
 
 use crate::brackets::{goes_on, is_empty, opens};
 use crate::labels::read_label;
@@ -31,28 +31,31 @@ pub struct Entered {
 }
 
 // Enters the items of a trait's whole value, which was read as `value`. What holds no items was judged by that reading. The first item that
-// has no entry left is refused.
+// has no entry left is refused. There is no other refusal: what was refused is never entered, and its place is told as if no entry were left.
 pub fn enter_whole(
     s: &[u8],
     at: usize,
-    value: Judged,
+    value: Result<Judged, Refused>,
     cells: &mut [u32],
     slot: Slot,
 ) -> Result<Entered, Refused>
-    requires { Ready s.now at bracket_limit cells.old slot × JudgesAt value_form (value_of bracket_limit []) s.now at (Ok value) }
-    ensures { EntersValue bracket_limit [] s.now at cells.old slot result cells.new }
+    requires { Ready s.now at bracket_limit cells.old slot × JudgesAt value_form (value_of bracket_limit []) s.now at value }
+    ensures entered { EntersValue bracket_limit [] s.now at cells.old slot result cells.new }
+    ensures full { IfErr result (λ refused. refused ≡ no_entry_left refused.place) }
 {
-    if opens(s, at).is_none() {
-        return Ok(without_items(value));
-    }
-    enter(
-        s,
-        at,
-        Nesting::new(Nesting::BRACKETS),
-        Around::Nothing,
-        cells,
-        slot,
-    )
+    let entered = if opens(s, at).is_none() {
+        value.map(without_items)
+    } else {
+        enter(
+            s,
+            at,
+            Nesting::new(Nesting::BRACKETS),
+            Around::Nothing,
+            cells,
+            slot,
+        )
+    };
+    entered.map_err(|refused| Refusal::NoEntryLeft.at(refused.place))
 }
 
 // Enters the items of the value that stands at `at`, which was read without refusal.

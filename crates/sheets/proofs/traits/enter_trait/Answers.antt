@@ -18,9 +18,9 @@ returns-then-is_full c =
 pub returns-in_err-entered : goal.returns-in_err-entered
 returns-in_err-entered c =
     λ white w n. items_full c.requires.0 c.requires.2 c.requires.1 white w (value (goal.at.returns-in_err-entered c).In_ok-value) c.is_full.ensures
-    c.if-is_full.false c.under.ensures c.in_err-entered.ensures.1 refl (passes c.from_residual-in_err-entered.ensures.1)
+    c.if-is_full.false c.under.ensures c.in_err-entered.ensures.entered.1 refl (passes c.from_residual-in_err-entered.ensures.1)
 
 pub returns : goal.returns
 returns c =
     λ white w n. trait_made c.requires.0 c.requires.2 c.requires.1 white w (value (goal.at.returns c).In_ok-value) c.is_full.ensures
-    c.if-is_full.false c.under.ensures c.in_ok-entered.ensures.1 n refl (rw (c.number.ensures, c.number-2.ensures) at c.put.ensures) refl
+    c.if-is_full.false c.under.ensures c.in_ok-entered.ensures.entered.1 n refl (rw (c.number.ensures, c.number-2.ensures) at c.put.ensures) refl
