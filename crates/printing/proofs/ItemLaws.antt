@@ -59,6 +59,13 @@ bracket_forms Bracket.Set = (omega arith, λ e. omega arith)
 bracket_forms Bracket.Map = (omega arith, λ e. omega arith)
 bracket_forms Bracket.Tuple = (omega arith, λ e. omega arith)
 
+-- which forms are of no kind
+pub other_form : (form : ℕ) → (form ≡ 12 → ⊥) → (form ≡ 14 → ⊥) → (form ≡ 15 → ⊥) → (form ≡ 16 → ⊥) → (k : Bracket) → form ≡ bracket_form k → ⊥
+other_form form l s m t Bracket.List = l
+other_form form l s m t Bracket.Set = s
+other_form form l s m t Bracket.Map = m
+other_form form l s m t Bracket.Tuple = t
+
 -- each kind has a form of its own
 abbrev kind_of : ℕ → Bracket
 kind_of form = pick (eqb form 14) Bracket.Set (pick (eqb form 15) Bracket.Map (pick (eqb form 16) Bracket.Tuple Bracket.List))
