@@ -7,6 +7,9 @@ ghost use Rattle.trials.specs.Words.{in_word, Held};
 use text::classes;
 use text::runs::skip;
 
+// The largest number that every digit may follow: with it, it is still no more than a usize holds.
+const TENTH: usize = 1844674407370955160;
+
 // Where the word that stands at `at` ends: at its space, or at the end of the line.
 pub fn end(line: &[u8], at: usize) -> usize
     requires { at ≤ length line.now }
@@ -28,12 +31,15 @@ pub fn number(digits: &[u8]) -> Option<usize> {
     if digits.is_empty() {
         return None;
     }
-    let mut n: usize = 0;
+    let mut n = 0;
     for &digit in digits {
         if !classes::is_digit(digit) {
             return None;
         }
-        n = n.checked_mul(10)?.checked_add((digit - b'0') as usize)?;
+        if TENTH < n {
+            return None;
+        }
+        n = n * 10 + (digit - b'0') as usize;
     }
     Some(n)
 }
