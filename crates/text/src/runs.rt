@@ -17,6 +17,7 @@ pub trait Class {
 }
 
 // Letters and digits.
+#[derive(Clone, Copy)]
 pub struct Name;
 
 impl Class for Name {
@@ -28,6 +29,7 @@ impl Class for Name {
 }
 
 // Spaces and tabs.
+#[derive(Clone, Copy)]
 pub struct Blank;
 
 impl Class for Blank {
@@ -39,6 +41,7 @@ impl Class for Blank {
 }
 
 // Spaces, tabs and line ends.
+#[derive(Clone, Copy)]
 pub struct White;
 
 impl Class for White {
@@ -49,6 +52,7 @@ impl Class for White {
     }
 }
 
+#[derive(Clone, Copy)]
 pub struct Digit;
 
 impl Class for Digit {
@@ -60,6 +64,7 @@ impl Class for Digit {
 }
 
 // Hex digits, in either case.
+#[derive(Clone, Copy)]
 pub struct Hex;
 
 impl Class for Hex {
@@ -71,6 +76,7 @@ impl Class for Hex {
 }
 
 // What the scheme of an IRI is made of.
+#[derive(Clone, Copy)]
 pub struct Scheme;
 
 impl Class for Scheme {
