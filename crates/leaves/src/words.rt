@@ -49,8 +49,22 @@ impl Around {
     }
 }
 
-// Where the word that stands at `at` ends, by what stands around it.
+// Where the word that stands at `at` ends, by what stands around it. That is asked here once, and not again at each byte.
 pub fn word_end(s: &[u8], at: usize, around: Around) -> usize
+    requires { at ≤ length s.now }
+    ensures { (result ≡ at + word_length (enders_of around) (drop at s.now)) × (at ≤ result) × (result ≤ length s.now) }
+{
+    match around {
+        Around::Nothing => end_within(s, at, Around::Nothing),
+        Around::Square => end_within(s, at, Around::Square),
+        Around::Round => end_within(s, at, Around::Round),
+        Around::Key => end_within(s, at, Around::Key),
+    }
+}
+
+// The same, byte by byte, where the compiler knows what stands around.
+#[inline(always)]
+fn end_within(s: &[u8], at: usize, around: Around) -> usize
     requires { at ≤ length s.now }
     ensures { (result ≡ at + word_length (enders_of around) (drop at s.now)) × (at ≤ result) × (result ≤ length s.now) }
 {

@@ -2,7 +2,7 @@ use mathlib.Core.Path.{sym, ◌∙◌}
 use native.Mathlib.Omega.{arith}
 use Rattle.leaves.specs.Kinds.{enders_of}
 use Rattle.leaves.proofs.WordEnds.{word_stops, word_turns, word_out}
-use Rattle.leaves.proofs.words.word_end.Goals as goal
+use Rattle.leaves.proofs.words.end_within.Goals as goal
 
 pub returns-then-ends_word : goal.returns-then-ends_word
 returns-then-ends_word c = (sym (word_stops _ _ _ (sym c.ends_word.ensures ∙ c.if-ends_word.true)) ∙ c.loop-i.invariant, omega arith, omega arith)
