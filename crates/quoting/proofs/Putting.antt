@@ -1,14 +1,15 @@
 -- Bytes put on a page: what fits, what does not, and one step behind another. Assumes nothing.
 use Prim.Native.Nat.{ℕ, suc, ◌+◌, ◌-◌, ◌≤◌, ◌<◌, ◌/◌, ◌%◌}
 use mathlib.Core.Path.{◌≡◌, refl, sym, ap, ◌∙◌, subst}
-use mathlib.Core.List.{List, [], ◌∷◌, ◌++◌, append_assoc}
+use mathlib.Core.List.{List, [], ◌∷◌, ◌++◌, append_assoc, map}
 use native.Mathlib.Nat.{add-zero}
 use native.Mathlib.Omega.{arith}
 use borrow.Author.Tests.{lt-leb, lt-ltb, le-ltb}
 use borrow.Rule.Slice.PartMut.{put_mid}
-use lib.ListN.{length, length-append, set, take}
+use lib.ListN.{length, length-append, set, take, drop, get_or, drop_of_length-le}
 use lib.Seq.{sets, sets-eq, length-sets, drop-drop}
 use Rattle.paper.specs.Canonical.{hex_letter, hex_onto}
+use Rattle.text.proofs.Places.{here}
 use Rattle.quoting.specs.declared.page.Page.{Page}
 use Rattle.quoting.specs.Page.{page, full, filled, Step, Puts}
 
@@ -56,6 +57,17 @@ pub part_stored : (l w part : List ℕ) (at end : ℕ) → part ≡ w → end �
 part_stored l w part at end is e h =
     let n : end - at ≡ length w = omega arith in
     rw (is, n) (ap (λ (x : List ℕ). take at l ++ (w ++ x)) (drop-drop (length w) at l) ∙ sym (append_assoc (take at l) w _) ∙ sym (sets-eq w l at h))
+
+-- bytes stored one after another: one more, and all of them
+module _ (f : ℕ → ℕ) (out part : List ℕ) (at i : ℕ) where
+  pub stores_more : (b : ℕ) → i < length part → b ≡ f (get_or part i 0)
+      → sets (set out (at + i) b) (at + (i + 1)) (map f (drop (i + 1) part)) ≡ sets out (at + i) (map f (drop i part))
+  stores_more b h is =
+      let e : at + (i + 1) ≡ suc (at + i) = omega arith in
+      rw (is, here part i h, e)
+
+  pub stores_end : length part ≤ i → sets out (at + i) (map f (drop i part)) ≡ out
+  stores_end h = rw (drop_of_length-le part h)
 
 -- ---- one step behind another
 

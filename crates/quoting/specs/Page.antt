@@ -1,6 +1,7 @@
 -- A page that bytes are put on, one behind the other, as long as there is room.
 -- Document 01, "Canonical form" and refusal 12.
-use Rattle.std.specs.Prelude.{ℕ, ◌+◌, ◌≡◌, List, length, leb}
+use Rattle.std.specs.Prelude.{ℕ, ◌+◌, ◌<◌, ◌≡◌, List, length, leb}
+use Rattle.std.specs.Fn.{Shared}
 use Rattle.std.proofs.lemmas.List.Edits.{sets}
 use Rattle.paper.specs.Found.{pick}
 use Rattle.quoting.specs.declared.page.Page.{Page}
@@ -27,3 +28,7 @@ pub record Step (before : Page) (onto : List ℕ → List ℕ) (after : Page) (l
 -- all of it was put
 abbrev pub Puts : Page → (List ℕ → List ℕ) → Page → Type 0
 Puts before onto after = Step before onto after (λ next. next)
+
+-- each call makes of a byte what the function does
+abbrev pub TurnsByte : {F : Type 0} → Shared F (ℕ × Unit {0}) ℕ → F → (ℕ → ℕ) → Type 0
+TurnsByte g turn f = (b r : ℕ) → b < 256 → g.post turn (b, tt) r → r ≡ f b

@@ -1,8 +1,9 @@
 // A page: bytes are put on it one behind the other. What has no room is left out, and the place is then behind the page's end for good.
 // Document 01, "Canonical form" and refusal 12.
-ghost use Rattle.std.specs.Prelude.{◌≡◌, true, false, List, ℕ, ◌∷◌, ◌++◌, ◌+◌, ◌≤◌, length};
+ghost use Rattle.std.specs.Prelude.{◌≡◌, true, false, List, ℕ, ◌∷◌, ◌++◌, ◌+◌, ◌≤◌, length, map};
+ghost use Rattle.std.proofs.lemmas.List.Edits.{sets};
 ghost use Rattle.paper.specs.Grammar.{tabs_onto};
-ghost use Rattle.quoting.specs.Page.{Puts};
+ghost use Rattle.quoting.specs.Page.{Puts, TurnsByte};
 
 // The bytes of a page, and the place where it goes on.
 #[derive(Drop)]
@@ -47,10 +48,17 @@ impl<'a> Page<'a> {
     pub fn put(&mut self, part: &[u8])
         ensures { Puts self.old (λ next. part.now ++ next) self.new }
     {
+        self.put_each(part, |b| b);
+    }
+
+    // Puts what `of` makes of each of these bytes.
+    pub(crate) fn put_each<F: Fn(u8) -> u8>(&mut self, part: &[u8], of: F)
+        requires { F.IsAlwaysCallable of }
+        ensures { (f : ℕ → ℕ) → TurnsByte F.Fn of f → Puts self.old (λ next. map f part.now ++ next) self.new }
+    {
         if self.has_room(part.len()) {
-            let end = self.at + part.len();
-            self.out[self.at..end].copy_from_slice(part);
-            self.at = end;
+            lay(self.out, self.at, part, of);
+            self.at += part.len();
         }
     }
 
@@ -63,5 +71,17 @@ impl<'a> Page<'a> {
             self.out[self.at..end].fill(b'\t');
             self.at = end;
         }
+    }
+}
+
+// Writes what `of` makes of each byte of a part, from `at` on. It is written byte by byte: `copy_from_slice` would be a call of `memmove`, which
+// takes more for short parts, as most are, and which the archive for C needs for nothing else.
+fn lay<F: Fn(u8) -> u8>(out: &mut [u8], at: usize, part: &[u8], of: F)
+    requires room { at + length part.now ≤ length out.old }
+    requires answers { F.IsAlwaysCallable of }
+    ensures { (f : ℕ → ℕ) → TurnsByte F.Fn of f → out.new ≡ sets out.old at (map f part.now) }
+{
+    for i in 0..part.len() {
+        out[at + i] = of(part[i]);
     }
 }

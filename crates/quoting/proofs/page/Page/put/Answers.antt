@@ -1,9 +1,11 @@
--- Stored where there is room. Assumes nothing.
-use mathlib.Core.Path.{refl}
-use Rattle.quoting.proofs.Putting.{stored_there, part_stored}
+-- Each byte as it is. Assumes nothing.
+use Prim.Native.Nat.{ℕ}
+use mathlib.Core.Path.{ap, sym}
+use mathlib.Core.List.{List, ◌++◌}
+use Rattle.std.proofs.Common.{of_calls}
+use Rattle.std.proofs.lemmas.List.{map-id}
+use Rattle.quoting.proofs.Putting.{puts_as}
 use Rattle.quoting.proofs.page.Page.put.Goals as goal
 
-pub returns-then-has_room : goal.returns-then-has_room
-returns-then-has_room c =
-    let room = c.has_room.ensures.room c.if-has_room.true in
-    stored_there c.args.self.now c.has_room.new.self _ c.args.part.now room.0 refl (part_stored _ c.args.part.now _ _ _ c.copy_from_slice.ensures.after refl room.1) refl
+pub returns : goal.returns
+returns c = puts_as _ (λ next. ap (λ (w : List ℕ). w ++ next) (sym (map-id c.args.part.now))) (c.put_each.ensures (λ b. b) (λ b r h p. search of_calls))
