@@ -1,8 +1,8 @@
--- White space collapsed, and letters in lower case, put byte by byte. Document 01, "Canonical form". Assumes nothing.
+-- White space collapsed, put byte by byte, and letters in lower case. Document 01, "Canonical form". Assumes nothing.
 use Prim.Native.Nat.{ℕ, ◌+◌, ◌≤◌, ◌<◌}
-use mathlib.Core.Path.{◌≡◌, refl, sym, ap, ◌∙◌}
+use mathlib.Core.Path.{◌≡◌, refl, ap, ◌∙◌}
 use mathlib.Core.Bool.{true, false}
-use mathlib.Core.List.{List, [], ◌∷◌, ◌++◌, map}
+use mathlib.Core.List.{List, [], ◌∷◌, ◌++◌}
 use native.Mathlib.Omega.{arith}
 use lib.ListN.{length, drop, get_or, drop_of_length-le}
 use lib.Dec.{ltb}
@@ -68,7 +68,7 @@ module _ (w : List ℕ) (i : ℕ) (spacing : Spacing) {before now : Page} {f : L
 
 -- ---- lower case
 
-lower_is : (b : ℕ) → to_ascii_lowercase b ≡ lower b
+pub lower_is : (b : ℕ) → to_ascii_lowercase b ≡ lower b
 unfolding lower is_upper
 lower_is b =
     split (ltb b 65)
@@ -76,10 +76,3 @@ lower_is b =
     (λ e. let h : 65 ≤ b = ltb-false b 65 e in split (ltb b 91)
     (λ f. let k : b ≤ 90 = omega (arith, ltb-true b 91 f) in rw (e, f, le-leb 65 b h, le-leb b 90 k))
     (λ f. let k : 90 < b = omega (arith, ltb-false b 91 f) in rw (e, f, le-leb 65 b h, lt-leb b 90 k)))
-
-module _ (w : List ℕ) (i : ℕ) {before now : Page} {f : List ℕ → List ℕ} (so_far : Step before f now (λ next. map lower (drop i w) ++ next)) where
-  pub lower_on : i < length w → (b : ℕ) → b ≡ to_ascii_lowercase (get_or w i 0) → {after : Page} → Puts now (λ next. b ∷ next) after
-      → Step before f after (λ next. map lower (drop (i + 1) w) ++ next)
-  lower_on h b is p = step_then (λ next. b ∷ next) (λ next. map lower (drop (i + 1) w) ++ next) so_far
-      (λ next. ap (λ (l : List ℕ). map lower l ++ next) (here w i h)
-      ∙ ap (λ (x : ℕ). x ∷ (map lower (drop (i + 1) w) ++ next)) (sym (is ∙ lower_is (get_or w i 0)))) p

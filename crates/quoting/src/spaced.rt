@@ -56,7 +56,5 @@ pub fn put_collapsed(page: &mut Page, w: &[u8])
 pub fn put_lower(page: &mut Page, w: &[u8])
     ensures { Puts page.old (λ next. map lower w.now ++ next) page.new }
 {
-    for b in w {
-        page.put_byte(b.to_ascii_lowercase());
-    }
+    page.put_each(w, |b| b.to_ascii_lowercase());
 }

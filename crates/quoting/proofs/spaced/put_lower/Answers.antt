@@ -1,6 +1,9 @@
-use Rattle.quoting.proofs.Collapsing.{lower_on}
+-- Each byte in lower case. Assumes nothing.
+use mathlib.Core.Path.{◌∙◌}
+use Rattle.std.proofs.Common.{of_calls}
+use Rattle.paper.specs.Canonical.{lower}
+use Rattle.quoting.proofs.Collapsing.{lower_is}
 use Rattle.quoting.proofs.spaced.put_lower.Goals as goal
 
-pub loop-b-preserved : goal.loop-b-preserved
-loop-b-preserved c =
-    lower_on c.args.w.now c.loop-b.b-index c.loop-b.invariant c.loop-b-test.true _ c.to_ascii_lowercase.ensures.value c.put_byte.ensures
+pub returns : goal.returns
+returns c = c.put_each.ensures lower (λ b r h p. search of_calls ∙ lower_is b)
