@@ -47,7 +47,8 @@ fn write_under(modes: &Modes, sheet: &[u8], cells: &mut [u32], out: &mut [u8]) -
 }
 
 // Writes the canonical form of the sheet that has just these entries. It is laid out on a page first, so that nothing is written where it
-// does not fit.
+// does not fit. Were it made part of its callers, the page would take stack while the sheet is read.
+#[inline(never)]
 pub fn write_form(sheet: &[u8], cells: &[u32], out: &mut [u8]) -> Answer
     ensures { FormWritten sheet.now cells.now out.old (told result) out.new }
 {
