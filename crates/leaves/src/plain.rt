@@ -4,7 +4,7 @@ ghost use Rattle.std.specs.Prelude.{◌≡◌, ◌||◌, ◌+◌, ◌≤◌, len
 ghost use Rattle.paper.specs.Bytes.{byte, length_in};
 ghost use Rattle.leaves.specs.Plain.{is_plain};
 
-use text::runs::skip_by;
+use text::runs::{skip, skip_blocks};
 
 // Whether a byte takes a backslash before it, between two of this quote.
 pub fn is_marked(quote: u8, b: u8) -> bool
@@ -29,10 +29,15 @@ fn is_plain(quote: u8, b: u8) -> bool
     (below | between | (0x80 <= b)) & (b != quote)
 }
 
-// Where the run of such bytes that stands at `at` ends.
+// Where the run of such bytes that stands at `at` ends. One by one the first fault of a byte decides, as most runs are short.
 pub fn plain_end(s: &[u8], at: usize, quote: u8) -> usize
     requires { at ≤ length s.now }
     ensures { (result ≡ at + length_in (is_plain quote) (drop at s.now)) × (at ≤ result) × (result ≤ length s.now) }
 {
-    skip_by::<16, _>(at, s.len(), |i| is_plain(quote, s[i]))
+    let many = skip_blocks::<16, _>(at, s.len(), |i| is_plain(quote, s[i]));
+    skip(
+        many,
+        s.len(),
+        |i| !is_marked(quote, s[i]) && !is_control(s[i]),
+    )
 }
