@@ -1,7 +1,7 @@
 -- The same bytes, fixed bytes in front, and a byte among others, as the library compares them. Assumes nothing.
 use Prim.Native.Nat.{ℕ, ◌-◌, ◌≤◌, min}
 use mathlib.Core.Path.{◌≡◌, refl, sym, ap, ◌∙◌}
-use mathlib.Core.Bool.{Bool, true}
+use mathlib.Core.Bool.{Bool, true, false}
 use mathlib.Core.List.{List, [], ◌∷◌, reverse}
 use native.Mathlib.Omega.{arith}
 use lib.ListN.{length, take, drop, length-drop, length-append, drop_of_length-le}
@@ -19,8 +19,8 @@ use Rattle.paper.specs.Bytes.{same, starts_with, elem}
 -- the same bytes, from their ends on
 module _ (s t : List ℕ) where
   -- lists of two lengths are not the same
-  pub same_long : (length s ≡ length t → ⊥) → eqb (length s) (length t) ≡ same s t
-  same_long n = rw (ne_eqb _ _ n) (split (same s t) (λ e. absurd (n (ap length (same_is s t e)))) (λ e. sym e))
+  pub same_long : (r : Bool) → r ≡ false → (length s ≡ length t → ⊥) → r ≡ same s t
+  same_long r off n = off ∙ split (same s t) (λ e. absurd (n (ap length (same_is s t e)))) (λ e. sym e)
 
   pub same_turned : (r : Bool) → Decides r (reverse s ≡ reverse t) → r ≡ same s t
   same_turned r decides =

@@ -1,12 +1,15 @@
--- Durations: a turn of the loop that reads their parts, and its ways out. Over plain lists, any rule of sizes and any letters; 001 §18.
--- Assumes nothing.
+-- Durations: a turn of the loop that reads their parts, and its ways out, and what they are by whether a "T" stands in them.
+-- Over plain lists; the loop over any rule of sizes and any letters. 001 §18. Assumes nothing.
 use Prim.Native.Nat.{ℕ, zero, suc, ◌-◌, ◌≤◌}
 use mathlib.Core.Path.{◌≡◌, refl, sym, ap, ◌∙◌}
-use mathlib.Core.Bool.{Bool, true, false, ◌&&◌, ◌||◌}
+use mathlib.Core.Bool.{Bool, true, false, ◌&&◌, ◌||◌, or-false}
 use mathlib.Core.List.{List}
 use native.Mathlib.Omega.{arith}
 use lib.ListN.{length}
-use Rattle.paper.specs.Times.{is_empty, are_parts}
+use Rattle.paper.specs.Bytes.{bytes}
+use Rattle.paper.specs.Times.{is_empty, are_parts, are_date_parts, are_time_parts, is_span}
+use Rattle.paper.proofs.Tests.{split, true_false}
+use Rattle.paper.proofs.TimeKinds.{dates_free}
 use Rattle.times.specs.Parts.{HasNone, IsParted}
 use Rattle.times.proofs.Splits.{is_shorter, parted_none, parted_on}
 
@@ -53,3 +56,23 @@ module _ (size : List ℕ → Bool) (letters w left : List ℕ) (so_far : Ahead 
     parts_on e o =
         let less = is_shorter letters left front rest at in
         record { fuel = so_far.fuel - 1; enough = omega (arith, so_far.enough); same = rw (e, o) at whole }
+
+-- ---- by whether a "T" stands in them
+
+-- what may stand before it
+abbrev maybe_date : List ℕ → Bool
+maybe_date d = is_empty d || are_date_parts d
+
+module _ (w : List ℕ) where
+  pub span_date : HasNone (bytes "T") w → are_date_parts w ≡ is_span w
+  unfolding is_span
+  span_date h = rw (← parted_none (bytes "T") maybe_date are_time_parts w h) (sym (or-false (are_date_parts w)))
+
+  module _ (date time : List ℕ) (at : IsParted (bytes "T") w date time) where
+    -- no parts of a date have a "T"
+    no_date : are_date_parts w ≡ false
+    no_date = split (are_date_parts w) (λ e. true_false (sym at.mark ∙ dates_free w e)) (λ e. e)
+
+    pub span_parted : maybe_date date && are_time_parts time ≡ is_span w
+    unfolding is_span
+    span_parted = rw no_date (parted_on (bytes "T") maybe_date are_time_parts w date time at)

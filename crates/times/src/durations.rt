@@ -5,19 +5,16 @@ ghost use Rattle.paper.specs.Times.{are_parts, are_date_parts, are_time_parts, i
 ghost use Rattle.times.specs.Parts.{is_decimals, Judges};
 
 use crate::fields::are_digits;
-use crate::parted::{parted, perhaps, split_once};
+use crate::parted::{perhaps, split_once};
 
 // Whether the bytes are what stands behind the "P" of a duration.
 pub fn is_span(w: &[u8]) -> bool
     ensures { result ≡ is_span w.now }
 {
-    are_date_parts(w)
-        || parted(
-            w,
-            b"T",
-            |date| date.is_empty() || are_date_parts(date),
-            are_time_parts,
-        )
+    match split_once(w, b"T") {
+        Some((date, time)) => (date.is_empty() || are_date_parts(date)) && are_time_parts(time),
+        None => are_date_parts(w),
+    }
 }
 
 fn are_date_parts(w: &[u8]) -> bool

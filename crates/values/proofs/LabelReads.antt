@@ -66,10 +66,10 @@ module _ (s : List ℕ) (at : ℕ) (key : Key) where
       refuses_at (λ a. at) s at (colon key (drop at s)) Cut (length s) (omega arith) (rw (drop_of_length-le s h, drop-length s))
 
   module _ (h : at < length s) where
-    pub colon_missing : (get_or s at 0 ≡ byte ":" → ⊥) → (e : Refused) → e ≡ refused_at Value at → ColonAt key s at (Err e)
-    colon_missing n =
-        refuses_at (λ a. at) s at (colon key (drop at s)) Value at (omega arith)
-        (rw (here s at h) (colon_due key (get_or s at 0) (drop (at + 1) s) (ne_eqb (get_or s at 0) (byte ":") n)))
+    pub colon_missing : (get_or s at 0 ≡ byte ":" → ⊥) → (r : Result Labelled Refused) → r ≡ Err (refused_at Value at) → ColonAt key s at r
+    colon_missing n r q =
+        rw q (refuses_at (λ a. at) s at (colon key (drop at s)) Value at (omega arith)
+        (rw (here s at h) (colon_due key (get_or s at 0) (drop (at + 1) s) (ne_eqb (get_or s at 0) (byte ":") n))) _ refl)
 
     pub colon_there : get_or s at 0 ≡ byte ":" → (end : ℕ) → end ≡ at + 1 + length_in is_white (drop (at + 1) s) → at ≤ end → end ≤ length s
         → ColonAt key s at (Ok (record { key = at; value = end }))

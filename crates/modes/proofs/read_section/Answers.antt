@@ -1,6 +1,9 @@
 -- A law for each way out and for one name more; the index's part goes along with the reading's.
-use mathlib.Core.Path.{◌≡◌, refl, sym, ◌∙◌}
+use mathlib.Core.Path.{◌≡◌, refl, ◌∙◌}
+use mathlib.Core.Bool.{true, false}
 use native.Mathlib.Omega.{arith}
+use Rattle.std.specs.Option.{is_some}
+use Rattle.std.proofs.Common.{rules}
 use Rattle.text.proofs.Answers.{passes}
 use Rattle.modes.proofs.Named.{named}
 use Rattle.modes.proofs.Sections.{begins, goes_on, ends_all, ends_refused, ends_again, section_cut, section_over, section_names}
@@ -38,17 +41,19 @@ pub returns-then-is_some : goal.returns-then-is_some
 returns-then-is_some c =
     let here = c.in-Some.ensures.lookup.3 in
     let n = named c.args.table.now c.loop-i.place _ _ c.in_ok-end.ensures in
+    let some : is_some c.find.result ≡ true = search rules in
     rw c.at-then-is_some.ensures
     (section_refused _
     (ends_again _ _ _ _ _ _ c.loop-i.invariant.0 _ c.loop-i-test.true n _
-    (stands_already _ _ _ c.loop-i.invariant.1.lists _ _ c.find.ensures (sym c.is_some.ensures ∙ c.if-is_some.true)) refl
+    (stands_already _ _ _ c.loop-i.invariant.1.lists _ _ c.find.ensures some) refl
     ∙ section_names _ _ _ here.0 _ (here.1 0) c.if-count-gt-SECTION_LIMIT.false))
 
 pub loop-i-preserved : goal.loop-i-preserved
 loop-i-preserved c =
-    let n = named c.args.table.now c.loop-i.place _ _ c.in_ok-end.ensures in (
+    let n = named c.args.table.now c.loop-i.place _ _ c.in_ok-end.ensures in
+    let none : is_some c.find.result ≡ false = search rules in (
       goes_on _ _ _ _ _ _ c.loop-i.invariant.0 _ c.loop-i-test.true n _
-          (stands_not _ _ _ c.loop-i.invariant.1.lists _ _ c.find.ensures (sym c.is_some.ensures ∙ c.if-is_some.false)) refl,
+          (stands_not _ _ _ c.loop-i.invariant.1.lists _ _ c.find.ensures none) refl,
       rw (c.add.ensures, c.key-key.ensures.0)
           (listed_more _ _ _ _ c.requires _ _ _ _ c.loop-i.invariant.0 c.loop-i.invariant.1 c.if-count-gt-SECTION_LIMIT.false c.loop-i-test.true _
           n),

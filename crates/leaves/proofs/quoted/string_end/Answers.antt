@@ -1,5 +1,7 @@
-use mathlib.Core.Path.{refl}
+use mathlib.Core.Path.{◌≡◌, refl}
 use native.Mathlib.Omega.{arith}
+use Rattle.std.proofs.Common.{rules}
+use Rattle.std.specs.Prelude.{Ok, Err}
 use Rattle.text.proofs.Answers.{passes}
 use Rattle.leaves.proofs.Showing.{finds, no_value, cut_off}
 use Rattle.leaves.proofs.Quotes.{string_ends, string_closes, string_breaks, string_itself, string_refused, string_escaped}
@@ -14,18 +16,20 @@ returns-in-34 c = c.loop-i.invariant.2 _ (finds _ _ _ _ _ _ (omega arith) (omega
 
 pub returns-in_err-end-in-92 : goal.returns-in_err-end-in-92
 returns-in_err-end-in-92 c =
+    let was : c.escape_end.result ≡ Err c.in_err-end-in-92.field-0.0 = search rules in
     rw (passes c.from_residual.ensures.1) (c.loop-i.invariant.2 _
-    (string_refused _ _ c.loop-i-test.true c.in-92.is _ c.escape_end.ensures _ c.in_err-end-in-92.was))
+    (string_refused _ _ c.loop-i-test.true c.in-92.is _ c.escape_end.ensures _ was))
 
 pub loop-i-preserved-in-92 : goal.loop-i-preserved-in-92
 loop-i-preserved-in-92 c =
-    let ahead = c.escape_end.ensures.ahead _ c.in_ok-end-in-92.was in
+    let was : c.escape_end.result ≡ Ok c.in_ok-end-in-92.end = search rules in
+    let ahead = c.escape_end.ensures.ahead _ was in
     let run = c.plain_end-i-in-92.ensures in (
       omega arith,
       run.2,
       λ r e. c.loop-i.invariant.2 r
           (string_escaped _ _ c.loop-i-test.true c.in-92.is _ c.escape_end.ensures _
-          c.in_ok-end-in-92.was (string_plain _ _ _ run e)),
+          was (string_plain _ _ _ run e)),
     )
 
 pub returns-in-10 : goal.returns-in-10

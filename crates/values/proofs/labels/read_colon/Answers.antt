@@ -1,6 +1,9 @@
 -- A law for each way out: cut, missing, or there.
-use mathlib.Core.Path.{sym, ◌∙◌}
+use mathlib.Core.Path.{◌≡◌, sym, ◌∙◌}
 use native.Mathlib.Omega.{arith}
+use lib.ListN.{get_or}
+use Rattle.std.proofs.Common.{rules}
+use Rattle.paper.specs.Bytes.{byte}
 use Rattle.values.proofs.LabelReads.{colon_ends, colon_missing, colon_there}
 use Rattle.values.proofs.labels.read_colon.Goals as goal
 
@@ -15,4 +18,5 @@ returns-in-Some-eq58 c key =
 pub returns-in-Some : goal.returns-in-Some
 returns-in-Some c key =
     let there = c.in-Some.ensures.lookup.3 in
-    colon_missing _ _ key there.0 (λ q. c.in-Some.field-0-test.1 (there.1 0 ∙ q)) _ c.at-in-Some.ensures
+    let other : get_or c.args.s.now c.args.at 0 ≡ byte ":" → ⊥ = λ q. c.in-Some.field-0-test.1 (there.1 0 ∙ q) in
+    colon_missing _ _ key there.0 other _ (search rules)

@@ -3,6 +3,8 @@ use mathlib.Core.Path.{◌≡◌, sym, ap, ◌∙◌}
 use mathlib.Core.List.{[], ◌∷◌}
 use native.Mathlib.Omega.{arith}
 use lib.ListN.{drop}
+use Rattle.std.proofs.Common.{rules}
+use Rattle.std.specs.Prelude.{Ok, Err}
 use Rattle.text.proofs.Answers.{passes}
 use Rattle.std.specs.Option.{is_some}
 use Rattle.paper.specs.Bytes.{starts_with}
@@ -17,7 +19,7 @@ use Rattle.leaves.proofs.Showing.{moved}
 use Rattle.values.proofs.LabelLaws.{LabelTo, label_stands}
 use Rattle.values.proofs.BracketLaws.{Opened, fewer_falls, opening_told, opening_none, opened_in, leaf_value, deep_value, empty_value, items_value}
 use Rattle.values.proofs.BracketLaws.{item_refused, item_cut, item_last, item_wrong, item_next}
-use Rattle.values.proofs.reading.+read_items_read_value.Goals.{read_items-In_ok-value, read_items-After-read_value, read_value-In-Some, read_value-In-Some-step}
+use Rattle.values.proofs.reading.+read_items_read_value.Goals.{read_items-In_ok-value, read_items-After-read_value, read_items-In_ok-end, read_items-In_err-end, read_value-In-Some, read_value-In-Some-step}
 use Rattle.values.proofs.reading.+read_items_read_value.Goals as goal
 
 -- an item is due behind its label
@@ -30,32 +32,39 @@ item-read : (t : ℕ) (c : read_items-After-read_value t) → let s = c.args.s.n
     Judges value_form s due (value_of c.args.nesting.left (enders c.args.kind) (drop due s)) c.read_value.result
 item-read t c = rw (inside_enders c.args.kind c.inside-around.result c.inside-around.ensures) at c.read_value.ensures
 
+-- what is gone on with is that reading's end, and what is passed on is its own refusal
+item-end : (t : ℕ) (c : read_items-In_ok-end t) → c.read_value.result ≡ Ok c.in_ok-end.field-0
+item-end t c = search rules
+
+item-fault : (t : ℕ) (c : read_items-In_err-end t) → c.read_value.result ≡ Err c.in_err-end.field-0.0
+item-fault t c = search rules
+
 pub read_items-returns-in_err-end : goal.read_items-returns-in_err-end
 read_items-returns-in_err-end t c =
     let before = goal.at.read_items-returns-in_err-end t c in
     let inv = c.loop-value.invariant in
     rw (passes c.from_residual-in_err-end.ensures.1)
-    (moved (item_refused _ _ _ _ _ _ (labelled t before.In_ok-value) _ (item-read t before.After-read_value) _ c.in_err-end.was) _ _ inv.0 inv.2)
+    (moved (item_refused _ _ _ _ _ _ (labelled t before.In_ok-value) _ (item-read t before.After-read_value) _ (item-fault t before.In_err-end)) _ _ inv.0 inv.2)
 
 pub read_items-returns-then-s-end : goal.read_items-returns-then-s-end
 read_items-returns-then-s-end t c =
     let before = goal.at.read_items-returns-then-s-end t c in
     let inv = c.loop-value.invariant in
-    moved (item_cut _ _ _ _ _ _ (labelled t before.In_ok-value) _ (item-read t before.After-read_value) _ c.in_ok-end.was c.if-s-end.true _ c.at.ensures)
+    moved (item_cut _ _ _ _ _ _ (labelled t before.In_ok-value) _ (item-read t before.After-read_value) _ (item-end t before.In_ok-end) c.if-s-end.true _ c.at.ensures)
     _ _ inv.0 inv.2
 
 pub read_items-returns-then-closes : goal.read_items-returns-then-closes
 read_items-returns-then-closes t c =
     let before = goal.at.read_items-returns-then-closes t c in
     let inv = c.loop-value.invariant in
-    moved (item_last _ _ _ _ _ _ (labelled t before.In_ok-value) _ (item-read t before.After-read_value) _ c.in_ok-end.was
+    moved (item_last _ _ _ _ _ _ (labelled t before.In_ok-value) _ (item-read t before.After-read_value) _ (item-end t before.In_ok-end)
     (sym c.if-closes.ensures) _ c.form.ensures) _ _ inv.0 inv.2
 
 pub read_items-returns-then-not-goes_on : goal.read_items-returns-then-not-goes_on
 read_items-returns-then-not-goes_on t c =
     let before = goal.at.read_items-returns-then-not-goes_on t c in
     let inv = c.loop-value.invariant in
-    moved (item_wrong _ _ _ _ _ _ (labelled t before.In_ok-value) _ (item-read t before.After-read_value) _ c.in_ok-end.was c.if-s-end.false
+    moved (item_wrong _ _ _ _ _ _ (labelled t before.In_ok-value) _ (item-read t before.After-read_value) _ (item-end t before.In_ok-end) c.if-s-end.false
     (sym c.if-closes.ensures) (sym c.if-not-goes_on.ensures) _ c.at-then-not-goes_on.ensures) _ _ inv.0 inv.2
 
 pub read_items-loop-value-preserved : goal.read_items-loop-value-preserved
@@ -63,9 +72,9 @@ read_items-loop-value-preserved t c =
     let before = goal.at.read_items-loop-value-preserved t c in
     let inv = c.loop-value.invariant in
     let start = labelled t before.In_ok-value in (
-      omega (arith, inv.0, start.due, c.read_value.ensures.ahead _ c.in_ok-end.was, c.end-i.ensures.1),
+      omega (arith, inv.0, start.due, c.read_value.ensures.ahead _ (item-end t before.In_ok-end), c.end-i.ensures.1),
       c.end-i.ensures.2,
-      sym (item_next _ _ _ _ _ _ start _ (item-read t before.After-read_value) _ c.in_ok-end.was (sym c.if-not-goes_on.ensures) _ c.end-i.ensures) ∙ inv.2,
+      sym (item_next _ _ _ _ _ _ start _ (item-read t before.After-read_value) _ (item-end t before.In_ok-end) (sym c.if-not-goes_on.ensures) _ c.end-i.ensures) ∙ inv.2,
     )
 
 -- the bracket that opens there
