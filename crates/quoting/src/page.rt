@@ -39,8 +39,9 @@ impl<'a> Page<'a> {
         ensures { Puts self.old (λ next. b ∷ next) self.new }
     {
         if self.has_room(1) {
-            self.out[self.at] = b;
+            let at = self.at;
             self.at += 1;
+            self.out[at] = b;
         }
     }
 
@@ -57,8 +58,9 @@ impl<'a> Page<'a> {
         ensures { (f : ℕ → ℕ) → TurnsByte F.Fn of f → Puts self.old (λ next. map f part.now ++ next) self.new }
     {
         if self.has_room(part.len()) {
+            let end = self.at + part.len();
             lay(self.out, self.at, part, of);
-            self.at += part.len();
+            self.at = end;
         }
     }
 
