@@ -87,6 +87,11 @@ step_then {q = q} h k s e t = record { lies = t.lies ∙ s.lies; same = λ next.
 pub puts_then : {p q r : Page} {k : List ℕ → List ℕ} (f g : List ℕ → List ℕ) → Puts p f q → Step q g r k → Step p (λ next. f (g next)) r k
 puts_then f g s t = record { lies = t.lies ∙ s.lies; same = λ next. s.same (g next) ∙ t.same next }
 
+-- put on a page that lies in the bytes of another and goes on where that does
+pub puts_within : {p q first last : Page} {f : List ℕ → List ℕ} → first.out.now ≡ p.out.now → first.at ≡ p.at → Puts first f last
+    → q.out.ghost_name ≡ p.out.ghost_name → (last.out.ghost_name ≡ first.out.ghost_name → q.out.now ≡ last.out.now) → q.at ≡ last.at → Puts p f q
+puts_within {f = f} e a s lies g b = record { lies = lies; same = λ next. rw (← e, ← a, g s.lies, b) (s.same next) }
+
 -- with more behind it, that is still left
 pub ahead : {p q : Page} {f : List ℕ → List ℕ} (g : List ℕ → List ℕ) → Puts p f q → Step p (λ next. f (g next)) q g
 ahead g s = record { lies = s.lies; same = λ next. s.same (g next) }

@@ -44,12 +44,18 @@ impl Spacing {
 pub fn put_collapsed(page: &mut Page, w: &[u8])
     ensures { Puts page.old (λ next. collapse w.now ++ next) page.new }
 {
+    // A page of its own keeps the place where no byte that is stored could change it, so that it is not read again for each.
+    let mut own = Page {
+        out: &mut *page.out,
+        at: page.at,
+    };
     let mut spacing = Spacing::Start;
     for b in w {
-        if spacing.passes(page, *b) {
-            page.put_byte(*b);
+        if spacing.passes(&mut own, *b) {
+            own.put_byte(*b);
         }
     }
+    page.at = own.at;
 }
 
 // Puts these bytes in lower case.

@@ -7,4 +7,4 @@ use Rattle.quoting.proofs.Collapsing.{left}
 use Rattle.quoting.proofs.spaced.put_collapsed.Given as goal
 
 abbrev pub invariant-loop-b : goal.invariant-loop-b
-invariant-loop-b l = Step l.initial.page (λ next. collapse l.w ++ next) l.page (λ next. left l.spacing (drop l.b-index l.w) ++ next)
+invariant-loop-b l = Step l.initial.own (λ next. collapse l.w ++ next) l.own (λ next. left l.spacing (drop l.b-index l.w) ++ next)
