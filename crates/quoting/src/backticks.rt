@@ -30,14 +30,19 @@ pub fn put_backtick(page: &mut Page, w: &[u8])
     ensures { (ps : List Piece) → w.now ≡ pieces_onto ps [] → backtick_rule false ps ≡ true
         → Puts page.old (bytes_onto (byte "\"") (collapse (pieces_mean ps))) page.new }
 {
-    // A piece is of one byte or of two, so the place is kept by hand.
+    // A page of its own, as `put_collapsed` has one. A piece is of one byte or of two, so the place is kept by hand.
+    let mut apart = Page {
+        out: &mut *page.out,
+        at: page.at,
+    };
     let mut spacing = Spacing::Start;
     let mut i = 0;
     while i < w.len() {
         let own = meant_at(w, i);
-        if spacing.passes(page, w[own]) {
-            put_escaped(page, b'"', w[own]);
+        if spacing.passes(&mut apart, w[own]) {
+            put_escaped(&mut apart, b'"', w[own]);
         }
         i = own + 1;
     }
+    page.at = apart.at;
 }

@@ -11,7 +11,7 @@ use Rattle.quoting.proofs.backticks.put_backtick.Given as goal
 
 abbrev pub invariant-loop-i : goal.invariant-loop-i
 invariant-loop-i l =
-    (ps : List Piece) → l.w ≡ pieces_onto ps [] → backtick_rule false ps ≡ true → Ticks l.w l.initial.page ps l.i l.spacing l.page
+    (ps : List Piece) → l.w ≡ pieces_onto ps [] → backtick_rule false ps ≡ true → Ticks l.w l.initial.apart ps l.i l.spacing l.apart
 
 abbrev pub decreases-loop-i : goal.decreases-loop-i
 decreases-loop-i l = length l.w - l.i
