@@ -50,9 +50,9 @@ pub fn put_collapsed(page: &mut Page, w: &[u8])
         at: page.at,
     };
     let mut spacing = Spacing::Start;
-    for b in w {
-        if spacing.passes(&mut own, *b) {
-            own.put_byte(*b);
+    for &b in w {
+        if spacing.passes(&mut own, b) {
+            own.put_byte(b);
         }
     }
     page.at = own.at;
