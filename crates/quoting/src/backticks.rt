@@ -19,7 +19,8 @@ fn meant_at(w: &[u8], at: usize) -> usize
         × ((after : Bool) (ps : List Piece) → drop at w.now ≡ pieces_onto ps [] → backtick_rule after ps ≡ true
         → First w.now result ps) }
 {
-    if starts_with(w, at, b"\\`") {
+    // Most bytes are no backslash, and need no look at the next one.
+    if w[at] == b'\\' && starts_with(w, at, b"\\`") {
         return at + 1;
     }
     at
