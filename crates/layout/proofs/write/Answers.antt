@@ -1,6 +1,7 @@
 -- A refused table is passed through; else what is left under it, and zeros in all cells.
 use mathlib.Core.Path.{◌≡◌, ◌∙◌, ap}
 use lib.ListN.{length}
+use Rattle.std.proofs.Common.{rules}
 use Rattle.paper.specs.Answer.{told}
 use Rattle.modes.proofs.Chains.{fresh}
 use Rattle.modes.proofs.Answered.{refusal_of}
@@ -16,7 +17,9 @@ pub returns : goal.returns
 returns c =
     let under : WritesUnder c.args.table.now c.args.sheet.now (length c.args.cells.now) c.args.out.now (told c.match-read_into.answer) c.match-read_into.out =
     elim c.match-read_into.branch [
-      | in-Ok w ↦ rw (w.answer-is, w.out-is) w.write_under-answer.ensures
+      | in-Ok w ↦
+          let given : c.match-read_into.answer ≡ w.write_under-answer.result = search rules in
+          rw (given, w.out-is) w.write_under-answer.ensures
       | in_default w ↦
           let e = refusal_of c.read_into.result w.in_default.not-Ok in
           rw w.out-is
